@@ -1,0 +1,12 @@
+-- Laws that belong to no one function, in reading order.
+pub mod Tests
+pub mod Search
+pub mod Primes
+pub mod Residues
+pub mod Euclid
+pub mod Ends
+pub mod Inverses
+pub mod Service
+pub mod Group
+pub mod Powers
+pub mod Squaring

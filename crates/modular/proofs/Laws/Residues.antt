@@ -1,0 +1,49 @@
+-- Products modulo m: a factor may be reduced first, since what is left out is a multiple of m.
+use mathlib.Core.Path.{_≡_, refl, sym, _∙_, ap}
+use Prim.Native.Nat.{ℕ, zero, suc, _+_, _*_, _/_, _%_, _<_}
+use native.Mathlib.Nat.{add-mul-mod-self-right, le-of-lt, lt-of-le-of-lt, mod-add-div', mod-eq-of-lt, mul-assoc, mul-comm, mul-le-mul-left, mul-lt-mul-of-pos-right, mul-one, zero-mod, zero-mul}
+use native.Mathlib.Omega.{arith}
+use Rattle.modular.specs.Residues.{Residue, times, remainder}
+
+pub mul-mod-left : (a b m : ℕ) → (a % m * b) % m ≡ a * b % m
+mul-mod-left a b m =
+    let whole : a * b ≡ a % m * b + a / m * b * m = omega (arith, ap (λ (n : ℕ). n * b) (mod-add-div' a m)) in
+    sym (ap (λ (n : ℕ). n % m) whole ∙ add-mul-mod-self-right (a % m * b) (a / m * b) m)
+
+pub mul-mod-right : (a b m : ℕ) → (a * (b % m)) % m ≡ a * b % m
+mul-mod-right a b m =
+    ap (λ (n : ℕ). n % m) (mul-comm a (b % m)) ∙ mul-mod-left b a m ∙ ap (λ (n : ℕ). n % m) (mul-comm b a)
+
+-- the product of two numbers below n
+pub product-below : (n : ℕ) {x y : ℕ} → x < n → y < n → x * y < n * n
+product-below n {x} {y} hx hy = lt-of-le-of-lt (mul-le-mul-left x (le-of-lt hy)) (mul-lt-mul-of-pos-right hx (omega arith))
+
+pub remainder-zero : (n m : ℕ) → m ≡ 0 → remainder n m ≡ 0
+unfolding remainder
+remainder-zero n zero e = refl
+remainder-zero n (suc m) e = absurd (omega arith)
+
+pub remainder-is : (n m : ℕ) → 0 < m → remainder n m ≡ n % m
+unfolding remainder
+remainder-is n zero some = absurd (omega arith)
+remainder-is n (suc m) some = refl
+
+pub times-comm : (p x y : ℕ) → times p x y ≡ times p y x
+unfolding times
+times-comm p x y = ap (λ (n : ℕ). n % p) (mul-comm x y)
+
+pub times-assoc : (p x y z : ℕ) → times p (times p x y) z ≡ times p x (times p y z)
+unfolding times
+times-assoc p x y z =
+    mul-mod-left (x * y) z p ∙ ap (λ (n : ℕ). n % p) (mul-assoc x y z) ∙ sym (mul-mod-right x (y * z) p)
+
+pub times-one : (p x : ℕ) → Residue p x → times p x 1 ≡ x
+unfolding times
+times-one p x r = ap (λ (n : ℕ). n % p) (mul-one x) ∙ mod-eq-of-lt (r .high)
+
+pub one-times : (p x : ℕ) → Residue p x → times p 1 x ≡ x
+one-times p x r = times-comm p 1 x ∙ times-one p x r
+
+pub zero-times : (p x : ℕ) → times p 0 x ≡ 0
+unfolding times
+zero-times p x = ap (λ (n : ℕ). n % p) (zero-mul x) ∙ zero-mod p

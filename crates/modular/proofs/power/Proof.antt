@@ -1,0 +1,63 @@
+-- `power` meets its contract: the loop's invariant is what repeated squaring keeps, and the measure is what is left of the exponent.
+use mathlib.Core.Path.{sym}
+use mathlib.Core.Logic.{⊎-elim}
+use native.Mathlib.Omega.{arith}
+use borrow.Author.Needs.{needs}
+use Rattle.modular.proofs.Laws.Residues.{remainder-zero}
+use Rattle.modular.proofs.Laws.Squaring.{Squared, squared-start, squared-even, squared-odd, squared-end}
+use Rattle.modular.proofs.power.Statement.{statement}
+use Rattle.modular.proofs.power.Tie as tie
+
+abbrev Inv-loop : tie.InvT-loop
+Inv-loop base exponent m result₀ square₀ rest₀ result square rest = Squared base exponent m result square rest
+
+abbrev μ-loop : tie.MeasureT-loop
+μ-loop base exponent m result₀ square₀ rest₀ result square rest = rest
+
+returns : tie.Need-returns Inv-loop μ-loop
+returns c = sym (remainder-zero _ _ (c .if1 .taken))
+
+rem-result : tie.Need-rem-result Inv-loop μ-loop
+rem-result c = search needs
+
+rem-square : tie.Need-rem-square Inv-loop μ-loop
+rem-square c = search needs
+
+loop-holds : tie.Need-loop-holds Inv-loop μ-loop
+loop-holds c = squared-start _ _ _ (omega arith)
+
+product-requires : tie.Need-product-requires Inv-loop μ-loop
+product-requires c κs = search needs
+
+product-requires-2 : tie.Need-product-requires-2 Inv-loop μ-loop
+product-requires-2 c κs = search needs
+
+loop-less : tie.Need-loop-less Inv-loop μ-loop
+loop-less c = omega arith
+
+loop-again : tie.Need-loop-again Inv-loop μ-loop
+loop-again c =
+    let k = c .before .before .before .loop .inv in
+    ⊎-elim
+    (λ w. rw (w .2) (squared-odd k (c .product2 .ensures) (w .1 .ensures) (w .0 .taken)))
+    (λ w. rw (w .1) (squared-even k (c .product2 .ensures) (w .0 .left)))
+    (c .before .if2 .came)
+
+returns-2 : tie.Need-returns-2 Inv-loop μ-loop
+returns-2 c = squared-end (c .before .loop .inv) (omega arith)
+
+pub power-spec : {M : Type 1} → statement M
+power-spec =
+    tie.close
+    (tie.spec
+    Inv-loop
+    μ-loop
+    returns
+    rem-result
+    rem-square
+    loop-holds
+    product-requires
+    product-requires-2
+    loop-less
+    loop-again
+    returns-2)
