@@ -1,0 +1,9 @@
+-- Laws of the numbers and forms, in the order in which they build on each other.
+pub mod Fibonacci
+pub mod Hofstadter
+pub mod Forms
+pub mod Zeckendorf
+pub mod Places
+pub mod Height
+pub mod Taking
+pub mod Summing

@@ -1,0 +1,171 @@
+-- h is the least positive number that reaches r: the search finds the first, and r + 1 reaches r, since L_(r+1) exceeds r.
+use mathlib.Core.Path.{_≡_, refl, sym, ap, _∙_}
+use mathlib.Core.Bool.{Bool, true, false, not, true≢false}
+use Prim.Native.Nat.{ℕ, zero, suc, _+_, _*_, _-_, _%_, _≤_, _<_, _^_}
+use native.Mathlib.Nat.{le-refl, add-comm, add-zero, suc-add, add-suc}
+use native.Mathlib.Numerals.{one-add, add-one, sub-one}
+use native.Mathlib.Omega.{arith}
+use native.Mathlib.Decide.{decLe}
+use lib.Dec.{leb}
+use lib.ListN.{length}
+use borrow.Author.Tests.{leb-true, le-leb, lt-leb}
+use Rattle.fibonacci.specs.Fibonacci.{fib, lucas, odd}
+use Rattle.fibonacci.specs.Forms.{zeckendorf}
+use Rattle.fibonacci.specs.Height.{reaches, firstFrom, height}
+use Rattle.fibonacci.proofs.Laws.Fibonacci.{odd-one, odd-zero, lucas-next, lucas-exceeds, lucas-below-fib}
+use Rattle.fibonacci.proofs.Laws.Zeckendorf.{zeckendorf-length}
+
+-- ---- the test, as facts
+
+pub reaches-odd : (r h : ℕ) → odd h ≡ true → r ≤ lucas h → reaches r h ≡ true
+unfolding reaches
+reaches-odd r h o l = rw o (le-leb r (lucas h) l)
+
+pub reaches-even : (r h : ℕ) → odd h ≡ false → r < lucas h → reaches r h ≡ true
+unfolding reaches
+reaches-even r h o l = rw o (le-leb r (lucas h - 1) (omega arith))
+
+pub fails-odd : (r h : ℕ) → odd h ≡ true → lucas h < r → reaches r h ≡ false
+unfolding reaches
+fails-odd r h o l = rw o (lt-leb r (lucas h) l)
+
+pub fails-even : (r h : ℕ) → odd h ≡ false → 0 < lucas h → lucas h ≤ r → reaches r h ≡ false
+unfolding reaches
+fails-even r h o p l = rw o (lt-leb r (lucas h - 1) (omega arith))
+
+pub odd-reaches : (r h : ℕ) → odd h ≡ true → reaches r h ≡ true → r ≤ lucas h
+unfolding reaches
+odd-reaches r h o e = leb-true r (lucas h) (rw o at e)
+
+pub even-reaches : (r h : ℕ) → odd h ≡ false → 0 < lucas h → reaches r h ≡ true → r < lucas h
+unfolding reaches
+even-reaches r h o p e = omega (arith, leb-true r (lucas h - 1) (rw o at e))
+
+-- ---- the first that passes a test
+
+pub record First (f : ℕ → Bool) (i y : ℕ) : Type 0 where
+  pub from : i ≤ y
+  pub passes : f y ≡ true
+  pub none-before : (j : ℕ) → i ≤ j → j < y → f j ≡ false
+
+pub first-le : {f : ℕ → Bool} {i y j : ℕ} → First f i y → i ≤ j → f j ≡ true → y ≤ j
+first-le {y = y} {j = j} s l e = elim (decLe y j) [ yes k ↦ k | no k ↦ absurd (true≢false (sym e ∙ s .none-before j l (omega arith))) ]
+
+pub first-unique : {f : ℕ → Bool} {i y z : ℕ} → First f i y → First f i z → y ≡ z
+first-unique s t = omega (arith, first-le s (t .from) (t .passes), first-le t (s .from) (s .passes))
+
+first-here : {f : ℕ → Bool} {i : ℕ} → f i ≡ true → First f i i
+first-here {i = i} e = record { from = le-refl i; passes = e; none-before = λ j p q. absurd (omega arith) }
+
+first-later : {f : ℕ → Bool} {i y : ℕ} → f i ≡ false → First f (suc i) y → First f i y
+first-later {f} {i} {y} e s = record { from = omega (arith, s .from); passes = s .passes; none-before = λ j p q. go j p q (decLe (suc i) j) }
+  where
+    go : (j : ℕ) → i ≤ j → j < y → Dec (suc i ≤ j) → f j ≡ false
+    go j p q (yes k) = s .none-before j k q
+    go j p q (no k) = let x : j ≡ i = omega arith in rw x e
+
+first-from : (f : ℕ → Bool) (n i : ℕ) → f (i + n) ≡ true → First f i (firstFrom f n i)
+unfolding firstFrom
+first-from f zero i w = first-here (rw add-zero at w)
+first-from f (suc n) i w = go (f i) refl (first-from f n (suc i) (rw (suc-add, ← add-suc) w))
+  where
+    go : (t : Bool) → f i ≡ t → First f (suc i) (firstFrom f n (suc i)) → First f i (firstFrom f (suc n) i)
+    go true e s = rw (e, firstFrom) (first-here e)
+    go false e s = rw (e, firstFrom) (first-later e s)
+
+-- ---- h
+
+lucas-positive : (n : ℕ) → 0 < lucas n
+unfolding lucas
+lucas-positive zero = omega arith
+lucas-positive (suc n) = omega (arith, lucas-exceeds (suc n))
+
+by-parity : (r h : ℕ) → r < lucas h → reaches r h ≡ true
+by-parity r h l = go (odd h) refl
+  where
+    go : (t : Bool) → odd h ≡ t → reaches r h ≡ true
+    go true o = reaches-odd r h o (omega arith)
+    go false o = reaches-even r h o l
+
+pub height-least : (r : ℕ) → First (reaches r) 1 (height r)
+unfolding height
+height-least r = first-from (reaches r) r 1 (rw one-add (by-parity r (suc r) (omega (arith, lucas-exceeds (suc r)))))
+
+pub height-le : (r : ℕ) {j : ℕ} → 0 < j → reaches r j ≡ true → height r ≤ j
+height-le r p e = first-le (height-least r) p e
+
+-- what reaches r leaves room for the form of every number below r
+pub reaches-fib : (r h : ℕ) → 0 < h → reaches r h ≡ true → r ≤ fib (suc (suc h))
+reaches-fib r h p e = go (odd h) refl
+  where
+    go : (t : Bool) → odd h ≡ t → r ≤ fib (suc (suc h))
+    go true o = omega (arith, odd-reaches r h o e, lucas-below-fib h p)
+    go false o = omega (arith, even-reaches r h o (lucas-positive h) e, lucas-below-fib h p)
+
+pub zeckendorf-height : (r k : ℕ) → k < r → length (zeckendorf k) ≤ height r
+zeckendorf-height r k l =
+    let s : First (reaches r) 1 (height r) = height-least r in
+    zeckendorf-length (height r) k (omega (arith, reaches-fib r (height r) (s .from) (s .passes)))
+
+-- the moduli of format 1, and every 32-bit number
+pub height-28 : (r : ℕ) → r < 2 ^ 28 → height r ≤ 41
+unfolding reaches lucas
+height-28 r h = height-le r {j = 41} (omega arith) (le-leb r 370248451 (omega arith))
+
+pub height-32 : (r : ℕ) → r < 2 ^ 32 → height r ≤ 47
+unfolding reaches lucas
+height-32 r h = height-le r {j = 47} (omega arith) (le-leb r 6643838879 (omega arith))
+
+-- ---- going up to h, one number after another, by the test that the code makes
+
+pub climb-fails : (r h : ℕ) → lucas h + h % 2 ≤ r → reaches r h ≡ false
+climb-fails r h l = go (odd h) refl
+  where
+    go : (t : Bool) → odd h ≡ t → reaches r h ≡ false
+    go true o = fails-odd r h o (omega (arith, odd-one h o))
+    go false o = fails-even r h o (lucas-positive h) (omega arith)
+
+pub climb-reaches : (r h : ℕ) → r < lucas h + h % 2 → reaches r h ≡ true
+climb-reaches r h l = go (odd h) refl
+  where
+    go : (t : Bool) → odd h ≡ t → reaches r h ≡ true
+    go true o = reaches-odd r h o (omega (arith, odd-one h o))
+    go false o = reaches-even r h o (omega (arith, odd-zero h o))
+
+pub record Climbing (r before now h : ℕ) : Type 0 where
+  pub before-is : before ≡ lucas (h - 1)
+  pub now-is : now ≡ lucas h
+  pub from : 1 ≤ h
+  pub upto : h ≤ height r
+  pub before-small : before ≤ r + 2
+  pub now-small : now ≤ 2 * r + 2
+
+pub climbing-starts : (r : ℕ) → Climbing r 2 1 1
+unfolding lucas
+climbing-starts r = record { before-is = refl; now-is = refl; from = omega arith; upto = height-least r .from; before-small = omega arith; now-small = omega arith }
+
+pub climbing-goes-on : {r before now h : ℕ} → Climbing r before now h → now + h % 2 ≤ r → h < height r
+climbing-goes-on {r} {before} {now} {h} c l = elim (decLe (suc h) (height r)) [
+  | yes k ↦ k
+  | no k ↦
+      let e : height r ≡ h = omega (arith, c .upto) in
+      absurd (true≢false (sym (height-least r .passes) ∙ rw e (climb-fails r h (rw (c .now-is) at l))))
+]
+
+lucas-at : (h : ℕ) → 1 ≤ h → lucas (h + 1) ≡ lucas (h - 1) + lucas h
+lucas-at zero p = absurd (omega arith)
+lucas-at (suc h) p = rw (add-one, sub-one, lucas-next) (add-comm (lucas (suc h)) (lucas h))
+
+pub climbing-next : {r before now h : ℕ} → Climbing r before now h → now + h % 2 ≤ r → Climbing r now (before + now) (h + 1)
+climbing-next {r} {before} {now} {h} c l = record {
+  before-is = c .now-is ∙ ap lucas (omega arith);
+  now-is = rw (c .before-is, c .now-is) (sym (lucas-at h (c .from)));
+  from = omega arith;
+  upto = omega (arith, climbing-goes-on c l);
+  before-small = omega arith;
+  now-small = omega (arith, c .before-small);
+}
+
+pub climbing-ends : {r before now h : ℕ} → Climbing r before now h → r < now + h % 2 → h ≡ height r
+climbing-ends {r} {before} {now} {h} c l =
+    omega (arith, c .upto, height-le r (c .from) (climb-reaches r h (rw (c .now-is) at l)))

@@ -1,0 +1,6 @@
+-- Document 01, "Numbers the steps stand on", in its order.
+pub mod Fibonacci
+pub mod Forms
+pub mod Hofstadter
+pub mod Height
+pub mod Services

@@ -1,0 +1,55 @@
+-- The services on Fibonacci numbers and forms: what each call comes to.
+use mathlib.Core.Bool.{Bool, true, false, not, cond}
+use mathlib.Core.List.{List, [], _∷_, _++_}
+use Prim.Native.Nat.{ℕ, _-_, _^_}
+use lib.Dec.{leb, ltb}
+use lib.ListN.{length, replicate}
+use Rattle.refusal.specs.declared.Refusal.the-variants.{Room, Range, Index}
+use Rattle.refusal.specs.Outcomes.{Outcome, outcome, _given-if_, rowAfter}
+use Rattle.fibonacci.specs.Fibonacci.{fib}
+use Rattle.fibonacci.specs.Forms.{zeckendorf, places, weight, arePlaces}
+
+-- indices 0 to 93 fit 64 bits
+abbrev pub lastIndex : ℕ
+lastIndex = 93
+
+-- and so do the places 1 to 92
+abbrev pub lastPlace : ℕ
+lastPlace = 92
+
+-- F_i, and 0 where it does not fit
+unfoldable pub fibonacciOrZero : ℕ → ℕ
+fibonacciOrZero i = cond (leb i lastIndex) (fib i) 0
+
+-- a Fibonacci number by its index
+unfoldable pub fibonacciOutcome : ℕ → Outcome ℕ
+fibonacciOutcome i = outcome ((Index given-if ltb lastIndex i) ∷ []) (fib i)
+
+-- the list of a number: its places, highest first
+abbrev pub placesOf : ℕ → List ℕ
+placesOf n = places (zeckendorf n)
+
+-- the list in the row of 46 bytes that every 64-bit number's fits, zeros past it
+abbrev pub formRow : ℕ → List ℕ
+formRow n = placesOf n ++ replicate (46 - length (placesOf n)) 0
+
+-- number to list, into a row of `room` bytes: the count of places
+unfoldable pub placesOutcome : ℕ → ℕ → Outcome ℕ
+placesOutcome n room = outcome ((Room given-if ltb room (length (placesOf n))) ∷ []) (length (placesOf n))
+
+-- and the row at exit
+unfoldable pub placesRow : ℕ → List ℕ → List ℕ
+placesRow n row = rowAfter (placesOutcome n (length row)) (placesOf n) row
+
+-- the number that a list stands for, where it fits 64 bits
+unfoldable pub totalOutcome : List ℕ → Outcome ℕ
+totalOutcome l = outcome ((Range given-if leb (2 ^ 64) (weight l)) ∷ []) (weight l)
+
+-- list to number, of a Zeckendorf form of places 1 to 92
+unfoldable pub numberOutcome : List ℕ → Outcome ℕ
+numberOutcome l =
+    outcome
+    ((Index given-if not (arePlaces lastPlace l))
+    ∷ (Range given-if leb (2 ^ 64) (weight l))
+    ∷ [])
+    (weight l)

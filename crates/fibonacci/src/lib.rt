@@ -1,0 +1,120 @@
+// Document 01, "Numbers the steps stand on": Fibonacci numbers, Zeckendorf forms, Hofstadter's G and h.
+mod list;
+mod table;
+
+ghost use mathlib.Core.Path.{_≡_};
+ghost use lib.ListN.{length};
+ghost use Rattle.refusal.specs.Outcomes.{outcomeOf};
+ghost use Rattle.fibonacci.specs.Hofstadter.{G};
+ghost use Rattle.fibonacci.specs.Height.{height};
+ghost use Rattle.fibonacci.specs.Services.{fibonacciOrZero, fibonacciOutcome, placesOf, formRow, placesOutcome, placesRow, numberOutcome};
+use list::are_places;
+use list::total;
+use refusal::Answer;
+use refusal::Refusal;
+use table::fib_at;
+
+// The Zeckendorf form of a 64-bit number: its places, highest first, and their count; zeros past them.
+pub struct Form {
+    pub places: [u8; 46],
+    pub count: usize,
+}
+
+// A Fibonacci number by its index.
+pub fn fibonacci(index: u32) -> Answer
+    ensures { λ answer. ⌜ outcomeOf answer ≡ fibonacciOutcome index ⌝ }
+{
+    if 93 < index {
+        return Answer::Refused(Refusal::Index);
+    }
+    Answer::Value(fib_at(index as usize))
+}
+
+// F_index, and 0 where it does not fit.
+pub fn fibonacci_or_zero(index: u32) -> u64
+    ensures { λ r. ⌜ r ≡ fibonacciOrZero index ⌝ }
+{
+    if 93 < index {
+        return 0;
+    }
+    fib_at(index as usize)
+}
+
+// The Zeckendorf form of n: from place 92 down, each place taken whose weight is left.
+pub fn zeckendorf(n: u64) -> Form
+    ensures { λ f. ⌜ f .count ≡ length (placesOf n) ⌝ }
+    ensures { λ f. ⌜ f .places ≡ formRow n ⌝ }
+{
+    let mut places = [0u8; 46];
+    let mut count: usize = 0;
+    let mut rest = n;
+    let mut i: usize = 92;
+    while i > 0 {
+        let weight = fib_at(i + 1);
+        if weight <= rest {
+            places[count] = i as u8;
+            count += 1;
+            rest -= weight;
+        }
+        i -= 1;
+    }
+    Form { places, count }
+}
+
+// Number to list: the places of n, highest first, into the row; the bytes past them stay.
+pub fn places(n: u64, row: &mut [u8]) -> Answer
+    ensures { λ answer. ⌜ outcomeOf answer ≡ placesOutcome n (length (now (row .entry))) ⌝ }
+    ensures { λ _. ⌜ now (row .exit) ≡ placesRow n (now (row .entry)) ⌝ }
+{
+    let form = zeckendorf(n);
+    let list = form.places;
+    let count = form.count;
+    if row.len() < count {
+        return Answer::Refused(Refusal::Room);
+    }
+    bytes::copy(&list[..count], row);
+    Answer::Value(count as u64)
+}
+
+// List to number: the sum of the weights of its places.
+pub fn number(list: &[u8]) -> Answer
+    ensures { λ answer. ⌜ outcomeOf answer ≡ numberOutcome (now (list .entry)) ⌝ }
+{
+    if are_places(list) {
+        return total(list);
+    }
+    Answer::Refused(Refusal::Index)
+}
+
+// Hofstadter's G, by Lemma 3: each place of the form moved down by one, so that place i weighs F_i.
+pub fn hofstadter(n: u64) -> u64
+    ensures { λ r. ⌜ r ≡ G n ⌝ }
+{
+    let form = zeckendorf(n);
+    let places = form.places;
+    let count = form.count;
+    let mut sum: u64 = 0;
+    let mut i: usize = 0;
+    while i < count {
+        sum += fib_at(places[i] as usize);
+        i += 1;
+    }
+    sum
+}
+
+// Document 01's h: the least positive h with r < phi^h, found by going up the Lucas numbers.
+pub fn height(r: u32) -> u32
+    ensures { λ h. ⌜ h ≡ height r ⌝ }
+{
+    let wanted = r as u64;
+    let mut before: u64 = 2;
+    let mut lucas: u64 = 1;
+    let mut h: u32 = 1;
+    while lucas + (h % 2) as u64 <= wanted {
+        let next = before + lucas;
+        before = lucas;
+        lucas = next;
+        h += 1;
+    }
+    h
+}

@@ -1,0 +1,47 @@
+// A list of places, highest first: whether it is one of a Zeckendorf form, and the number that it stands for.
+ghost use mathlib.Core.Path.{_≡_};
+ghost use mathlib.Core.Bool.{true};
+ghost use Rattle.refusal.specs.Outcomes.{outcomeOf};
+ghost use Rattle.fibonacci.specs.Forms.{arePlaces};
+ghost use Rattle.fibonacci.specs.Services.{lastPlace, totalOutcome};
+use crate::table::fib_at;
+use refusal::Answer;
+use refusal::Refusal;
+
+// Whether the list is a Zeckendorf form of places 1 to 92.
+pub(crate) fn are_places(list: &[u8]) -> bool
+    ensures { λ r. ⌜ r ≡ arePlaces lastPlace (now (list .entry)) ⌝ }
+{
+    let mut above: u32 = 94;
+    let mut i: usize = 0;
+    while i < list.len() {
+        let place = list[i] as u32;
+        if place == 0 {
+            return false;
+        }
+        if above < place + 2 {
+            return false;
+        }
+        above = place;
+        i += 1;
+    }
+    true
+}
+
+// The sum of the places' weights, refused where it exceeds 64 bits.
+pub(crate) fn total(list: &[u8]) -> Answer
+    requires { ⌜ arePlaces lastPlace (now list) ≡ true ⌝ }
+    ensures { λ answer. ⌜ outcomeOf answer ≡ totalOutcome (now (list .entry)) ⌝ }
+{
+    let mut sum: u64 = 0;
+    let mut i: usize = 0;
+    while i < list.len() {
+        let weight = fib_at(list[i] as usize + 1);
+        if 0xFFFF_FFFF_FFFF_FFFF - sum < weight {
+            return Answer::Refused(Refusal::Range);
+        }
+        sum += weight;
+        i += 1;
+    }
+    Answer::Value(sum)
+}
