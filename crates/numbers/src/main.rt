@@ -91,6 +91,22 @@ const CALLS: [[u64; 4]; 69] = [
     [POWER, 0xFFFF_FFFF, 0xFFFF_FFFF, 0xFFFF_FFFB],
 ];
 
+// A row for each short list: how many places it has, the places, and zeros behind them.
+const LISTS: [[u8; 5]; 12] = [
+    [0, 0, 0, 0, 0],
+    [1, 1, 0, 0, 0],
+    [2, 9, 7, 0, 0],
+    [4, 10, 6, 3, 1],
+    [1, 92, 0, 0, 0],
+    [1, 0, 0, 0, 0],
+    [1, 93, 0, 0, 0],
+    [1, 255, 0, 0, 0],
+    [2, 9, 8, 0, 0],
+    [2, 9, 9, 0, 0],
+    [2, 7, 9, 0, 0],
+    [3, 3, 1, 0, 0],
+];
+
 fn main() {
     let mut i: usize = 0;
     while i < 69 {
@@ -142,18 +158,19 @@ fn call(service: u64, x: u64, y: u64, z: u64) {
 }
 
 fn lists() {
-    number(&[0u8; 0]);
-    number(&[1]);
-    number(&[9, 7]);
-    number(&[10, 6, 3, 1]);
-    number(&[92]);
-    number(&[0]);
-    number(&[93]);
-    number(&[255]);
-    number(&[9, 8]);
-    number(&[9, 9]);
-    number(&[7, 9]);
-    number(&[3, 1, 0]);
+    let mut i: usize = 0;
+    while i < 12 {
+        short_list(LISTS[i]);
+        i += 1;
+    }
+}
+
+fn short_list(row: [u8; 5]) {
+    let count = row[0] as usize;
+    let list = [row[1], row[2], row[3], row[4]];
+    if count <= 4 {
+        number(&list[..count]);
+    }
 }
 
 fn largest_lists() {
