@@ -1,0 +1,2 @@
+-- Laws of rows that a call writes.
+pub mod Rows
