@@ -5,5 +5,7 @@ pub mod Forms
 pub mod Zeckendorf
 pub mod Places
 pub mod Height
+pub mod Lengths
 pub mod Taking
+pub mod BitStrings
 pub mod Summing

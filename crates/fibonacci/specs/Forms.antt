@@ -65,6 +65,11 @@ placesFrom i (b ∷ bs) = placesFrom (suc i) bs ++ cond b (i ∷ []) []
 abbrev pub places : List Bool → List ℕ
 places bs = placesFrom 1 bs
 
+-- how many places are set
+unfoldable pub ones : List Bool → ℕ
+ones [] = 0
+ones (b ∷ bs) = cond b 1 0 + ones bs
+
 -- the sum of a list of places, of which place i weighs w i
 unfoldable pub weighed : (ℕ → ℕ) → List ℕ → ℕ
 weighed w [] = 0

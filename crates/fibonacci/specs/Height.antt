@@ -1,5 +1,5 @@
 -- h, the least positive number with r < phi^h, by document 01's test in whole numbers.
-use mathlib.Core.Bool.{Bool, true, false, cond}
+use mathlib.Core.Bool.{Bool, true, false, _&&_, cond}
 use Prim.Native.Nat.{ℕ, zero, suc, _-_}
 use lib.Dec.{leb}
 use Rattle.fibonacci.specs.Fibonacci.{lucas, odd}
@@ -16,3 +16,7 @@ firstFrom f (suc n) i = elim (f i) [ true ↦ i | false ↦ firstFrom f n (suc i
 -- document 01's h; r numbers are enough to find it (`height-least` of proofs/Laws/Height)
 unfoldable pub height : ℕ → ℕ
 height r = firstFrom (reaches r) r 1
+
+-- document 01's ℓ': the least odd number with r < phi^ℓ' (`odd-height-is` of proofs/Laws/Height: h or h + 1)
+unfoldable pub oddHeight : ℕ → ℕ
+oddHeight r = firstFrom (λ (l : ℕ). odd l && reaches r l) (suc r) 1

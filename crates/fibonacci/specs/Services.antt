@@ -1,13 +1,13 @@
 -- The services on Fibonacci numbers and forms: what each call comes to.
 use mathlib.Core.Bool.{Bool, true, false, not, cond}
-use mathlib.Core.List.{List, [], _∷_, _++_}
+use mathlib.Core.List.{List, [], _∷_, _++_, map}
 use Prim.Native.Nat.{ℕ, _-_, _^_}
 use lib.Dec.{leb, ltb}
 use lib.ListN.{length, replicate}
 use Rattle.refusal.specs.declared.Refusal.the-variants.{Room, Range, Index}
 use Rattle.refusal.specs.Outcomes.{Outcome, outcome, _given-if_, rowAfter}
 use Rattle.fibonacci.specs.Fibonacci.{fib}
-use Rattle.fibonacci.specs.Forms.{zeckendorf, places, weight, arePlaces}
+use Rattle.fibonacci.specs.Forms.{pad, zeckendorf, places, weight, arePlaces}
 
 -- indices 0 to 93 fit 64 bits
 abbrev pub lastIndex : ℕ
@@ -32,6 +32,15 @@ placesOf n = places (zeckendorf n)
 -- the list in the row of 46 bytes that every 64-bit number's fits, zeros past it
 abbrev pub formRow : ℕ → List ℕ
 formRow n = placesOf n ++ replicate (46 - length (placesOf n)) 0
+
+-- a bit as a number
+abbrev pub bit : Bool → ℕ
+bit true = 1
+bit false = 0
+
+-- the paper's bit string of a number in a row of 92, place 1 first, zeros past it
+abbrev pub bitRow : ℕ → List ℕ
+bitRow n = map bit (pad lastPlace (zeckendorf n))
 
 -- number to list, into a row of `room` bytes: the count of places
 unfoldable pub placesOutcome : ℕ → ℕ → Outcome ℕ

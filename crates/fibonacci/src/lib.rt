@@ -5,9 +5,10 @@ mod table;
 ghost use mathlib.Core.Path.{_≡_};
 ghost use lib.ListN.{length};
 ghost use Rattle.refusal.specs.Outcomes.{outcomeOf};
+ghost use Rattle.fibonacci.specs.Forms.{zeckendorf};
 ghost use Rattle.fibonacci.specs.Hofstadter.{G};
 ghost use Rattle.fibonacci.specs.Height.{height};
-ghost use Rattle.fibonacci.specs.Services.{fibonacciOrZero, fibonacciOutcome, placesOf, formRow, placesOutcome, placesRow, numberOutcome};
+ghost use Rattle.fibonacci.specs.Services.{fibonacciOrZero, fibonacciOutcome, placesOf, formRow, bitRow, placesOutcome, placesRow, numberOutcome};
 use list::are_places;
 use list::total;
 use refusal::Answer;
@@ -17,6 +18,13 @@ use table::fib_at;
 // The Zeckendorf form of a 64-bit number: its places, highest first, and their count; zeros past them.
 pub struct Form {
     pub places: [u8; 46],
+    pub count: usize,
+}
+
+// The same as the paper's bit string: bit i - 1 is place i; the length is the highest place, the count how many are set.
+pub struct BitString {
+    pub bits: [u8; 92],
+    pub length: usize,
     pub count: usize,
 }
 
@@ -59,6 +67,30 @@ pub fn zeckendorf(n: u64) -> Form
         i -= 1;
     }
     Form { places, count }
+}
+
+// The bit string of the Zeckendorf form of n, for the programs' loops over places.
+pub fn bit_string(n: u64) -> BitString
+    ensures { λ b. ⌜ b .length ≡ length (zeckendorf n) ⌝ }
+    ensures { λ b. ⌜ b .bits ≡ bitRow n ⌝ }
+    ensures { λ b. ⌜ b .count ≡ length (placesOf n) ⌝ }
+{
+    let form = zeckendorf(n);
+    let places = form.places;
+    let count = form.count;
+    let mut bits = [0u8; 92];
+    let mut length: usize = 0;
+    let mut i = count;
+    while i > 0 {
+        i -= 1;
+        length = places[i] as usize;
+        bits[length - 1] = 1;
+    }
+    BitString {
+        bits,
+        length,
+        count,
+    }
 }
 
 // Number to list: the places of n, highest first, into the row; the bytes past them stay.

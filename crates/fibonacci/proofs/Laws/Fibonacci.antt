@@ -1,5 +1,5 @@
 -- Laws of Fibonacci and Lucas numbers: the recurrence, Cassini's identity, growth. Each by induction in steps of one or two.
-use mathlib.Core.Path.{_≡_, refl, ap, _∙_}
+use mathlib.Core.Path.{_≡_, refl}
 use mathlib.Core.Bool.{true, false, not}
 use Prim.Native.Nat.{ℕ, zero, suc, _+_, _*_, _-_, _%_, _≤_, _<_, _^_}
 use native.Mathlib.Nat.{add-zero, zero-add, add-suc, suc-add, le-refl, le-trans, add-sub-of-le}
@@ -85,6 +85,11 @@ lucas-exceeds zero = omega arith
 lucas-exceeds (suc zero) = omega arith
 lucas-exceeds (suc (suc zero)) = omega arith
 lucas-exceeds (suc (suc (suc n))) = omega (arith, lucas-exceeds (suc (suc n)), lucas-exceeds (suc n))
+
+pub lucas-positive : (n : ℕ) → 0 < lucas n
+unfolding lucas
+lucas-positive zero = omega arith
+lucas-positive (suc n) = omega (arith, lucas-exceeds (suc n))
 
 -- L_h ≤ F_(h+2)
 pub lucas-below-fib : (h : ℕ) → 0 < h → lucas h ≤ fib (suc (suc h))

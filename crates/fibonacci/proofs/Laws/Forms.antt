@@ -7,11 +7,11 @@ use Prim.Native.Nat.{ℕ, zero, suc, _+_, _*_, _-_, _≤_, _<_}
 use native.Mathlib.Nat.{add-zero, zero-add, add-suc, suc-add, add-comm}
 use native.Mathlib.Numerals.{add-one}
 use native.Mathlib.Omega.{arith}
-use lib.ListN.{length, length-append}
+use lib.ListN.{length, getD, length-append}
 use Rattle.fibonacci.specs.Fibonacci.{fib}
-use Rattle.fibonacci.specs.Forms.{fibsumFrom, fibsum, Clear, Sparse, Topped, Zeckendorf, pad, topAt, placesFrom, places, weighed, weight}
+use Rattle.fibonacci.specs.Forms.{fibsumFrom, fibsum, Clear, Sparse, Topped, Zeckendorf, pad, topAt, placesFrom, places, ones, weighed, weight}
 use Rattle.fibonacci.specs.Hofstadter.{G}
-use Rattle.fibonacci.proofs.Laws.Fibonacci.{fib-zero, fib-one, fib-next, fib-positive}
+use Rattle.fibonacci.proofs.Laws.Fibonacci.{fib-zero, fib-one, fib-next}
 use Rattle.fibonacci.proofs.Laws.Hofstadter.{Pair, pair-at, pair-zero, pair-up, pair-up-one, pair-G}
 
 pub pad-length : (m : ℕ) (bs : List Bool) → length bs ≤ m → length (pad m bs) ≡ m
@@ -26,6 +26,20 @@ unfolding pad fibsumFrom
 pad-sum zero i bs = refl
 pad-sum (suc m) i [] = omega (arith, pad-sum m (suc i) [])
 pad-sum (suc m) i (b ∷ bs) = ap (λ (n : ℕ). cond b (fib (suc i)) 0 + n) (pad-sum m (suc i) bs)
+
+pub pad-at : (m i : ℕ) (bs : List Bool) → getD (pad m bs) i false ≡ getD bs i false
+unfolding pad
+pad-at zero i bs = refl
+pad-at (suc m) zero [] = refl
+pad-at (suc m) (suc i) [] = pad-at m i []
+pad-at (suc m) zero (b ∷ bs) = refl
+pad-at (suc m) (suc i) (b ∷ bs) = pad-at m i bs
+
+pub ones-pad : (m : ℕ) (bs : List Bool) → ones (pad m bs) ≡ ones bs
+unfolding pad ones
+ones-pad zero bs = refl
+ones-pad (suc m) [] = omega (arith, ones-pad m [])
+ones-pad (suc m) (b ∷ bs) = ap (λ (n : ℕ). cond b 1 0 + n) (ones-pad m bs)
 
 pub top-length : (m : ℕ) (bs : List Bool) → length bs ≤ m → length (topAt m bs) ≡ suc m
 top-length m bs h = length-append (pad m bs) (true ∷ []) ∙ omega (arith, pad-length m bs h)
@@ -120,6 +134,12 @@ weight-places bs = weighed-places-from (λ (i : ℕ). fib (suc i)) 0 1 (λ k. ap
 -- Lemma 3 for the list of places: place i weighs F_i
 pub G-places : (bs : List Bool) → weighed fib (places bs) ≡ G (fibsum bs)
 G-places bs = weighed-places-from fib 1 0 (λ k. ap fib (add-one k)) bs ∙ sym (G-form bs)
+
+pub ones-places : (i : ℕ) (bs : List Bool) → length (placesFrom i bs) ≡ ones bs
+unfolding placesFrom ones
+ones-places i [] = refl
+ones-places i (true ∷ bs) = rw length-append (omega (arith, ones-places (suc i) bs))
+ones-places i (false ∷ bs) = rw append-nil (omega (arith, ones-places (suc i) bs))
 
 -- at most every other place is set
 pub sparse-count : (i : ℕ) (bs : List Bool) → Sparse bs → 2 * length (placesFrom i bs) ≤ length bs + 1

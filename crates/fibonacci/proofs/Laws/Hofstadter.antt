@@ -1,6 +1,6 @@
 -- Hofstadter's G. With w = v + 1 and phi the golden ratio, u = G(v) is floor(w / phi), which two quadratic facts on whole
 -- numbers say (`Pair`). They determine u, are kept by document 01's recursion, and by the paper's Lemma 2.
-use mathlib.Core.Path.{_≡_, refl, sym, ap, _∙_, subst, subst₂}
+use mathlib.Core.Path.{_≡_, refl, sym, ap, _∙_, subst₂}
 use mathlib.Core.Bool.{true}
 use native.Mathlib.Numerals.{sub-one}
 use Prim.Native.Nat.{ℕ, zero, suc, _+_, _*_, _-_, _≤_, _<_}

@@ -6,20 +6,20 @@ use mathlib.Core.List.{List, [], _∷_}
 use Prim.Native.Nat.{ℕ, zero, suc, _+_, _-_, _≤_, _<_, _^_}
 use native.Mathlib.Numerals.{one-add, add-one}
 use native.Mathlib.Omega.{arith}
-use native.Mathlib.Decide.{decLe, decLt}
+use native.Mathlib.Decide.{decLt}
 use lib.Dec.{leb}
 use lib.ListN.{length, getD, drop, drop-of-length-le}
 use lib.Seq.{drop-cons}
 use borrow.Author.Tests.{leb-true, le-leb, lt-leb}
 use Rattle.fibonacci.specs.Fibonacci.{fib}
-use Rattle.fibonacci.specs.Forms.{fibsum, Zeckendorf, topAt, greedy, zeckendorf, placesFrom, places, weighed, weight, Places, arePlaces}
-use Rattle.fibonacci.proofs.Laws.Fibonacci.{fib-next, fib-grows, fib-positive, fib-monotone, fib-64}
+use Rattle.fibonacci.specs.Forms.{Zeckendorf, topAt, greedy, zeckendorf, placesFrom, places, weighed, weight, Places, arePlaces}
+use Rattle.fibonacci.proofs.Laws.Fibonacci.{fib-next, fib-grows, fib-positive, fib-monotone, fib-exceeds, fib-64}
 use Rattle.fibonacci.proofs.Laws.Forms.{top-length, top-places, top-zeckendorf, weight-places}
-use Rattle.fibonacci.proofs.Laws.Zeckendorf.{greedy-zero, greedy-take, greedy-skip, greedy-length, greedy-sum, zeckendorf-only, zeckendorf-by}
+use Rattle.fibonacci.proofs.Laws.Zeckendorf.{greedy-zero, greedy-take, greedy-skip, greedy-length, greedy-sum, zeckendorf-sum, zeckendorf-only, zeckendorf-by}
 
 -- ---- the test
 
-both : (a b : Bool) → a && b ≡ true → (a ≡ true) × (b ≡ true)
+pub both : (a b : Bool) → a && b ≡ true → (a ≡ true) × (b ≡ true)
 both true b e = (refl, e)
 both false b e = absurd (false≢true e)
 
@@ -55,11 +55,11 @@ pub are-places-end : (m : ℕ) (l : List ℕ) (k : ℕ) → length l ≤ k → a
 unfolding arePlaces
 are-places-end m l k h = rw (drop-of-length-le l h)
 
--- each place of the list is from 1 to m
-pub places-at : (m : ℕ) (l : List ℕ) (k : ℕ) → Places m l → k < length l → (1 ≤ getD l k 0) × (getD l k 0 ≤ m)
+-- each place of the list is from 1 to m, and what follows it lies below its neighbour
+pub places-at : (m : ℕ) (l : List ℕ) (k : ℕ) → Places m l → k < length l → Places m (getD l k 0 ∷ drop (suc k) l)
 places-at m [] k p h = absurd (omega arith)
-places-at m (i ∷ l) zero p h = (p .0, p .1)
-places-at m (i ∷ l) (suc k) p h = let r = places-at (i - 2) l k (p .2) (omega arith) in (r .0, omega arith)
+places-at m (i ∷ l) zero p h = p
+places-at m (i ∷ l) (suc k) p h = let r = places-at (i - 2) l k (p .2) (omega arith) in (r .0, omega arith, r .2)
 
 -- ---- from a number to its list
 
@@ -108,16 +108,16 @@ zeckendorf-places-64 n h = zeckendorf-places 92 n (fib-64 n h)
 -- ---- from a list to its number
 
 -- the form with these places
-formWith : List ℕ → List Bool
+unfoldable pub formWith : List ℕ → List Bool
 formWith [] = []
 formWith (i ∷ l) = topAt (i - 1) (formWith l)
 
-record FormWith (m : ℕ) (l : List ℕ) : Type 0 where
-  form : Zeckendorf (formWith l)
-  short : length (formWith l) ≤ m
-  same : places (formWith l) ≡ l
+pub record FormWith (m : ℕ) (l : List ℕ) : Type 0 where
+  pub form : Zeckendorf (formWith l)
+  pub short : length (formWith l) ≤ m
+  pub same : places (formWith l) ≡ l
 
-form-with : (m : ℕ) (l : List ℕ) → Places m l → FormWith m l
+pub form-with : (m : ℕ) (l : List ℕ) → Places m l → FormWith m l
 unfolding formWith placesFrom
 form-with m [] p = record { form = record { sparse = tt; topped = tt }; short = omega arith; same = refl }
 form-with m (i ∷ l) p =
@@ -128,9 +128,18 @@ form-with m (i ∷ l) p =
       same = top-places (i - 1) 1 (formWith l) (omega (arith, f .short)) ∙ rw (f .same) (ap (λ (n : ℕ). n ∷ l) (omega arith));
     }
 
--- the list of the number that a list stands for is the list itself
-pub places-zeckendorf : (m : ℕ) (l : List ℕ) → Places m l → places (zeckendorf (weight l)) ≡ l
-places-zeckendorf m l p =
+-- it is the form of the number that the list stands for
+form-weight : (m : ℕ) (l : List ℕ) → Places m l → formWith l ≡ zeckendorf (weight l)
+form-weight m l p =
     let f : FormWith m l = form-with m l p in
-    let e : fibsum (formWith l) ≡ weight l = sym (weight-places (formWith l)) ∙ ap weight (f .same) in
-    ap (λ (n : ℕ). places (zeckendorf n)) (sym e) ∙ ap places (sym (zeckendorf-only (formWith l) (f .form))) ∙ f .same
+    zeckendorf-only (formWith l) (f .form) ∙ ap zeckendorf (sym (weight-places (formWith l)) ∙ ap weight (f .same))
+
+-- the list of that number is the list itself
+pub places-zeckendorf : (m : ℕ) (l : List ℕ) → Places m l → places (zeckendorf (weight l)) ≡ l
+places-zeckendorf m l p = ap places (sym (form-weight m l p)) ∙ form-with m l p .same
+
+-- the form with the places of a number's form is that form
+pub form-zeckendorf : (n : ℕ) → formWith (places (zeckendorf n)) ≡ zeckendorf n
+form-zeckendorf n =
+    form-weight n (places (zeckendorf n)) (zeckendorf-places n n (fib-exceeds n))
+    ∙ ap zeckendorf (weight-places (zeckendorf n) ∙ zeckendorf-sum n)

@@ -1,6 +1,6 @@
 -- What a loop that weighs a list of places one after another keeps: the sum so far and the weight of what is left make the
 -- weight of the list.
-use mathlib.Core.Path.{_≡_, refl}
+use mathlib.Core.Path.{_≡_}
 use mathlib.Core.List.{List}
 use Prim.Native.Nat.{ℕ, _+_, _≤_, _<_}
 use native.Mathlib.Nat.{zero-add}

@@ -1,14 +1,14 @@
 -- What the loop that takes the places of the greedy form keeps: the places taken so far, followed by those of the rest from
 -- place i down, are the list of n. What stands past the places taken are zeros.
 use mathlib.Core.Path.{_≡_, refl, sym, ap, _∙_}
-use mathlib.Core.List.{List, [], _∷_, _++_, append-assoc, append-nil}
+use mathlib.Core.List.{List, _++_, append-assoc, append-nil}
 use Prim.Native.Nat.{ℕ, zero, suc, _+_, _-_, _≤_, _<_, _^_}
 use native.Mathlib.Numerals.{add-one, add-two, sub-one}
 use native.Mathlib.Omega.{arith}
-use lib.ListN.{length, take, drop, set, replicate, take-append-drop, length-append, length-take, length-set, length-replicate}
+use lib.ListN.{length, take, drop, set, replicate, take-append-drop, length-append, length-set, length-replicate}
 use lib.Seq.{take-suc-set, drop-set-lt, drop-drop, length-take-le}
 use Rattle.fibonacci.specs.Fibonacci.{fib}
-use Rattle.fibonacci.specs.Forms.{placesFrom, places, greedy, zeckendorf}
+use Rattle.fibonacci.specs.Forms.{placesFrom, places, greedy}
 use Rattle.fibonacci.specs.Services.{placesOf, formRow}
 use Rattle.fibonacci.proofs.Laws.Fibonacci.{fib-next, fib-positive, fib-64}
 use Rattle.fibonacci.proofs.Laws.Zeckendorf.{greedy-zero, greedy-skip, zeckendorf-by, zeckendorf-count-64}

@@ -2,17 +2,16 @@
 -- the weight of the place below. Two forms of one sum agree place by place from the lowest: where one has place 1 set and
 -- the other not, their values of G differ.
 use mathlib.Core.Path.{_≡_, refl, sym, ap, _∙_}
-use mathlib.Core.Bool.{Bool, true, false, cond}
-use mathlib.Core.List.{List, [], _∷_, _++_}
-use Prim.Native.Nat.{ℕ, zero, suc, _+_, _*_, _-_, _≤_, _<_, _^_}
-use native.Mathlib.Nat.{zero-add}
+use mathlib.Core.Bool.{Bool, true, false}
+use mathlib.Core.List.{List, [], _∷_}
+use Prim.Native.Nat.{ℕ, zero, suc, _-_, _≤_, _<_, _^_}
 use native.Mathlib.Numerals.{one-add}
 use native.Mathlib.Omega.{arith}
 use native.Mathlib.Decide.{decLt}
 use lib.ListN.{length}
 use borrow.Author.Tests.{le-leb, lt-leb}
 use Rattle.fibonacci.specs.Fibonacci.{fib}
-use Rattle.fibonacci.specs.Forms.{fibsumFrom, fibsum, Clear, Sparse, Topped, Zeckendorf, topAt, greedy, zeckendorf, placesFrom, places}
+use Rattle.fibonacci.specs.Forms.{fibsumFrom, fibsum, Clear, Topped, Zeckendorf, topAt, greedy, zeckendorf, places}
 use Rattle.fibonacci.specs.Hofstadter.{G}
 use Rattle.fibonacci.proofs.Laws.Fibonacci.{fib-zero, fib-one, fib-next, fib-grows, fib-positive, fib-exceeds, fib-64}
 use Rattle.fibonacci.proofs.Laws.Hofstadter.{G-zero, G-one}

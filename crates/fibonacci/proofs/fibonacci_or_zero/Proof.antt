@@ -1,5 +1,4 @@
 -- `fibonacci_or_zero` meets its contract: the test of the code is that of the definition.
-use mathlib.Core.Path.{_∙_, sym}
 use borrow.Author.Needs.{needs}
 use borrow.Author.Tests.{le-leb, lt-leb}
 use Rattle.fibonacci.specs.Services.{fibonacciOrZero}

@@ -1,5 +1,5 @@
 -- `number` meets its contract: the list is tested whole before it is summed, so 13 comes before 12.
-use mathlib.Core.Path.{_≡_, sym, ap, _∙_}
+use mathlib.Core.Path.{sym, ap, _∙_}
 use mathlib.Core.Bool.{not}
 use mathlib.Core.List.{[], _∷_}
 use Prim.Native.Nat.{_^_}
