@@ -1,0 +1,148 @@
+-- Reading a tape by cases: its rules one after another, and the outcome by the length and the layout. Each law rewrites the
+-- tests that are known.
+use mathlib.Core.Path.{_≡_, ap, _∙_}
+use mathlib.Core.Bool.{true, false, not, and-false}
+use mathlib.Core.List.{List, _∷_}
+use Prim.Native.Nat.{ℕ, _≤_, _<_}
+use native.Mathlib.Omega.{arith}
+use lib.Dec.{eqb, leb}
+use lib.ListN.{length}
+use borrow.Author.Tests.{eq-eqb, ne-eqb, le-leb, lt-leb}
+use Rattle.refusal.specs.declared.Refusal.the-variants.{Length, Word}
+use Rattle.refusal.specs.Refusals.{numberOf}
+use Rattle.refusal.specs.Outcomes.{Rule, refused, answered, outcome, _given-if_, gives, passes, answers}
+use Rattle.tape.specs.declared.Decoded.{Decoded}
+use Rattle.tape.specs.declared.Header.{Header}
+use Rattle.tape.specs.Words.{decoded}
+use Rattle.tape.specs.Layout.{otherWords, stepCount, stepWords, endAt, sortOf, valueOf, meansAt, headerOf, isLength, isHeader, isFreeOrNamed, allSteps, isEnd, laidOut, readOutcome}
+use Rattle.tape.proofs.Laws.Tests.{by-test}
+
+-- ---- the rules
+
+pub length-short : (n : ℕ) → n < otherWords → isLength n ≡ false
+unfolding isLength
+length-short n h = rw (lt-leb otherWords n h)
+
+pub length-long : (n : ℕ) → 512 < n → isLength n ≡ false
+unfolding isLength
+length-long n h = rw (lt-leb n 512 h, and-false (leb otherWords n))
+
+pub length-good : (n : ℕ) → otherWords ≤ n → n ≤ 512 → isLength n ≡ true
+unfolding isLength
+length-good n h k = rw (le-leb otherWords n h, le-leb n 512 k)
+
+module _ (tape : List ℕ) where
+  pub header-not-1 : (sortOf (meansAt tape 0) ≡ 1 → ⊥) → isHeader tape ≡ false
+  unfolding isHeader
+  header-not-1 other = rw (ne-eqb (sortOf (meansAt tape 0)) 1 other)
+
+  module _ (first : sortOf (meansAt tape 0) ≡ 1) where
+    pub header-not-2 : (sortOf (meansAt tape 1) ≡ 2 → ⊥) → isHeader tape ≡ false
+    unfolding isHeader
+    header-not-2 other = rw (eq-eqb (sortOf (meansAt tape 0)) 1 first, ne-eqb (sortOf (meansAt tape 1)) 2 other)
+
+    module _ (second : sortOf (meansAt tape 1) ≡ 2) where
+      pub header-not-3 : (sortOf (meansAt tape 2) ≡ 3 → ⊥) → isHeader tape ≡ false
+      unfolding isHeader
+      header-not-3 other =
+          rw (eq-eqb (sortOf (meansAt tape 0)) 1 first, eq-eqb (sortOf (meansAt tape 1)) 2 second, ne-eqb (sortOf (meansAt tape 2)) 3 other)
+
+      pub header-last : sortOf (meansAt tape 2) ≡ 3 → isHeader tape ≡ eqb (sortOf (meansAt tape 3)) 4
+      unfolding isHeader
+      header-last third =
+          rw (eq-eqb (sortOf (meansAt tape 0)) 1 first, eq-eqb (sortOf (meansAt tape 1)) 2 second, eq-eqb (sortOf (meansAt tape 2)) 3 third)
+
+module _ (h : Header) where
+  pub header-named : (h .variant ≡ 0 → ⊥) → isFreeOrNamed h ≡ true
+  unfolding isFreeOrNamed
+  header-named named = rw (ne-eqb (h .variant) 0 named)
+
+  module _ (free : h .variant ≡ 0) where
+    pub free-order : (h .order ≡ 0 → ⊥) → isFreeOrNamed h ≡ false
+    unfolding isFreeOrNamed
+    free-order some = rw (eq-eqb (h .variant) 0 free, ne-eqb (h .order) 0 some)
+
+    pub free-exponent : h .order ≡ 0 → isFreeOrNamed h ≡ eqb (h .exponent) 0
+    unfolding isFreeOrNamed
+    free-exponent none = rw (eq-eqb (h .variant) 0 free, eq-eqb (h .order) 0 none)
+
+module _ (count : ℕ) (d : Decoded) where
+  pub end-sort : (sortOf d ≡ 15 → ⊥) → isEnd count d ≡ false
+  unfolding isEnd
+  end-sort other = rw (ne-eqb (sortOf d) 15 other)
+
+  pub end-count : sortOf d ≡ 15 → isEnd count d ≡ eqb (valueOf d) count
+  unfolding isEnd
+  end-count end = rw (eq-eqb (sortOf d) 15 end)
+
+-- ---- the layout
+
+module _ (tape : List ℕ) where
+  pub laid-not-header : isHeader tape ≡ false → laidOut tape ≡ false
+  unfolding laidOut
+  laid-not-header e = rw e
+
+  module _ (header : isHeader tape ≡ true) where
+    pub laid-not-free : isFreeOrNamed (headerOf tape) ≡ false → laidOut tape ≡ false
+    unfolding laidOut
+    laid-not-free e = rw (header, e)
+
+    module _ (free : isFreeOrNamed (headerOf tape) ≡ true) where
+      pub laid-not-steps : allSteps (stepWords tape 0 (stepCount tape)) ≡ false → laidOut tape ≡ false
+      unfolding laidOut
+      laid-not-steps e = rw (header, free, e)
+
+      pub laid-end : allSteps (stepWords tape 0 (stepCount tape)) ≡ true → laidOut tape ≡ isEnd (stepCount tape) (decoded (endAt tape))
+      unfolding laidOut
+      laid-end steps = rw (header, free, steps)
+
+-- ---- the outcome
+
+module _ (tape : List ℕ) where
+  pub read-length : isLength (length tape) ≡ false → readOutcome tape ≡ refused (numberOf Length)
+  unfolding readOutcome
+  read-length e = gives _ _ _ (ap not e)
+
+  module _ (long : isLength (length tape) ≡ true) where
+    pub read-word : laidOut tape ≡ false → readOutcome tape ≡ refused (numberOf Word)
+    unfolding readOutcome
+    read-word e = passes _ _ _ (ap not long) ∙ gives _ _ _ (ap not e)
+
+    pub read-laid : laidOut tape ≡ true → readOutcome tape ≡ answered (headerOf tape)
+    unfolding readOutcome
+    read-laid e = passes _ _ _ (ap not long) ∙ passes _ _ _ (ap not e) ∙ answers _
+
+-- ---- what the outcome says of the tape
+
+pub record ReadAs (tape : List ℕ) (h : Header) : Type 0 where
+  pub long : isLength (length tape) ≡ true
+  pub laid : laidOut tape ≡ true
+  pub header : h ≡ headerOf tape
+
+module _ (tape : List ℕ) where
+  pub read-answered : (h : Header) → readOutcome tape ≡ answered h → ReadAs tape h
+  read-answered h e =
+      by-test (isLength (length tape))
+      (λ long.
+      by-test (laidOut tape)
+      (λ laid. let read = read-laid tape long laid in record { long = long; laid = laid; header = cc })
+      (λ not-laid. let read = read-word tape long not-laid in let z : _≡_ {A = ℕ} 0 1 = cc in absurd (omega arith)))
+      (λ short. let read = read-length tape short in let z : _≡_ {A = ℕ} 0 1 = cc in absurd (omega arith))
+
+  -- a service that reads the tape before its other rules: a refusal stands, and an answer leaves the other rules
+  module _ {A : Type 0} (rules : List Rule) (x : A) where
+    pub reading-refused : (n : ℕ) → readOutcome tape ≡ refused n
+        → outcome ((Length given-if not (isLength (length tape))) ∷ (Word given-if not (laidOut tape)) ∷ rules) x ≡ refused n
+    reading-refused n e =
+        by-test (isLength (length tape))
+        (λ long.
+        by-test (laidOut tape)
+        (λ laid. let read = read-laid tape long laid in let z : _≡_ {A = ℕ} 0 1 = cc in absurd (omega arith))
+        (λ not-laid.
+        let read = read-word tape long not-laid in
+        passes _ _ _ (ap not long) ∙ gives _ _ _ (ap not not-laid) ∙ cc))
+        (λ short. let read = read-length tape short in gives _ _ _ (ap not short) ∙ cc)
+
+    pub reading-passed : (h : Header) → ReadAs tape h
+        → outcome ((Length given-if not (isLength (length tape))) ∷ (Word given-if not (laidOut tape)) ∷ rules) x ≡ outcome rules x
+    reading-passed h read = passes _ _ _ (ap not (read .long)) ∙ passes _ _ _ (ap not (read .laid))

@@ -1,0 +1,54 @@
+-- `layout::is_end` meets its contract: the word past the steps is tested for its sort, then for its count.
+use mathlib.Core.Path.{_≡_, sym, ap, ap₂, _∙_}
+use Prim.Native.Nat.{ℕ}
+use lib.Dec.{eqb}
+use borrow.Author.Needs.{needs}
+use Rattle.tape.specs.Words.{decoded}
+use Rattle.tape.specs.Layout.{stepCount, stepAt, endAt, sortOf, valueOf}
+use Rattle.tape.proofs.Laws.Reading.{end-sort, end-count}
+use Rattle.tape.proofs.layout.is_end.Statement.{statement}
+use Rattle.tape.proofs.layout.is_end.Tie as tie
+
+-- the word that is read is the one past the steps
+end : (c : tie.After-step-at) → c .step-at .result ≡ decoded (endAt (c .before .before .before .args .tape .now))
+end c = c .step-at .ensures ∙ ap (λ (n : ℕ). decoded (stepAt (c .before .before .before .args .tape .now) n)) (c .before .step-count .ensures)
+
+sort : (c : tie.After-sort-of) → c .sort-of .result ≡ sortOf (decoded (endAt (c .before .before .before .before .args .tape .now)))
+sort c = c .sort-of .ensures ∙ ap sortOf (end (c .before))
+
+step-count-requires : tie.Need-step-count-requires
+step-count-requires c κs = search needs
+
+step-at-requires : tie.Need-step-at-requires
+step-at-requires c κs = search needs
+
+sort-of-requires : tie.Need-sort-of-requires
+sort-of-requires c κs = search needs
+
+returns : tie.Need-returns
+returns c = sym (end-sort _ _ (λ e. c .if1 .taken (sort (c .before) ∙ e)))
+
+value-of-requires : tie.Need-value-of-requires
+value-of-requires c κs = search needs
+
+cast-result : tie.Need-cast-result
+cast-result c = search needs
+
+returns-2 : tie.Need-returns-2
+returns-2 c =
+    let at = c .before .before .before in
+    let tape = at .before .before .before .args .tape .now in
+    ap₂ eqb (c .value-of .ensures ∙ ap valueOf (end at)) (at .before .step-count .ensures)
+    ∙ sym (end-count (stepCount tape) (decoded (endAt tape)) (sym (sort (c .before .before)) ∙ c .before .if1 .left))
+
+pub is-end-spec : {M : Type 1} → statement M
+is-end-spec =
+    tie.close
+    (tie.spec
+    step-count-requires
+    step-at-requires
+    sort-of-requires
+    returns
+    value-of-requires
+    cast-result
+    returns-2)

@@ -1,0 +1,181 @@
+// Document 01, "Tape words": what a word means, and the layout of a tape.
+mod layout;
+
+ghost use mathlib.Core.Path.{_≡_};
+ghost use Rattle.tape.specs.Words.{decoded, headingIn, actionIn, swapIn};
+ghost use Rattle.tape.specs.Layout.{readOutcome, readingOf, stepAt};
+use layout::HEADER_WORDS;
+use layout::MOST_WORDS;
+use layout::OTHER_WORDS;
+use layout::are_steps;
+use layout::header;
+use layout::is_end;
+use layout::is_free_or_named;
+use layout::is_header;
+use layout::means_at;
+use refusal::Refusal;
+
+// A step with its target and its source register.
+pub enum Step {
+    Mul(u32, u32),
+    Div(u32, u32),
+    Swp(u32, u32),
+}
+
+// What a word means: the heading with its variant, p, r, k, a step, the end with the count of steps, or nothing.
+pub enum Decoded {
+    Heading(u32),
+    P(u32),
+    R(u32),
+    K(u32),
+    Action(Step),
+    End(u32),
+    Bad,
+}
+
+// What a tape gives beside its steps: its variant, p, r, k and how many steps it has.
+pub struct Header {
+    pub variant: u32,
+    pub modulus: u32,
+    pub order: u32,
+    pub exponent: u32,
+    pub steps: u32,
+}
+
+// The answer to reading a tape.
+pub enum Reading {
+    Laid(Header),
+    Refused(Refusal),
+}
+
+// Payloads are below this.
+const PAYLOAD: u32 = 0x1000_0000;
+
+// The format that a heading names.
+const FORMAT: u32 = 1;
+
+// Formats are below this; the variant stands above them.
+const FORMATS: u32 = 0x100;
+
+// Headings' payloads are below this.
+const HEADINGS: u32 = 0x1000;
+
+// Registers are below this; a step's source stands above its target.
+const REGISTERS: u32 = 4;
+
+// Steps' payloads are below this.
+const REGISTER_PAIRS: u32 = 16;
+
+// What a word means, by its kind.
+pub fn decode(word: u32) -> Decoded
+    ensures { λ d. ⌜ d ≡ decoded word ⌝ }
+{
+    let kind = word / PAYLOAD;
+    let payload = word % PAYLOAD;
+    match kind {
+        1 => heading(payload),
+        2 => Decoded::P(payload),
+        3 => Decoded::R(payload),
+        4 => Decoded::K(payload),
+        5 => multiplication(payload),
+        6 => division(payload),
+        7 => swap(payload),
+        15 => Decoded::End(payload),
+        0 | 8..=14 => Decoded::Bad,
+        _ => Decoded::Bad,
+    }
+}
+
+// What the word of the step numbered position + 1 means; past the tape, nothing.
+pub fn step_at(tape: &[u32], position: usize) -> Decoded
+    ensures { λ d. ⌜ d ≡ decoded (stepAt (now (tape .entry)) position) ⌝ }
+{
+    if tape.len() <= position {
+        return Decoded::Bad;
+    }
+    means_at(tape, HEADER_WORDS + position)
+}
+
+// Reads a tape's header and tests its layout: 6, 7.
+pub fn read(tape: &[u32]) -> Reading
+    ensures { λ r. ⌜ readingOf r ≡ readOutcome (now (tape .entry)) ⌝ }
+{
+    if tape.len() < OTHER_WORDS {
+        return Reading::Refused(Refusal::Length);
+    }
+    if MOST_WORDS < tape.len() {
+        return Reading::Refused(Refusal::Length);
+    }
+    if !is_header(tape) {
+        return Reading::Refused(Refusal::Word);
+    }
+    let header = header(tape);
+    if !is_free_or_named(header) {
+        return Reading::Refused(Refusal::Word);
+    }
+    if !are_steps(tape) {
+        return Reading::Refused(Refusal::Word);
+    }
+    if !is_end(tape) {
+        return Reading::Refused(Refusal::Word);
+    }
+    Reading::Laid(header)
+}
+
+// Kind 1: the heading of a tape of this format.
+fn heading(payload: u32) -> Decoded
+    ensures { λ d. ⌜ d ≡ headingIn payload ⌝ }
+{
+    if payload % FORMATS != FORMAT {
+        return Decoded::Bad;
+    }
+    if HEADINGS <= payload {
+        return Decoded::Bad;
+    }
+    Decoded::Heading(payload / FORMATS)
+}
+
+// Kind 5.
+fn multiplication(payload: u32) -> Decoded
+    ensures { λ d. ⌜ d ≡ actionIn Step.Mul payload ⌝ }
+{
+    if REGISTER_PAIRS <= payload {
+        return Decoded::Bad;
+    }
+    let target = payload % REGISTERS;
+    let source = payload / REGISTERS;
+    if target == source {
+        return Decoded::Bad;
+    }
+    Decoded::Action(Step::Mul(target, source))
+}
+
+// Kind 6.
+fn division(payload: u32) -> Decoded
+    ensures { λ d. ⌜ d ≡ actionIn Step.Div payload ⌝ }
+{
+    if REGISTER_PAIRS <= payload {
+        return Decoded::Bad;
+    }
+    let target = payload % REGISTERS;
+    let source = payload / REGISTERS;
+    if target == source {
+        return Decoded::Bad;
+    }
+    Decoded::Action(Step::Div(target, source))
+}
+
+// Kind 7, whose target is the smaller register.
+fn swap(payload: u32) -> Decoded
+    ensures { λ d. ⌜ d ≡ swapIn payload ⌝ }
+{
+    if REGISTER_PAIRS <= payload {
+        return Decoded::Bad;
+    }
+    let target = payload % REGISTERS;
+    let source = payload / REGISTERS;
+    if source <= target {
+        return Decoded::Bad;
+    }
+    Decoded::Action(Step::Swp(target, source))
+}
