@@ -1,0 +1,3 @@
+-- Laws of steps and of going from one position to another.
+pub mod Steps
+pub mod Runs

@@ -1,0 +1,185 @@
+-- On residues modulo a prime a step and its opposite undo each other, and residues stay residues: the residues are a group under
+-- the product.
+use mathlib.Core.Path.{_≡_, refl, sym, _∙_, ap, ap₂}
+use mathlib.Core.Logic.{_≢_}
+use mathlib.Core.List.{List, [], _∷_, _++_, append-nil, append-assoc}
+use Prim.Native.Nat.{ℕ, zero, suc, _<_}
+use native.Mathlib.Omega.{arith}
+use native.Mathlib.Decide.{ℕ-discrete}
+use lib.ListN.{length, set, length-set}
+use lib.Seq.{set-set, set-comm, set-getD, getD-set-same, getD-set-other}
+use Rattle.modular.specs.Primes.{Prime}
+use Rattle.modular.specs.Residues.{Residue}
+use Rattle.modular.proofs.Laws.Group.{residue-one, residue-times, residue-inverse, mul-div, div-mul}
+use Rattle.tape.specs.declared.Step.{Step}
+use Rattle.tape.specs.declared.Step.the-variants.{Mul, Div, Swp}
+use Rattle.tape.specs.Steps.{Apart, Sound, AllSound}
+use Rattle.machine.specs.Machine.{reg, apply, opposite, doAll, undoAll, back, Good, start}
+
+-- ---- steps and their opposites
+
+pub opposite-opposite : (x : Step) → opposite (opposite x) ≡ x
+unfolding opposite
+opposite-opposite (Mul t s) = refl
+opposite-opposite (Div t s) = refl
+opposite-opposite (Swp t s) = refl
+
+pub sound-opposite : (x : Step) → Sound x → Sound (opposite x)
+unfolding opposite
+sound-opposite (Mul t s) a = a
+sound-opposite (Div t s) a = a
+sound-opposite (Swp t s) a = a
+
+pub sound-append : (xs ys : List Step) → AllSound xs → AllSound ys → AllSound (xs ++ ys)
+sound-append [] ys a b = b
+sound-append (x ∷ xs) ys a b = (a .0, sound-append xs ys (a .1) b)
+
+pub sound-append-left : (xs ys : List Step) → AllSound (xs ++ ys) → AllSound xs
+sound-append-left [] ys a = tt
+sound-append-left (x ∷ xs) ys a = (a .0, sound-append-left xs ys (a .1))
+
+pub sound-append-right : (xs ys : List Step) → AllSound (xs ++ ys) → AllSound ys
+sound-append-right [] ys a = a
+sound-append-right (x ∷ xs) ys a = sound-append-right xs ys (a .1)
+
+-- ---- a list taken back
+
+pub sound-back : (xs : List Step) → AllSound xs → AllSound (back xs)
+unfolding back
+sound-back [] a = tt
+sound-back (x ∷ xs) a = sound-append (back xs) (opposite x ∷ []) (sound-back xs (a .1)) (sound-opposite x (a .0), tt)
+
+pub back-append : (xs ys : List Step) → back (xs ++ ys) ≡ back ys ++ back xs
+unfolding back
+back-append [] ys = sym (append-nil (back ys))
+back-append (x ∷ xs) ys =
+    ap (λ (l : List Step). l ++ opposite x ∷ []) (back-append xs ys) ∙ append-assoc (back ys) (back xs) (opposite x ∷ [])
+
+pub back-back : (xs : List Step) → back (back xs) ≡ xs
+unfolding back
+back-back [] = refl
+back-back (x ∷ xs) =
+    back-append (back xs) (opposite x ∷ []) ∙ ap₂ (λ (y : Step) (l : List Step). y ∷ l) (opposite-opposite x) (back-back xs)
+
+-- ---- lists of steps in two parts
+
+pub doAll-append : (p : ℕ) (xs ys : List Step) (v : List ℕ) → doAll p (xs ++ ys) v ≡ doAll p ys (doAll p xs v)
+unfolding doAll
+doAll-append p [] ys v = refl
+doAll-append p (x ∷ xs) ys v = doAll-append p xs ys (apply p x v)
+
+pub undoAll-append : (p : ℕ) (xs ys : List Step) (v : List ℕ) → undoAll p (xs ++ ys) v ≡ undoAll p xs (undoAll p ys v)
+unfolding undoAll
+undoAll-append p [] ys v = refl
+undoAll-append p (x ∷ xs) ys v = ap (apply p (opposite x)) (undoAll-append p xs ys v)
+
+-- a list taken back does what undoing it does
+pub do-back : (p : ℕ) (xs : List Step) (v : List ℕ) → doAll p (back xs) v ≡ undoAll p xs v
+unfolding doAll undoAll back
+do-back p [] v = refl
+do-back p (x ∷ xs) v = doAll-append p (back xs) (opposite x ∷ []) v ∙ ap (apply p (opposite x)) (do-back p xs v)
+
+-- ---- two registers exchanged twice
+
+swap-twice : (v : List ℕ) (t s a b : ℕ) → t ≢ s → reg v t ≡ a → reg v s ≡ b → set (set (set (set v t b) s a) t a) s b ≡ v
+swap-twice v t s a b ne ea eb =
+    ap (λ (l : List ℕ). set (set l t a) s b) (set-comm v t s b a ne)
+    ∙ ap (λ (l : List ℕ). set l s b) (set-set (set v s a) t b a)
+    ∙ ap (λ (l : List ℕ). set l s b) (sym (set-comm v t s a a ne))
+    ∙ set-set (set v t a) s a b
+    ∙ ap (λ (n : ℕ). set (set v t n) s b) (sym ea)
+    ∙ ap (λ (l : List ℕ). set l s b) (set-getD v t 0)
+    ∙ ap (λ (n : ℕ). set v s n) (sym eb)
+    ∙ set-getD v s 0
+
+module _ (p : ℕ) (pr : Prime p) where
+  -- ---- residues stay residues
+
+  good-set : (v : List ℕ) (t n : ℕ) → Good p v → Residue p n → Good p (set v t n)
+  good-set v t n g r = record { four = length-set v t n ∙ g .four; residue = λ i h. go i h (ℕ-discrete i t) }
+    where
+      go : (i : ℕ) → i < 4 → Dec (i ≡ t) → Residue p (reg (set v t n) i)
+      go i h (yes e) = let k : i < length v = rw (g .four) h in rw (← e, getD-set-same v i n 0 k) r
+      go i h (no ne) = rw (getD-set-other v t i n 0 ne) (g .residue i h)
+
+  pub good-apply : (x : Step) (v : List ℕ) → Sound x → Good p v → Good p (apply p x v)
+  unfolding apply
+  good-apply (Mul t s) v a g =
+      good-set v t _ g (residue-times p pr _ _ (g .residue t (a .target-is-one)) (g .residue s (a .source-is-one)))
+  good-apply (Div t s) v a g =
+      good-set v t _ g (residue-times p pr _ _ (g .residue t (a .target-is-one)) (residue-inverse p pr _ (g .residue s (a .source-is-one))))
+  good-apply (Swp t s) v a g =
+      good-set (set v t (reg v s)) s _ (good-set v t _ g (g .residue s (a .0 .source-is-one))) (g .residue t (a .0 .target-is-one))
+
+  pub good-doAll : (xs : List Step) (v : List ℕ) → AllSound xs → Good p v → Good p (doAll p xs v)
+  unfolding doAll
+  good-doAll [] v a g = g
+  good-doAll (x ∷ xs) v a g = good-doAll xs (apply p x v) (a .1) (good-apply x v (a .0) g)
+
+  pub good-undoAll : (xs : List Step) (v : List ℕ) → AllSound xs → Good p v → Good p (undoAll p xs v)
+  unfolding undoAll
+  good-undoAll [] v a g = g
+  good-undoAll (x ∷ xs) v a g = good-apply (opposite x) (undoAll p xs v) (sound-opposite x (a .0)) (good-undoAll xs v (a .1) g)
+
+  pub good-start : (a : ℕ) → Residue p a → Good p (start a)
+  good-start a ra = record { four = refl; residue = go }
+    where
+      go : (j : ℕ) → j < 4 → Residue p (reg (start a) j)
+      go zero h = residue-one p pr
+      go (suc zero) h = ra
+      go (suc (suc zero)) h = residue-one p pr
+      go (suc (suc (suc zero))) h = residue-one p pr
+      go (suc (suc (suc (suc j)))) h = absurd (omega arith)
+
+  -- ---- doing and undoing
+
+  undo-mul : (t s : ℕ) (v : List ℕ) → Apart t s → Good p v → apply p (Div t s) (apply p (Mul t s) v) ≡ v
+  unfolding apply
+  undo-mul t s v a g =
+      let k : t < length v = rw (g .four) (a .target-is-one) in
+      let ne : s ≢ t = λ e. a .differ (sym e) in
+      let rt : Residue p (reg v t) = g .residue t (a .target-is-one) in
+      let rs : Residue p (reg v s) = g .residue s (a .source-is-one) in
+      simp (getD-set-same, getD-set-other, set-set, mul-div p pr, set-getD)
+
+  undo-div : (t s : ℕ) (v : List ℕ) → Apart t s → Good p v → apply p (Mul t s) (apply p (Div t s) v) ≡ v
+  unfolding apply
+  undo-div t s v a g =
+      let k : t < length v = rw (g .four) (a .target-is-one) in
+      let ne : s ≢ t = λ e. a .differ (sym e) in
+      let rt : Residue p (reg v t) = g .residue t (a .target-is-one) in
+      let rs : Residue p (reg v s) = g .residue s (a .source-is-one) in
+      simp (getD-set-same, getD-set-other, set-set, div-mul p pr, set-getD)
+
+  undo-swp : (t s : ℕ) (v : List ℕ) → Apart t s → Good p v → apply p (Swp t s) (apply p (Swp t s) v) ≡ v
+  unfolding apply
+  undo-swp t s v a g =
+      let k : t < length v = rw (g .four) (a .target-is-one) in
+      let ks : s < length (set v t (reg v s)) = rw (length-set v t (reg v s), g .four) (a .source-is-one) in
+      let ne : t ≢ s = a .differ in
+      let es : reg (set (set v t (reg v s)) s (reg v t)) s ≡ reg v t = getD-set-same (set v t (reg v s)) s (reg v t) 0 ks in
+      let et : reg (set (set v t (reg v s)) s (reg v t)) t ≡ reg v s =
+      getD-set-other (set v t (reg v s)) s t (reg v t) 0 ne ∙ getD-set-same v t (reg v s) 0 k in
+      rw (es, et) (swap-twice v t s (reg v t) (reg v s) ne refl refl)
+
+  pub undo-apply : (x : Step) (v : List ℕ) → Sound x → Good p v → apply p (opposite x) (apply p x v) ≡ v
+  unfolding opposite
+  undo-apply (Mul t s) v a g = undo-mul t s v a g
+  undo-apply (Div t s) v a g = undo-div t s v a g
+  undo-apply (Swp t s) v a g = undo-swp t s v (a .0) g
+
+  pub apply-undo : (x : Step) (v : List ℕ) → Sound x → Good p v → apply p x (apply p (opposite x) v) ≡ v
+  apply-undo x v a g =
+      ap (λ (y : Step). apply p y (apply p (opposite x) v)) (sym (opposite-opposite x)) ∙ undo-apply (opposite x) v (sound-opposite x a) g
+
+  pub undo-do : (xs : List Step) (v : List ℕ) → AllSound xs → Good p v → undoAll p xs (doAll p xs v) ≡ v
+  unfolding undoAll doAll
+  undo-do [] v a g = refl
+  undo-do (x ∷ xs) v a g =
+      ap (apply p (opposite x)) (undo-do xs (apply p x v) (a .1) (good-apply x v (a .0) g)) ∙ undo-apply x v (a .0) g
+
+  pub do-undo : (xs : List Step) (v : List ℕ) → AllSound xs → Good p v → doAll p xs (undoAll p xs v) ≡ v
+  unfolding undoAll doAll
+  do-undo [] v a g = refl
+  do-undo (x ∷ xs) v a g =
+      ap (doAll p xs) (apply-undo x (undoAll p xs v) (a .0) (good-undoAll xs v (a .1) g)) ∙ do-undo xs v (a .1) g

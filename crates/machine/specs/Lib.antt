@@ -1,0 +1,2 @@
+-- Document 01, "Machine and variants": what a step means.
+pub mod Machine
