@@ -1,0 +1,57 @@
+-- Every named program is accepted: its numbers fit their words, its steps are sound and 512 words hold it, so its words are laid
+-- out and give its p, r, k and variant back, and they are the words that check compares them with.
+use mathlib.Core.Path.{_≡_, sym, ap, _∙_}
+use mathlib.Core.Bool.{false, not}
+use Prim.Native.Nat.{ℕ, _-_, _≤_}
+use native.Mathlib.Nat.{le-of-dvd}
+use native.Mathlib.Omega.{arith}
+use lib.ListN.{length}
+use Rattle.refusal.specs.Outcomes.{answered, passes, answers}
+use Rattle.modular.specs.Inverses.{badExponent}
+use Rattle.modular.proofs.Laws.Inverses.{good-exponent}
+use Rattle.tape.specs.declared.Header.{Header}
+use Rattle.tape.proofs.Laws.Reading.{ReadAs, length-good}
+use Rattle.tape.proofs.Laws.Layout.{LawfulProgram, program-length, program-laid-out, program-header}
+use Rattle.program.specs.Named.{namedSteps, namedProgram, namedWords}
+use Rattle.program.specs.Services.{badModulus, badOrder, unnamed, checkOutcome}
+use Rattle.program.proofs.Laws.Parameters.{good-modulus, good-order, named-some, named-most}
+use Rattle.program.proofs.Laws.Same.{same-itself}
+use Rattle.program.proofs.Laws.Named.{named-sound, named-words-short}
+use Rattle.program.proofs.Laws.Checking.{past-named}
+
+module _ (p r k variant : ℕ)
+    (modulus : badModulus p ≡ false) (order : badOrder p r ≡ false) (exponent : badExponent k r ≡ false) (is : unnamed variant ≡ false) where
+  short : length (namedWords p r k variant) ≤ 512
+  short = named-words-short p r k variant modulus order exponent
+
+  pub named-lawful : LawfulProgram (namedProgram p r k variant)
+  named-lawful =
+      let m = good-modulus p modulus in
+      let o = good-order p r order in
+      let e = good-exponent k r exponent in
+      let below : r ≤ p - 1 = le-of-dvd (omega arith) (o .divisor) in
+      record {
+        variant-small = omega (arith, named-most variant is);
+        modulus-small = m .high;
+        order-small = omega arith;
+        exponent-small = omega arith;
+        count-small = omega (arith, short, program-length (namedProgram p r k variant));
+        free = λ zero. absurd (named-some variant is zero);
+        sound = named-sound variant r k;
+      }
+
+  abbrev header : Header
+  header = record { variant = variant; modulus = p; order = r; exponent = k; steps = length (namedSteps variant r k) }
+
+  read : ReadAs (namedWords p r k variant) header
+  read =
+      record {
+        long = length-good _ (omega (arith, program-length (namedProgram p r k variant))) short;
+        laid = program-laid-out (namedProgram p r k variant) named-lawful;
+        header = sym (program-header (namedProgram p r k variant) named-lawful);
+      }
+
+  pub named-accepted : checkOutcome (namedWords p r k variant) ≡ answered 0
+  named-accepted =
+      past-named (namedWords p r k variant) header read is
+      ∙ passes _ _ _ modulus ∙ passes _ _ _ order ∙ passes _ _ _ exponent ∙ passes _ _ _ (ap not (same-itself (namedWords p r k variant))) ∙ answers 0

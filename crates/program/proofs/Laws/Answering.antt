@@ -1,0 +1,76 @@
+-- Build by cases: the first test that fails gives the refusal and keeps the row; where all four pass, what is left is the room, which
+-- is the builders' part.
+use mathlib.Core.Path.{_≡_, sym, ap, ap₂, _∙_}
+use mathlib.Core.Bool.{true, false}
+use mathlib.Core.List.{List}
+use Prim.Native.Nat.{ℕ}
+use native.Mathlib.Omega.{arith}
+use lib.ListN.{length}
+use Rattle.refusal.specs.declared.Answer.{Answer}
+use Rattle.refusal.specs.Outcomes.{Outcome, refused, outcomeOf, gives, passes, rowAfter, row-kept}
+use Rattle.modular.specs.Inverses.{badExponent}
+use Rattle.modular.proofs.Laws.Tests.{by-test}
+use Rattle.modular.proofs.Laws.Inverses.{inverse-order}
+use Rattle.program.specs.Named.{namedWords}
+use Rattle.program.specs.Services.{badModulus, badOrder, goodInverse, unnamed, roomOutcome, buildOutcome, buildRow}
+use Rattle.program.specs.Building.{Buildable, Built}
+use Rattle.program.proofs.Laws.Parameters.{good-modulus, order-below, inverse-refused, inverse-passed}
+
+module _ (p r k variant : ℕ) (row : List ℕ) where
+  -- what build promises of its answer and of the row at exit
+  abbrev pub Promised : Outcome ℕ → List ℕ → Type 0
+  Promised o after = (o ≡ buildOutcome p r k variant (length row)) × (after ≡ buildRow p r k variant row)
+
+  kept : {n : ℕ} → buildOutcome p r k variant (length row) ≡ refused n → Promised (refused n) row
+  unfolding buildRow
+  kept e = (sym e, sym (row-kept (namedWords p r k variant) row e))
+
+  pub modulus-refused : badModulus p ≡ true → Promised (refused 1) row
+  unfolding buildOutcome
+  modulus-refused bad = kept (gives _ _ _ bad)
+
+  module _ (modulus : badModulus p ≡ false) where
+    pub order-refused : badOrder p r ≡ true → Promised (refused 2) row
+    unfolding buildOutcome
+    order-refused bad = kept (passes _ _ _ modulus ∙ gives _ _ _ bad)
+
+    module _ (order : badOrder p r ≡ false) where
+      pub exponent-refused : badExponent k r ≡ true → Promised (refused 3) row
+      unfolding buildOutcome
+      exponent-refused bad = kept (passes _ _ _ modulus ∙ passes _ _ _ order ∙ gives _ _ _ bad)
+
+      module _ (exponent : badExponent k r ≡ false) where
+        pub variant-refused : unnamed variant ≡ true → Promised (refused 4) row
+        unfolding buildOutcome
+        variant-refused bad = kept (passes _ _ _ modulus ∙ passes _ _ _ order ∙ passes _ _ _ exponent ∙ gives _ _ _ bad)
+
+        pub left-to-room : unnamed variant ≡ false → {n : ℕ} {answer : Answer} {after : List ℕ} → variant ≡ n
+            → Built (namedWords p r k n) row answer after → Promised (outcomeOf answer) after
+        unfolding buildOutcome buildRow roomOutcome
+        left-to-room is-named {n} {answer} {after} is b =
+            let words : List ℕ = namedWords p r k variant in
+            let same : namedWords p r k n ≡ words = ap (namedWords p r k) (sym is) in
+            let e : roomOutcome (namedWords p r k n) (length row) ≡ buildOutcome p r k variant (length row) =
+            ap (λ (ws : List ℕ). roomOutcome ws (length row)) same
+            ∙ sym (passes _ _ _ modulus ∙ passes _ _ _ order ∙ passes _ _ _ exponent ∙ passes _ _ _ is-named) in
+            (b .outcome-is ∙ e, b .row-is ∙ ap₂ (λ (o : Outcome ℕ) (ws : List ℕ). rowAfter o ws row) e same)
+
+-- ---- the exponent by its inverse
+
+module _ (k r : ℕ) where
+  pub no-inverse : goodInverse k r ≡ 0 → badExponent k r ≡ true
+  no-inverse none =
+      by-test (badExponent k r) (λ bad. bad)
+      (λ good. absurd (omega (arith, inverse-order k r good .low, inverse-passed k r good)))
+
+  pub some-inverse : ¬ (goodInverse k r ≡ 0) → badExponent k r ≡ false
+  some-inverse some = by-test (badExponent k r) (λ bad. absurd (some (inverse-refused k r bad))) (λ good. good)
+
+pub buildable : (p r k : ℕ) → badModulus p ≡ false → badOrder p r ≡ false → badExponent k r ≡ false → Buildable p r k (goodInverse k r)
+buildable p r k modulus order exponent = let m = good-modulus p modulus in
+    record {
+      modulus = m .high;
+      order = omega (arith, m .high, order-below p r modulus order);
+      exponent = exponent;
+      inverse-is = inverse-passed k r exponent;
+    }

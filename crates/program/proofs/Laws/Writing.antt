@@ -1,0 +1,218 @@
+-- The words of a loop are those of its places one after another: going up from the lowest place, taken back and coming down from
+-- the highest.
+use mathlib.Core.Path.{_≡_, refl, sym, ap, ap₂, _∙_}
+use mathlib.Core.Bool.{Bool, true, false, cond}
+use mathlib.Core.List.{List, [], _∷_, _++_, map, map-append, append-nil, append-assoc}
+use Prim.Native.Nat.{ℕ, zero, suc, _+_, _-_, _≤_, _<_}
+use native.Mathlib.Nat.{suc-inj}
+use native.Mathlib.Numerals.{add-one, sub-one}
+use native.Mathlib.Omega.{arith}
+use lib.ListN.{length, getD, take, drop, take-append-drop, length-append, length-take, length-map, replicate}
+use lib.Seq.{take-suc, drop-cons, length-take-le}
+use borrow.Author.Tests.{eq-eqb, ne-eqb}
+use Rattle.fibonacci.specs.Forms.{pad}
+use Rattle.tape.specs.declared.Step.{Step}
+use Rattle.tape.specs.declared.Step.the-variants.{Mul, Div, Swp}
+use Rattle.tape.specs.Words.{stepWord}
+use Rattle.machine.specs.Machine.{opposite, back}
+use Rattle.machine.proofs.Laws.Steps.{back-append}
+use Rattle.program.specs.Generators.{select, ascend, chain, descend, basic, dual, hybrid}
+use Rattle.program.specs.Writing.{isSet, formIn, chosen, ascendWords, ascendBackWords, descendWords, upWords, backWords, downWords, halfWords, halfBackWords, basicWords, dualWords, hybridWords}
+
+-- ---- one place
+
+select-words : (x : Step) (b : Bool) (xs : List Step) → map stepWord (select b x xs) ≡ cond b (stepWord x ∷ []) [] ++ map stepWord xs
+select-words x true xs = refl
+select-words x false xs = refl
+
+pub up-words : (s t : ℕ) → upWords s t ≡ stepWord (Mul 0 1) ∷ stepWord (Swp 0 1) ∷ (chosen s (stepWord (Mul 2 1)) ++ chosen t (stepWord (Mul 3 1)))
+unfolding ascend
+up-words s t =
+    ap (λ (l : List ℕ). stepWord (Mul 0 1) ∷ stepWord (Swp 0 1) ∷ l)
+    (select-words (Mul 2 1) (isSet s) (select (isSet t) (Mul 3 1) [])
+    ∙ ap (λ (l : List ℕ). chosen s (stepWord (Mul 2 1)) ++ l) (select-words (Mul 3 1) (isSet t) [] ∙ append-nil _))
+
+pub back-words : (s t : ℕ) → backWords s t ≡ chosen t (stepWord (Div 3 1)) ++ (chosen s (stepWord (Div 2 1)) ++ stepWord (Swp 0 1) ∷ stepWord (Div 0 1) ∷ [])
+unfolding ascend back opposite
+back-words s t = go (isSet s) (isSet t)
+  where
+    go : (a b : Bool) → map stepWord (back (Mul 0 1 ∷ Swp 0 1 ∷ select a (Mul 2 1) (select b (Mul 3 1) [])))
+        ≡ cond b (stepWord (Div 3 1) ∷ []) [] ++ (cond a (stepWord (Div 2 1) ∷ []) [] ++ stepWord (Swp 0 1) ∷ stepWord (Div 0 1) ∷ [])
+    go true true = refl
+    go true false = refl
+    go false true = refl
+    go false false = refl
+
+pub down-words : (b : ℕ) → downWords b ≡ chosen b (stepWord (Mul 2 0)) ++ stepWord (Mul 1 2) ∷ stepWord (Swp 1 2) ∷ []
+unfolding descend
+down-words b = select-words (Mul 2 0) (isSet b) (Mul 1 2 ∷ Swp 1 2 ∷ [])
+
+-- ---- loops in two parts
+
+select-append : (b : Bool) (x : Step) (xs ys : List Step) → select b x (xs ++ ys) ≡ select b x xs ++ ys
+select-append true x xs ys = refl
+select-append false x xs ys = refl
+
+ascend-append : (ss us ts ws : List Bool) → length ss ≡ length ts → ascend (ss ++ us) (ts ++ ws) ≡ ascend ss ts ++ ascend us ws
+unfolding ascend
+ascend-append [] us [] ws e = refl
+ascend-append [] us (t ∷ ts) ws e = absurd (omega arith)
+ascend-append (s ∷ ss) us [] ws e = absurd (omega arith)
+ascend-append (s ∷ ss) us (t ∷ ts) ws e =
+    ap (λ (l : List Step). Mul 0 1 ∷ Swp 0 1 ∷ l)
+    (ap (λ (l : List Step). select s (Mul 2 1) (select t (Mul 3 1) l)) (ascend-append ss us ts ws (suc-inj e))
+    ∙ ap (λ (l : List Step). select s (Mul 2 1) l) (select-append t (Mul 3 1) (ascend ss ts) (ascend us ws))
+    ∙ select-append s (Mul 2 1) (select t (Mul 3 1) (ascend ss ts)) (ascend us ws))
+
+descend-append : (xs ys : List Bool) → descend (xs ++ ys) ≡ descend ys ++ descend xs
+unfolding descend
+descend-append [] ys = sym (append-nil (descend ys))
+descend-append (x ∷ xs) ys =
+    ap (λ (l : List Step). l ++ select x (Mul 2 0) (Mul 1 2 ∷ Swp 1 2 ∷ [])) (descend-append xs ys)
+    ∙ append-assoc (descend ys) (descend xs) (select x (Mul 2 0) (Mul 1 2 ∷ Swp 1 2 ∷ []))
+
+same-length : (fs ss : List ℕ) → length fs ≡ length ss → length (formIn fs) ≡ length (formIn ss)
+same-length fs ss e = length-map fs isSet ∙ e ∙ sym (length-map ss isSet)
+
+-- the same for rows of bits
+pub ascend-words : (fs gs ss ts : List ℕ) → length fs ≡ length ss → ascendWords (fs ++ gs) (ss ++ ts) ≡ ascendWords fs ss ++ ascendWords gs ts
+ascend-words fs gs ss ts e =
+    ap₂ (λ (x y : List Bool). map stepWord (ascend x y)) (map-append isSet fs gs) (map-append isSet ss ts)
+    ∙ ap (map stepWord) (ascend-append (formIn fs) (formIn gs) (formIn ss) (formIn ts) (same-length fs ss e))
+    ∙ map-append stepWord (ascend (formIn fs) (formIn ss)) (ascend (formIn gs) (formIn ts))
+
+pub ascend-back-words : (fs gs ss ts : List ℕ) → length fs ≡ length ss
+    → ascendBackWords (fs ++ gs) (ss ++ ts) ≡ ascendBackWords gs ts ++ ascendBackWords fs ss
+ascend-back-words fs gs ss ts e =
+    ap₂ (λ (x y : List Bool). map stepWord (back (ascend x y))) (map-append isSet fs gs) (map-append isSet ss ts)
+    ∙ ap (λ (x : List Step). map stepWord (back x)) (ascend-append (formIn fs) (formIn gs) (formIn ss) (formIn ts) (same-length fs ss e))
+    ∙ ap (map stepWord) (back-append (ascend (formIn fs) (formIn ss)) (ascend (formIn gs) (formIn ts)))
+    ∙ map-append stepWord (back (ascend (formIn gs) (formIn ts))) (back (ascend (formIn fs) (formIn ss)))
+
+pub descend-words : (fs gs : List ℕ) → descendWords (fs ++ gs) ≡ descendWords gs ++ descendWords fs
+descend-words fs gs =
+    ap (λ (x : List Bool). map stepWord (descend x)) (map-append isSet fs gs)
+    ∙ ap (map stepWord) (descend-append (formIn fs) (formIn gs))
+    ∙ map-append stepWord (descend (formIn gs)) (descend (formIn fs))
+
+-- ---- a loop at its index i
+
+module _ (fs ss : List ℕ) (e : length fs ≡ length ss) where
+  pub ascend-next : (i : ℕ) → i < length fs
+      → ascendWords (take (i + 1) fs) (take (i + 1) ss) ≡ ascendWords (take i fs) (take i ss) ++ upWords (getD fs i 0) (getD ss i 0)
+  ascend-next i h =
+      rw (add-one, take-suc fs i 0 h, take-suc ss i 0 (omega arith))
+      (ascend-words (take i fs) (getD fs i 0 ∷ []) (take i ss) (getD ss i 0 ∷ []) (omega (arith, length-take i fs, length-take i ss)))
+
+  pub ascend-total : (i : ℕ) → ascendWords fs ss ≡ ascendWords (take i fs) (take i ss) ++ ascendWords (drop i fs) (drop i ss)
+  ascend-total i =
+      ap₂ ascendWords (sym (take-append-drop i fs)) (sym (take-append-drop i ss))
+      ∙ ascend-words (take i fs) (drop i fs) (take i ss) (drop i ss) (omega (arith, length-take i fs, length-take i ss))
+
+  pub ascend-back-next : (i : ℕ) → 0 < i → i ≤ length fs
+      → ascendBackWords (drop (i - 1) fs) (drop (i - 1) ss) ≡ ascendBackWords (drop i fs) (drop i ss) ++ backWords (getD fs (i - 1) 0) (getD ss (i - 1) 0)
+  ascend-back-next zero p h = absurd (omega arith)
+  ascend-back-next (suc i) p h =
+      rw (sub-one, drop-cons fs i 0 h, drop-cons ss i 0 (omega arith))
+      (ascend-back-words (getD fs i 0 ∷ []) (drop (suc i) fs) (getD ss i 0 ∷ []) (drop (suc i) ss) refl)
+
+  pub ascend-back-total : (i : ℕ) → ascendBackWords fs ss ≡ ascendBackWords (drop i fs) (drop i ss) ++ ascendBackWords (take i fs) (take i ss)
+  ascend-back-total i =
+      ap₂ ascendBackWords (sym (take-append-drop i fs)) (sym (take-append-drop i ss))
+      ∙ ascend-back-words (take i fs) (drop i fs) (take i ss) (drop i ss) (omega (arith, length-take i fs, length-take i ss))
+
+pub descend-next : (fs : List ℕ) (i : ℕ) → 0 < i → i ≤ length fs → descendWords (drop (i - 1) fs) ≡ descendWords (drop i fs) ++ downWords (getD fs (i - 1) 0)
+descend-next fs zero p h = absurd (omega arith)
+descend-next fs (suc i) p h = rw (sub-one, drop-cons fs i 0 h) (descend-words (getD fs i 0 ∷ []) (drop (suc i) fs))
+
+pub descend-total : (fs : List ℕ) (i : ℕ) → descendWords fs ≡ descendWords (drop i fs) ++ descendWords (take i fs)
+descend-total fs i = ap descendWords (sym (take-append-drop i fs)) ∙ descend-words (take i fs) (drop i fs)
+
+-- ---- a word for a bit
+
+pub chosen-set : (bit word : ℕ) → bit ≡ 1 → chosen bit word ≡ word ∷ []
+chosen-set bit word e = rw (eq-eqb bit 1 e)
+
+pub chosen-clear : (bit word : ℕ) → (bit ≡ 1 → ⊥) → chosen bit word ≡ []
+chosen-clear bit word ne = rw (ne-eqb bit 1 ne)
+
+-- ---- how long the words of a place are
+
+module _ (s t : ℕ) where
+  pub up-length : length (upWords s t) ≡ 2 + (length (chosen s (stepWord (Mul 2 1))) + length (chosen t (stepWord (Mul 3 1))))
+  up-length = ap length (up-words s t) ∙ omega (arith, length-append (chosen s (stepWord (Mul 2 1))) (chosen t (stepWord (Mul 3 1))))
+
+  pub back-length : length (backWords s t) ≡ length (chosen t (stepWord (Div 3 1))) + (length (chosen s (stepWord (Div 2 1))) + 2)
+  back-length =
+      ap length (back-words s t)
+      ∙ length-append (chosen t (stepWord (Div 3 1))) _
+      ∙ ap (λ (n : ℕ). length (chosen t (stepWord (Div 3 1))) + n) (length-append (chosen s (stepWord (Div 2 1))) _)
+
+pub down-length : (b : ℕ) → length (downWords b) ≡ length (chosen b (stepWord (Mul 2 0))) + 2
+down-length b = ap length (down-words b) ∙ length-append (chosen b (stepWord (Mul 2 0))) _
+
+-- ---- the programs by their parts
+
+-- a second form with no place set selects nothing
+ascend-none : (n : ℕ) (ss : List Bool) → ascend ss (pad n []) ≡ ascend ss []
+unfolding ascend pad
+ascend-none n [] = refl
+ascend-none zero (s ∷ ss) = refl
+ascend-none (suc n) (s ∷ ss) = ap (λ (l : List Step). Mul 0 1 ∷ Swp 0 1 ∷ select s (Mul 2 1) l) (ascend-none n ss)
+
+-- a row of zeros is such a form
+pub none-set : (n m : ℕ) → n ≤ m → formIn (take n (replicate m 0)) ≡ pad n []
+unfolding pad
+none-set zero m h = refl
+none-set (suc n) zero h = absurd (omega arith)
+none-set (suc n) (suc m) h = ap (λ (l : List Bool). false ∷ l) (none-set n m (omega arith))
+
+module _ (zeros : List ℕ) (e : zeros ≡ replicate 92 0) where
+  ascend-zeros : (n : ℕ) (bits : List ℕ) → n ≤ 92 → ascend (formIn bits) (formIn (take n zeros)) ≡ ascend (formIn bits) []
+  ascend-zeros n bits h = rw (e, none-set n 92 h) (ascend-none n (formIn bits))
+
+  chain-zeros : (n : ℕ) → n ≤ 92 → ascend (formIn (take n zeros)) (formIn (take n zeros)) ≡ chain n
+  chain-zeros n h = rw (e, none-set n 92 h) (ascend-none n (pad n []))
+
+  pub half-words : (bits : List ℕ) → length bits ≤ 92
+      → halfWords bits (take (length bits) zeros) ≡ map stepWord (ascend (formIn bits) []) ++ map stepWord (back (chain (length bits)))
+  half-words bits h =
+      ap₂ _++_ (ap (map stepWord) (ascend-zeros (length bits) bits h)) (ap (λ (l : List Step). map stepWord (back l)) (chain-zeros (length bits) h))
+
+  pub half-back-words : (bits : List ℕ) → length bits ≤ 92
+      → halfBackWords bits (take (length bits) zeros) ≡ map stepWord (chain (length bits)) ++ map stepWord (back (ascend (formIn bits) []))
+  half-back-words bits h =
+      ap₂ _++_ (ap (map stepWord) (chain-zeros (length bits) h)) (ap (λ (l : List Step). map stepWord (back l)) (ascend-zeros (length bits) bits h))
+
+  pub basic-words : (ks inverse : List ℕ) → length ks ≤ 92 → length inverse ≤ 92
+      → basicWords ks inverse ≡ halfWords ks (take (length ks) zeros) ++ stepWord (Swp 1 2) ∷ halfBackWords inverse (take (length inverse) zeros)
+  unfolding basic
+  basic-words ks inverse h k =
+      let m : length (formIn ks) ≡ length ks = length-map ks isSet in
+      let n : length (formIn inverse) ≡ length inverse = length-map inverse isSet in
+      rw (half-words ks h, half-back-words inverse k, ← m, ← n) (simp (map-append, append-assoc))
+
+  pub hybrid-words : (v inverse : List ℕ) → length inverse ≤ 92
+      → hybridWords v inverse
+      ≡ stepWord (Swp 0 1) ∷ (descendWords v ++ stepWord (Swp 0 1) ∷ stepWord (Swp 1 2) ∷ ascendBackWords inverse (take (length inverse) zeros))
+  unfolding hybrid
+  hybrid-words v inverse h = rw (ascend-zeros (length inverse) inverse h) (simp map-append)
+
+  -- the part of the row of zeros that a form is paired with is as long as the form
+  pub zeros-length : (n : ℕ) → n ≤ 92 → n ≡ length (take n zeros)
+  zeros-length n h = rw e (sym (length-take-le n (replicate 92 0) h))
+
+  pub basic-size : (ks inverse : List ℕ) → length ks ≤ 92 → length inverse ≤ 92
+      → length (basicWords ks inverse) ≡ length (halfWords ks (take (length ks) zeros)) + suc (length (halfBackWords inverse (take (length inverse) zeros)))
+  basic-size ks inverse h k = ap length (basic-words ks inverse h k) ∙ length-append (halfWords ks (take (length ks) zeros)) _
+
+  pub hybrid-size : (v inverse : List ℕ) → length inverse ≤ 92
+      → length (hybridWords v inverse) ≡ suc (length (descendWords v) + (2 + length (ascendBackWords inverse (take (length inverse) zeros))))
+  hybrid-size v inverse h = ap length (hybrid-words v inverse h) ∙ ap suc (length-append (descendWords v) _ ∙ omega arith)
+
+pub dual-words : (s t s′ t′ : List ℕ) → dualWords s t s′ t′ ≡ ascendWords s t ++ stepWord (Swp 0 2) ∷ stepWord (Swp 1 3) ∷ ascendBackWords s′ t′
+unfolding dual
+dual-words s t s′ t′ = simp map-append
+
+pub dual-size : (s t s′ t′ : List ℕ) → length (dualWords s t s′ t′) ≡ length (ascendWords s t) + (2 + length (ascendBackWords s′ t′))
+dual-size s t s′ t′ = ap length (dual-words s t s′ t′) ∙ length-append (ascendWords s t) _ ∙ omega arith

@@ -1,0 +1,21 @@
+-- `tests::is_bad_order` meets its contract: below 2 the order is refused, and from 2 on the test is the remainder's.
+use mathlib.Core.Path.{sym}
+use borrow.Author.Needs.{needs}
+use Rattle.program.proofs.Laws.Parameters.{order-low, order-divides}
+use Rattle.program.proofs.tests.is_bad_order.Statement.{statement}
+use Rattle.program.proofs.tests.is_bad_order.Tie as tie
+
+returns : tie.Need-returns
+returns c = sym (order-low _ _ (c .if1 .taken))
+
+sub-result : tie.Need-sub-result
+sub-result c = search needs
+
+rem-result : tie.Need-rem-result
+rem-result c = search needs
+
+returns-2 : tie.Need-returns-2
+returns-2 c = sym (order-divides _ _ (c .if1 .left))
+
+pub is-bad-order-spec : {M : Type 1} → statement M
+is-bad-order-spec = tie.close (tie.spec returns sub-result rem-result returns-2)

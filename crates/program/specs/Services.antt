@@ -1,0 +1,80 @@
+-- Document 01, "Services and refusals": build and check.
+use mathlib.Core.Bool.{Bool, true, false, not, _&&_, _||_, cond}
+use mathlib.Core.List.{List, [], _∷_}
+use Prim.Native.Nat.{ℕ, _-_, _^_}
+use lib.Dec.{leb, ltb, eqb}
+use lib.ListN.{length}
+use Rattle.refusal.specs.declared.Refusal.the-variants.{Modulus, Order, Exponent, Variant, Room, Length, Word, Mismatch}
+use Rattle.refusal.specs.Outcomes.{Outcome, outcome, _given-if_, rowAfter}
+use Rattle.modular.specs.Search.{divides}
+use Rattle.modular.specs.Primes.{isPrime}
+use Rattle.modular.specs.Inverses.{inverse, badExponent}
+use Rattle.tape.specs.declared.Header.{Header}
+use Rattle.tape.specs.Layout.{headerOf, isLength, laidOut}
+use Rattle.program.specs.Named.{lastVariant, namedWords}
+
+-- refusal 1: p isn't a prime from 3 to 268435455
+unfoldable pub badModulus : ℕ → Bool
+badModulus p = not (isPrime p && (leb 3 p && ltb p (2 ^ 28)))
+
+-- refusal 2: r < 2, or r doesn't divide p - 1
+unfoldable pub badOrder : ℕ → ℕ → Bool
+badOrder p r = ltb r 2 || not (divides r (p - 1))
+
+-- K, and 0 where refusal 3 applies
+unfoldable pub goodInverse : ℕ → ℕ → ℕ
+goodInverse k r = cond (badExponent k r) 0 (inverse r k)
+
+-- refusal 4 in build: not 1 to 3
+unfoldable pub unnamed : ℕ → Bool
+unnamed variant = eqb variant 0 || ltb lastVariant variant
+
+-- refusal 5 for the words of a result, into a row of `room` words
+unfoldable pub roomOutcome : List ℕ → ℕ → Outcome ℕ
+roomOutcome words room = outcome ((Room given-if ltb room (length words)) ∷ []) (length words)
+
+-- build: the word count, into a row of `room` words
+unfoldable pub buildOutcome : ℕ → ℕ → ℕ → ℕ → ℕ → Outcome ℕ
+buildOutcome p r k variant room =
+    outcome
+    ((Modulus given-if badModulus p)
+    ∷ (Order given-if badOrder p r)
+    ∷ (Exponent given-if badExponent k r)
+    ∷ (Variant given-if unnamed variant)
+    ∷ (Room given-if ltb room (length (namedWords p r k variant)))
+    ∷ [])
+    (length (namedWords p r k variant))
+
+-- and the row at exit
+unfoldable pub buildRow : ℕ → ℕ → ℕ → ℕ → List ℕ → List ℕ
+buildRow p r k variant row = rowAfter (buildOutcome p r k variant (length row)) (namedWords p r k variant) row
+
+-- two rows of words are the same
+unfoldable pub sameWords : List ℕ → List ℕ → Bool
+sameWords [] [] = true
+sameWords [] (w ∷ ws) = false
+sameWords (v ∷ vs) [] = false
+sameWords (v ∷ vs) (w ∷ ws) = eqb v w && sameWords vs ws
+
+-- the program is named: its variant isn't 0
+abbrev pub isNamed : Header → Bool
+isNamed h = not (eqb (h .variant) 0)
+
+-- the words that build writes for a tape's p, r, k and variant
+abbrev pub builtFor : Header → List ℕ
+builtFor h = namedWords (h .modulus) (h .order) (h .exponent) (h .variant)
+
+-- check: 0 where the tape is accepted; 2, 3 and 8 are for named programs only
+unfoldable pub checkOutcome : List ℕ → Outcome ℕ
+checkOutcome tape =
+    let h = headerOf tape in
+    outcome
+    ((Length given-if not (isLength (length tape)))
+    ∷ (Word given-if not (laidOut tape))
+    ∷ (Variant given-if ltb lastVariant (h .variant))
+    ∷ (Modulus given-if badModulus (h .modulus))
+    ∷ (Order given-if (isNamed h && badOrder (h .modulus) (h .order)))
+    ∷ (Exponent given-if (isNamed h && badExponent (h .exponent) (h .order)))
+    ∷ (Mismatch given-if (isNamed h && not (sameWords tape (builtFor h))))
+    ∷ [])
+    0

@@ -1,0 +1,105 @@
+// Figures 2, 4 and 6 of the paper as document 01 corrects them: the named programs, build and check.
+mod builders;
+mod parts;
+mod tests;
+mod words;
+mod writer;
+
+ghost use mathlib.Core.Path.{_≡_};
+ghost use mathlib.Core.Bool.{false};
+ghost use lib.ListN.{length};
+ghost use Rattle.refusal.specs.Outcomes.{outcomeOf, answered};
+ghost use Rattle.tape.specs.Layout.{readOutcome};
+ghost use Rattle.program.specs.Services.{unnamed, buildOutcome, buildRow, checkOutcome};
+use builders::build_basic;
+use builders::build_dual;
+use builders::build_hybrid;
+use refusal::Answer;
+use refusal::Refusal;
+use tape::Header;
+use tape::Reading;
+use tests::good_inverse;
+use tests::is_bad_modulus;
+use tests::is_bad_order;
+use tests::same;
+
+// The variants of named programs go up to this.
+const LAST_VARIANT: u32 = 3;
+
+// The most words of a tape, and of what build writes.
+const MOST_WORDS: usize = 512;
+
+// Writes the named program for p, r, k and the variant into the row: 1, 2, 3, 4, 5, else the word count.
+pub fn build(p: u32, r: u32, k: u32, variant: u32, row: &mut [u32]) -> Answer
+    ensures { λ answer. ⌜ outcomeOf answer ≡ buildOutcome p r k variant (length (now (row .entry))) ⌝ }
+    ensures { λ _. ⌜ now (row .exit) ≡ buildRow p r k variant (now (row .entry)) ⌝ }
+{
+    if is_bad_modulus(p) {
+        return Answer::Refused(Refusal::Modulus);
+    }
+    if is_bad_order(p, r) {
+        return Answer::Refused(Refusal::Order);
+    }
+    let inverse = good_inverse(k, r);
+    if inverse == 0 {
+        return Answer::Refused(Refusal::Exponent);
+    }
+    match variant {
+        1 => build_basic(p, r, k, inverse, row),
+        2 => build_dual(p, r, k, inverse, row),
+        3 => build_hybrid(p, r, k, inverse, row),
+        _ => Answer::Refused(Refusal::Variant),
+    }
+}
+
+// Accepts a tape: 6, 7, 4, 1 and, for named programs, 2, 3, 8, else 0.
+pub fn check(tape: &[u32]) -> Answer
+    ensures { λ answer. ⌜ outcomeOf answer ≡ checkOutcome (now (tape .entry)) ⌝ }
+{
+    match tape::read(tape) {
+        Reading::Refused(e) => Answer::Refused(e),
+        Reading::Laid(header) => check_header(tape, header),
+    }
+}
+
+// The refusals past the layout: 4, 1 and, for named programs, 2, 3, 8.
+fn check_header(tape: &[u32], header: Header) -> Answer
+    requires { ⌜ readOutcome (now tape) ≡ answered header ⌝ }
+    ensures { λ answer. ⌜ outcomeOf answer ≡ checkOutcome (now (tape .entry)) ⌝ }
+{
+    if LAST_VARIANT < header.variant {
+        return Answer::Refused(Refusal::Variant);
+    }
+    if header.variant != 0 {
+        return check_named(tape, header);
+    }
+    if is_bad_modulus(header.modulus) {
+        return Answer::Refused(Refusal::Modulus);
+    }
+    Answer::Value(0)
+}
+
+// A named program's refusals are build's 1, 2, 3; then its words are those that build writes, else 8.
+fn check_named(tape: &[u32], header: Header) -> Answer
+    requires { ⌜ readOutcome (now tape) ≡ answered header ⌝ }
+    requires { ⌜ unnamed (header .variant) ≡ false ⌝ }
+    ensures { λ answer. ⌜ outcomeOf answer ≡ checkOutcome (now (tape .entry)) ⌝ }
+{
+    let mut row = [0u32; MOST_WORDS];
+    match build(
+        header.modulus,
+        header.order,
+        header.exponent,
+        header.variant,
+        &mut row,
+    ) {
+        Answer::Refused(e) => Answer::Refused(e),
+        Answer::Value(words) => {
+            let n = words as usize;
+            if same(tape, &row[..n]) {
+                return Answer::Value(0);
+            }
+            Answer::Refused(Refusal::Mismatch)
+        }
+    }
+}

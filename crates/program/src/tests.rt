@@ -1,0 +1,58 @@
+// The tests behind the refusals of build and check.
+ghost use mathlib.Core.Path.{_≡_};
+ghost use Prim.Native.Nat.{_≤_};
+ghost use Rattle.program.specs.Services.{badModulus, badOrder, goodInverse, sameWords};
+
+// Refusal 1: p isn't a prime from 3 to 268435455.
+pub(crate) fn is_bad_modulus(p: u32) -> bool
+    ensures { λ bad. ⌜ bad ≡ badModulus p ⌝ }
+{
+    if p < 3 {
+        return true;
+    }
+    if 0x0FFF_FFFF < p {
+        return true;
+    }
+    !modular::is_prime(p)
+}
+
+// Refusal 2: r < 2, or r doesn't divide p - 1.
+pub(crate) fn is_bad_order(p: u32, r: u32) -> bool
+    requires { ⌜ 1 ≤ p ⌝ }
+    ensures { λ bad. ⌜ bad ≡ badOrder p r ⌝ }
+{
+    if r < 2 {
+        return true;
+    }
+    (p - 1) % r != 0
+}
+
+// The inverse of k modulo r, and 0 where refusal 3 applies.
+pub(crate) fn good_inverse(k: u32, r: u32) -> u32
+    ensures { λ inverse. ⌜ inverse ≡ goodInverse k r ⌝ }
+{
+    if k == 0 {
+        return 0;
+    }
+    if r <= k {
+        return 0;
+    }
+    modular::inverse_or_zero(k, r)
+}
+
+// Whether two rows hold the same words.
+pub(crate) fn same(a: &[u32], b: &[u32]) -> bool
+    ensures { λ equal. ⌜ equal ≡ sameWords (now (a .entry)) (now (b .entry)) ⌝ }
+{
+    if a.len() != b.len() {
+        return false;
+    }
+    let mut i: usize = 0;
+    while i < a.len() {
+        if a[i] != b[i] {
+            return false;
+        }
+        i += 1;
+    }
+    true
+}
