@@ -1,0 +1,50 @@
+-- `changes` is safe and ends: the index stays below the number of rows.
+use Prim.Native.Nat.{_-_, _≤_}
+use borrow.Author.Needs.{needs}
+use Rattle.tapes.proofs.changes.Statement.{statement}
+use Rattle.tapes.proofs.changes.Tie as tie
+
+abbrev Inv-loop : tie.InvT-loop
+Inv-loop i₀ i = i ≤ 34
+
+abbrev μ-loop : tie.MeasureT-loop
+μ-loop i₀ i = 34 - i
+
+loop-holds : tie.Need-loop-holds Inv-loop μ-loop
+loop-holds c = search needs
+
+mul-change : tie.Need-mul-change Inv-loop μ-loop
+mul-change c = search needs
+
+array-copy-out-change : tie.Need-array-copy-out-change Inv-loop μ-loop
+array-copy-out-change c = search needs
+
+change-requires : tie.Need-change-requires Inv-loop μ-loop
+change-requires c κs = search needs
+
+add-i : tie.Need-add-i Inv-loop μ-loop
+add-i c = search needs
+
+loop-less : tie.Need-loop-less Inv-loop μ-loop
+loop-less c = search needs
+
+loop-again : tie.Need-loop-again Inv-loop μ-loop
+loop-again c = search needs
+
+returns : tie.Need-returns Inv-loop μ-loop
+returns c = search needs
+
+pub changes-spec : {M : Type 1} → statement M
+changes-spec =
+    tie.close
+    (tie.spec
+    Inv-loop
+    μ-loop
+    loop-holds
+    mul-change
+    array-copy-out-change
+    change-requires
+    add-i
+    loop-less
+    loop-again
+    returns)
