@@ -6,11 +6,11 @@ use lib.Pow.{pow-add}
 use Rattle.modular.specs.Primes.{Prime}
 use Rattle.modular.specs.Residues.{Residue, times}
 use Rattle.modular.proofs.Laws.Residues.{mul-mod-left, mul-mod-right}
-use Rattle.modular.proofs.Laws.Group.{residue-one, residue-times}
+use Rattle.modular.proofs.Laws.Group.{times-prime, residue-one, residue-times}
 
-pub times-pow : (p a m n : ℕ) → times p (a ^ m % p) (a ^ n % p) ≡ a ^ (m + n) % p
-unfolding times
-times-pow p a m n =
+-- a product of powers, its factors reduced
+reduced : (p a m n : ℕ) → (a ^ m % p) * (a ^ n % p) % p ≡ a ^ (m + n) % p
+reduced p a m n =
     mul-mod-left (a ^ m) (a ^ n % p) p ∙ mul-mod-right (a ^ m) (a ^ n) p ∙ ap (λ (x : ℕ). x % p) (sym (pow-add a m n))
 
 pub pow-mul : (a m n : ℕ) → (a ^ m) ^ n ≡ a ^ (m * n)
@@ -42,7 +42,6 @@ pow-one a = pow-suc a 0 ∙ ap (λ (x : ℕ). x * a) (pow-zero a) ∙ one-mul a
 
 -- where a ^ r leaves 1, the exponent may be reduced modulo r
 pub pow-order : (p a r n : ℕ) → a ^ r % p ≡ 1 → a ^ (n % r) % p ≡ a ^ n % p
-unfolding times
 pow-order p a r n h =
     let one : a ^ (n / r * r) % p ≡ 1 =
     ap (λ (x : ℕ). a ^ x % p) (mul-comm (n / r) r)
@@ -54,8 +53,8 @@ pow-order p a r n h =
     ∙ h in
     sym
     (ap (λ (x : ℕ). a ^ x % p) (sym (mod-add-div' n r))
-    ∙ sym (times-pow p a (n % r) (n / r * r))
-    ∙ ap (times p (a ^ (n % r) % p)) one
+    ∙ sym (reduced p a (n % r) (n / r * r))
+    ∙ ap (λ (x : ℕ). (a ^ (n % r) % p) * x % p) one
     ∙ ap (λ (x : ℕ). x % p) (mul-one (a ^ (n % r) % p))
     ∙ mod-mod (a ^ (n % r)) p)
 
@@ -63,9 +62,11 @@ pub pow-congruent : (p a r m n : ℕ) → a ^ r % p ≡ 1 → m % r ≡ n % r �
 pow-congruent p a r m n h e = sym (pow-order p a r m h) ∙ ap (λ (x : ℕ). a ^ x % p) e ∙ pow-order p a r n h
 
 module _ (p : ℕ) (pr : Prime p) where
+  pub times-pow : (a m n : ℕ) → times p (a ^ m % p) (a ^ n % p) ≡ a ^ (m + n) % p
+  times-pow a m n = times-prime p pr (a ^ m % p) (a ^ n % p) ∙ reduced p a m n
+
   pub residue-pow : (a n : ℕ) → Residue p a → Residue p (a ^ n % p)
-  unfolding times
   residue-pow a zero ra = rw (pow-zero a, mod-eq-of-lt (pr .least)) (residue-one p pr)
   residue-pow a (suc n) ra =
-      subst (Residue p) (mul-mod-left (a ^ n) a p ∙ ap (λ (x : ℕ). x % p) (sym (pow-suc a n)))
+      subst (Residue p) (times-prime p pr (a ^ n % p) a ∙ mul-mod-left (a ^ n) a p ∙ ap (λ (x : ℕ). x % p) (sym (pow-suc a n)))
       (residue-times p pr (a ^ n % p) a (residue-pow a n ra) ra)

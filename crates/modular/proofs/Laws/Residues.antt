@@ -28,22 +28,27 @@ unfolding remainder
 remainder-is n zero some = absurd (omega arith)
 remainder-is n (suc m) some = refl
 
+pub times-is : (p x y : ℕ) → 0 < p → times p x y ≡ x * y % p
+unfolding times
+times-is p x y some = remainder-is (x * y) p some
+
 pub times-comm : (p x y : ℕ) → times p x y ≡ times p y x
 unfolding times
-times-comm p x y = ap (λ (n : ℕ). n % p) (mul-comm x y)
+times-comm p x y = ap (λ (n : ℕ). remainder n p) (mul-comm x y)
 
 pub times-assoc : (p x y z : ℕ) → times p (times p x y) z ≡ times p x (times p y z)
-unfolding times
-times-assoc p x y z =
-    mul-mod-left (x * y) z p ∙ ap (λ (n : ℕ). n % p) (mul-assoc x y z) ∙ sym (mul-mod-right x (y * z) p)
+unfolding times remainder
+times-assoc zero x y z = refl
+times-assoc (suc p) x y z =
+    mul-mod-left (x * y) z (suc p) ∙ ap (λ (n : ℕ). n % suc p) (mul-assoc x y z) ∙ sym (mul-mod-right x (y * z) (suc p))
 
 pub times-one : (p x : ℕ) → Residue p x → times p x 1 ≡ x
-unfolding times
-times-one p x r = ap (λ (n : ℕ). n % p) (mul-one x) ∙ mod-eq-of-lt (r .high)
+times-one p x r = times-is p x 1 (omega (arith, r .high)) ∙ ap (λ (n : ℕ). n % p) (mul-one x) ∙ mod-eq-of-lt (r .high)
 
 pub one-times : (p x : ℕ) → Residue p x → times p 1 x ≡ x
 one-times p x r = times-comm p 1 x ∙ times-one p x r
 
 pub zero-times : (p x : ℕ) → times p 0 x ≡ 0
-unfolding times
-zero-times p x = ap (λ (n : ℕ). n % p) (zero-mul x) ∙ zero-mod p
+unfolding times remainder
+zero-times zero x = refl
+zero-times (suc p) x = ap (λ (n : ℕ). n % suc p) (zero-mul x) ∙ zero-mod (suc p)

@@ -105,7 +105,7 @@ module _ (p : ℕ) (pr : Prime p) where
       let len : length m ≡ n = pad-length n [] (omega arith) in
       let w : List ℕ = powers p a (fib 0) (fib 1) (fibsum bs) 0 in
       let up : doAll p (chain n) w ≡ powers p a (fib n) (fib (suc n)) (fibsum bs) 0 =
-      ascend-powers p a m [] 0 (fibsum bs) 0 (omega arith)
+      ascend-powers p pr a m [] 0 (fibsum bs) 0 (omega arith)
       ∙ ap₂ (λ (x y : ℕ). powers p a (fib x) (fib (suc x)) y 0) (omega (arith, len)) (omega (arith, pad-sum n 1 [])) in
       doAll-append p (ascend bs []) (back (chain n)) (start a)
       ∙ ap (doAll p (back (chain n))) (ascend-start p pr a bs [] ra (omega arith) ∙ sym up)
