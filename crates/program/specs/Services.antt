@@ -5,7 +5,7 @@ use Prim.Native.Nat.{ℕ, _-_, _^_}
 use lib.Dec.{leb, ltb, eqb}
 use lib.ListN.{length}
 use Rattle.refusal.specs.declared.Refusal.the-variants.{Modulus, Order, Exponent, Variant, Room, Length, Word, Mismatch}
-use Rattle.refusal.specs.Outcomes.{Outcome, outcome, _given-if_, rowAfter}
+use Rattle.refusal.specs.Outcomes.{Outcome, Rule, outcome, _given-if_, rowAfter}
 use Rattle.modular.specs.Search.{divides}
 use Rattle.modular.specs.Primes.{isPrime}
 use Rattle.modular.specs.Inverses.{inverse, badExponent}
@@ -64,17 +64,23 @@ isNamed h = not (eqb (h .variant) 0)
 abbrev pub builtFor : Header → List ℕ
 builtFor h = namedWords (h .modulus) (h .order) (h .exponent) (h .variant)
 
--- check: 0 where the tape is accepted; 2, 3 and 8 are for named programs only
-unfoldable pub checkOutcome : List ℕ → Outcome ℕ
-checkOutcome tape =
+-- check's refusals; 2, 3 and 8 are for named programs only
+unfoldable pub checkRules : List ℕ → List Rule
+checkRules tape =
     let h = headerOf tape in
-    outcome
-    ((Length given-if not (isLength (length tape)))
+    (Length given-if not (isLength (length tape)))
     ∷ (Word given-if not (laidOut tape))
     ∷ (Variant given-if ltb lastVariant (h .variant))
     ∷ (Modulus given-if badModulus (h .modulus))
     ∷ (Order given-if (isNamed h && badOrder (h .modulus) (h .order)))
     ∷ (Exponent given-if (isNamed h && badExponent (h .exponent) (h .order)))
     ∷ (Mismatch given-if (isNamed h && not (sameWords tape (builtFor h))))
-    ∷ [])
-    0
+    ∷ []
+
+-- check: 0 where the tape is accepted
+abbrev pub checkOutcome : List ℕ → Outcome ℕ
+checkOutcome tape = outcome (checkRules tape) 0
+
+-- the header of an accepted tape, for the services that check their tape first
+abbrev pub acceptOutcome : List ℕ → Outcome Header
+acceptOutcome tape = outcome (checkRules tape) (headerOf tape)

@@ -9,8 +9,8 @@ ghost use mathlib.Core.Path.{_≡_};
 ghost use mathlib.Core.Bool.{false};
 ghost use lib.ListN.{length};
 ghost use Rattle.refusal.specs.Outcomes.{outcomeOf, answered};
-ghost use Rattle.tape.specs.Layout.{readOutcome};
-ghost use Rattle.program.specs.Services.{unnamed, buildOutcome, buildRow, checkOutcome};
+ghost use Rattle.tape.specs.Layout.{readOutcome, readingOf};
+ghost use Rattle.program.specs.Services.{unnamed, buildOutcome, buildRow, checkOutcome, acceptOutcome};
 use builders::build_basic;
 use builders::build_dual;
 use builders::build_hybrid;
@@ -56,34 +56,44 @@ pub fn build(p: u32, r: u32, k: u32, variant: u32, row: &mut [u32]) -> Answer
 pub fn check(tape: &[u32]) -> Answer
     ensures { λ answer. ⌜ outcomeOf answer ≡ checkOutcome (now (tape .entry)) ⌝ }
 {
-    match tape::read(tape) {
+    match accept(tape) {
         Reading::Refused(e) => Answer::Refused(e),
-        Reading::Laid(header) => check_header(tape, header),
+        Reading::Laid(header) => Answer::Value(0),
+    }
+}
+
+// Check for the services that go on from there: an accepted tape's header.
+pub fn accept(tape: &[u32]) -> Reading
+    ensures { λ r. ⌜ readingOf r ≡ acceptOutcome (now (tape .entry)) ⌝ }
+{
+    match tape::read(tape) {
+        Reading::Refused(e) => Reading::Refused(e),
+        Reading::Laid(header) => accept_header(tape, header),
     }
 }
 
 // The refusals past the layout: 4, 1 and, for named programs, 2, 3, 8.
-fn check_header(tape: &[u32], header: Header) -> Answer
+fn accept_header(tape: &[u32], header: Header) -> Reading
     requires { ⌜ readOutcome (now tape) ≡ answered header ⌝ }
-    ensures { λ answer. ⌜ outcomeOf answer ≡ checkOutcome (now (tape .entry)) ⌝ }
+    ensures { λ r. ⌜ readingOf r ≡ acceptOutcome (now (tape .entry)) ⌝ }
 {
     if LAST_VARIANT < header.variant {
-        return Answer::Refused(Refusal::Variant);
+        return Reading::Refused(Refusal::Variant);
     }
     if header.variant != 0 {
-        return check_named(tape, header);
+        return accept_named(tape, header);
     }
     if is_bad_modulus(header.modulus) {
-        return Answer::Refused(Refusal::Modulus);
+        return Reading::Refused(Refusal::Modulus);
     }
-    Answer::Value(0)
+    Reading::Laid(header)
 }
 
 // A named program's refusals are build's 1, 2, 3; then its words are those that build writes, else 8.
-fn check_named(tape: &[u32], header: Header) -> Answer
+fn accept_named(tape: &[u32], header: Header) -> Reading
     requires { ⌜ readOutcome (now tape) ≡ answered header ⌝ }
     requires { ⌜ unnamed (header .variant) ≡ false ⌝ }
-    ensures { λ answer. ⌜ outcomeOf answer ≡ checkOutcome (now (tape .entry)) ⌝ }
+    ensures { λ r. ⌜ readingOf r ≡ acceptOutcome (now (tape .entry)) ⌝ }
 {
     let mut row = [0u32; MOST_WORDS];
     match build(
@@ -93,13 +103,13 @@ fn check_named(tape: &[u32], header: Header) -> Answer
         header.variant,
         &mut row,
     ) {
-        Answer::Refused(e) => Answer::Refused(e),
+        Answer::Refused(e) => Reading::Refused(e),
         Answer::Value(words) => {
             let n = words as usize;
             if same(tape, &row[..n]) {
-                return Answer::Value(0);
+                return Reading::Laid(header);
             }
-            Answer::Refused(Refusal::Mismatch)
+            Reading::Refused(Refusal::Mismatch)
         }
     }
 }

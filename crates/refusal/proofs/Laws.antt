@@ -1,2 +1,3 @@
--- Laws of rows that a call writes.
+-- Laws of lists of refusals, and of rows that a call writes.
+pub mod Rules
 pub mod Rows

@@ -1,7 +1,7 @@
 -- What a call comes to: a refusal's number, or the values it answers. "One number comes back: the first that applies;
 -- where none applies, the call isn't refused."
 use mathlib.Core.Path.{_≡_, refl}
-use mathlib.Core.Bool.{Bool, true, false}
+use mathlib.Core.Bool.{Bool, true, false, _||_}
 use mathlib.Core.List.{List, [], _∷_, _++_}
 use Prim.Native.Nat.{ℕ}
 use lib.ListN.{length, drop}
@@ -24,6 +24,11 @@ unfoldable pub outcome : {A : Type 0} → List Rule → A → Outcome A
 outcome [] x = answered x
 outcome ((e given-if true) ∷ rules) x = refused (numberOf e)
 outcome ((e given-if false) ∷ rules) x = outcome rules x
+
+-- some test of the list holds
+unfoldable pub applies : List Rule → Bool
+applies [] = false
+applies ((e given-if t) ∷ rules) = t || applies rules
 
 -- the outcome that an `Answer` of the code stands for
 abbrev pub outcomeOf : Answer → Outcome ℕ

@@ -2,22 +2,27 @@
 -- out and give its p, r, k and variant back, and they are the words that check compares them with.
 use mathlib.Core.Path.{_≡_, sym, ap, _∙_}
 use mathlib.Core.Bool.{false, not}
-use Prim.Native.Nat.{ℕ, _-_, _≤_}
+use mathlib.Core.List.{List}
+use Prim.Native.Nat.{ℕ, _-_, _≤_, _<_}
 use native.Mathlib.Nat.{le-of-dvd}
 use native.Mathlib.Omega.{arith}
 use lib.ListN.{length}
 use Rattle.refusal.specs.Outcomes.{answered, passes, answers}
-use Rattle.modular.specs.Inverses.{badExponent}
+use Rattle.modular.specs.Primes.{Prime}
+use Rattle.modular.specs.Inverses.{inverse, badExponent}
+use Rattle.modular.proofs.Laws.Primes.{prime-test}
 use Rattle.modular.proofs.Laws.Inverses.{good-exponent}
 use Rattle.tape.specs.declared.Header.{Header}
+use Rattle.tape.specs.Layout.{headerOf, stepsOf}
 use Rattle.tape.proofs.Laws.Reading.{ReadAs, length-good}
-use Rattle.tape.proofs.Laws.Layout.{LawfulProgram, program-length, program-laid-out, program-header}
+use Rattle.tape.proofs.Laws.Layout.{LawfulProgram, program-length, program-laid-out, program-header, program-steps}
+use Rattle.program.specs.Generators.{Raises, Lowers}
 use Rattle.program.specs.Named.{namedSteps, namedProgram, namedWords}
 use Rattle.program.specs.Services.{badModulus, badOrder, unnamed, checkOutcome}
 use Rattle.program.proofs.Laws.Parameters.{good-modulus, good-order, named-some, named-most}
 use Rattle.program.proofs.Laws.Same.{same-itself}
-use Rattle.program.proofs.Laws.Named.{named-sound, named-words-short}
-use Rattle.program.proofs.Laws.Checking.{past-named}
+use Rattle.program.proofs.Laws.Named.{named-sound, named-words-short, named-steps-some, named-raises, named-lowers}
+use Rattle.program.proofs.Laws.Checking.{past-named, Accepted, AcceptedNamed}
 
 module _ (p r k variant : ℕ)
     (modulus : badModulus p ≡ false) (order : badOrder p r ≡ false) (exponent : badExponent k r ≡ false) (is : unnamed variant ≡ false) where
@@ -53,5 +58,31 @@ module _ (p r k variant : ℕ)
 
   pub named-accepted : checkOutcome (namedWords p r k variant) ≡ answered 0
   named-accepted =
-      past-named (namedWords p r k variant) header read is
+      past-named 0 (namedWords p r k variant) header read is
       ∙ passes _ _ _ modulus ∙ passes _ _ _ order ∙ passes _ _ _ exponent ∙ passes _ _ _ (ap not (same-itself (namedWords p r k variant))) ∙ answers 0
+
+-- ---- an accepted named program's steps, and what they do
+
+pub accepted-prime : (tape : List ℕ) → Accepted tape → Prime (headerOf tape .modulus)
+accepted-prime tape a = prime-test _ (good-modulus _ (a .modulus) .prime)
+
+module _ (tape : List ℕ) (a : AcceptedNamed tape) where
+  abbrev h : Header
+  h = headerOf tape
+
+  steps-named : stepsOf tape ≡ namedSteps (h .variant) (h .order) (h .exponent)
+  steps-named =
+      ap stepsOf (a .words)
+      ∙ program-steps _ (named-lawful (h .modulus) (h .order) (h .exponent) (h .variant) (a .modulus) (a .order) (a .exponent) (a .named))
+
+  prime : Prime (h .modulus)
+  prime = prime-test _ (good-modulus _ (a .modulus) .prime)
+
+  pub accepted-some : 0 < length (stepsOf tape)
+  accepted-some = rw steps-named (named-steps-some (h .variant) (h .order) (h .exponent) (a .named))
+
+  pub accepted-raises : Raises (h .modulus) (h .order) (h .exponent) (stepsOf tape)
+  accepted-raises = rw steps-named (named-raises (h .modulus) prime (h .variant) (h .order) (h .exponent) (a .exponent) (a .named))
+
+  pub accepted-lowers : Lowers (h .modulus) (h .order) (inverse (h .order) (h .exponent)) (stepsOf tape)
+  accepted-lowers = rw steps-named (named-lowers (h .modulus) prime (h .variant) (h .order) (h .exponent) (a .exponent) (a .named))

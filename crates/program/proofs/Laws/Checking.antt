@@ -9,36 +9,24 @@ use lib.Dec.{ltb}
 use lib.ListN.{length, take}
 use lib.Seq.{take-at}
 use borrow.Author.Tests.{ltb-false, lt-ltb, le-ltb, eq-eqb, ne-eqb, not-false}
-use Rattle.refusal.specs.declared.Refusal.{Refusal}
 use Rattle.refusal.specs.declared.Refusal.the-variants.{Modulus, Order, Exponent, Variant, Room, Mismatch}
 use Rattle.refusal.specs.Refusals.{numberOf}
-use Rattle.refusal.specs.Outcomes.{Outcome, Rule, refused, answered, outcome, _given-if_, gives, passes, answers, row-written}
+use Rattle.refusal.specs.Outcomes.{Rule, refused, answered, outcome, _given-if_, gives, passes, answers, row-written}
+use Rattle.refusal.proofs.Laws.Rules.{passed, andThen}
 use Rattle.modular.specs.Inverses.{badExponent}
 use Rattle.tape.specs.declared.Header.{Header}
 use Rattle.tape.specs.Layout.{headerOf, isLength, laidOut, readOutcome}
 use Rattle.tape.proofs.Laws.Reading.{ReadAs, reading-refused, reading-passed}
 use Rattle.program.specs.Named.{lastVariant, namedWords}
-use Rattle.program.specs.Services.{badModulus, badOrder, unnamed, buildOutcome, buildRow, sameWords, isNamed, builtFor, checkOutcome}
+use Rattle.program.specs.Services.{badModulus, badOrder, unnamed, buildOutcome, buildRow, sameWords, isNamed, builtFor, checkRules}
 use Rattle.program.proofs.Laws.Parameters.{named, named-some, named-most}
 use Rattle.program.proofs.Laws.Same.{same-equal}
 use Rattle.program.proofs.Laws.Named.{named-words-short}
 
 -- ---- lists of rules
 
--- a call that is answered has passed its first rule
-pub passed : {A : Type 0} (t : Bool) (e : Refusal) (rules : List Rule) (x y : A) → outcome ((e given-if t) ∷ rules) x ≡ answered y
-    → (t ≡ false) × (outcome rules x ≡ answered y)
-unfolding outcome
-passed true e rules x y a = let z : _≡_ {A = ℕ} 0 1 = cc in absurd (omega arith)
-passed false e rules x y a = (refl, a)
-
--- one call, and where it answers, another
-abbrev andThen : Outcome ℕ → Outcome ℕ → Outcome ℕ
-andThen (refused n) o = refused n
-andThen (answered x) o = o
-
 -- two lists that begin alike: the second is the first, where what follows there refuses nothing, and then what follows in it
-alike : (front more more′ : List Rule) (x y : ℕ) → (outcome front x ≡ answered x → outcome more x ≡ answered x)
+alike : {A B : Type 0} (front more more′ : List Rule) (x : A) (y : B) → (outcome front x ≡ answered x → outcome more x ≡ answered x)
     → outcome (front ++ more′) y ≡ andThen (outcome (front ++ more) x) (outcome more′ y)
 unfolding outcome
 alike [] more more′ x y f = rw (f refl)
@@ -81,41 +69,41 @@ rulesPast is-named tape h =
     ∷ (Mismatch given-if (is-named && not (sameWords tape (builtFor h))))
     ∷ []
 
-pub check-unread : (tape : List ℕ) (n : ℕ) → readOutcome tape ≡ refused n → checkOutcome tape ≡ refused n
-unfolding checkOutcome
-check-unread tape n e = reading-refused tape _ 0 n e
+pub check-unread : {A : Type 0} (x : A) (tape : List ℕ) (n : ℕ) → readOutcome tape ≡ refused n → outcome (checkRules tape) x ≡ refused n
+unfolding checkRules
+check-unread x tape n e = reading-refused tape _ x n e
 
-module _ (tape : List ℕ) (h : Header) (read : ReadAs tape h) where
-  past-layout : checkOutcome tape ≡ outcome ((Variant given-if ltb lastVariant (h .variant)) ∷ rulesPast (isNamed h) tape h) 0
-  unfolding checkOutcome
+module _ {A : Type 0} (x : A) (tape : List ℕ) (h : Header) (read : ReadAs tape h) where
+  past-layout : outcome (checkRules tape) x ≡ outcome ((Variant given-if ltb lastVariant (h .variant)) ∷ rulesPast (isNamed h) tape h) x
+  unfolding checkRules
   past-layout =
-      reading-passed tape _ 0 h read
-      ∙ ap (λ (g : Header). outcome ((Variant given-if ltb lastVariant (g .variant)) ∷ rulesPast (isNamed g) tape g) 0) (sym (read .header))
+      reading-passed tape _ x h read
+      ∙ ap (λ (g : Header). outcome ((Variant given-if ltb lastVariant (g .variant)) ∷ rulesPast (isNamed g) tape g) x) (sym (read .header))
 
-  pub check-variant : lastVariant < h .variant → checkOutcome tape ≡ refused (numberOf Variant)
+  pub check-variant : lastVariant < h .variant → outcome (checkRules tape) x ≡ refused (numberOf Variant)
   check-variant above = past-layout ∙ gives _ _ _ (lt-ltb lastVariant (h .variant) above)
 
-  past-variant : (is-named : Bool) → isNamed h ≡ is-named → h .variant ≤ lastVariant → checkOutcome tape ≡ outcome (rulesPast is-named tape h) 0
+  past-variant : (is-named : Bool) → isNamed h ≡ is-named → h .variant ≤ lastVariant → outcome (checkRules tape) x ≡ outcome (rulesPast is-named tape h) x
   past-variant is-named e most =
-      past-layout ∙ passes _ _ _ (le-ltb lastVariant (h .variant) most) ∙ ap (λ (t : Bool). outcome (rulesPast t tape h) 0) e
+      past-layout ∙ passes _ _ _ (le-ltb lastVariant (h .variant) most) ∙ ap (λ (t : Bool). outcome (rulesPast t tape h) x) e
 
   module _ (free : h .variant ≡ 0) where
-    past-free : checkOutcome tape ≡ outcome (rulesPast false tape h) 0
+    past-free : outcome (checkRules tape) x ≡ outcome (rulesPast false tape h) x
     past-free = past-variant false (ap not (eq-eqb (h .variant) 0 free)) (omega arith)
 
-    pub check-free-modulus : badModulus (h .modulus) ≡ true → checkOutcome tape ≡ refused (numberOf Modulus)
+    pub check-free-modulus : badModulus (h .modulus) ≡ true → outcome (checkRules tape) x ≡ refused (numberOf Modulus)
     check-free-modulus bad = past-free ∙ gives _ _ _ bad
 
-    pub check-free : badModulus (h .modulus) ≡ false → checkOutcome tape ≡ answered 0
-    check-free good = past-free ∙ passes _ _ _ good ∙ passes _ _ _ refl ∙ passes _ _ _ refl ∙ passes _ _ _ refl ∙ answers 0
+    pub check-free : badModulus (h .modulus) ≡ false → outcome (checkRules tape) x ≡ answered x
+    check-free good = past-free ∙ passes _ _ _ good ∙ passes _ _ _ refl ∙ passes _ _ _ refl ∙ passes _ _ _ refl ∙ answers x
 
   module _ (is : unnamed (h .variant) ≡ false) where
-    pub past-named : checkOutcome tape ≡ outcome (rulesPast true tape h) 0
+    pub past-named : outcome (checkRules tape) x ≡ outcome (rulesPast true tape h) x
     past-named = past-variant true (ap not (ne-eqb (h .variant) 0 (named-some (h .variant) is))) (named-most (h .variant) is)
 
     -- build refuses by its first three rules or not at all: the variant is one of the three, and 512 words are enough
-    as-built : checkOutcome tape
-        ≡ andThen (buildOutcome (h .modulus) (h .order) (h .exponent) (h .variant) 512) (outcome ((Mismatch given-if not (sameWords tape (builtFor h))) ∷ []) 0)
+    as-built : outcome (checkRules tape) x
+        ≡ andThen (buildOutcome (h .modulus) (h .order) (h .exponent) (h .variant) 512) (outcome ((Mismatch given-if not (sameWords tape (builtFor h))) ∷ []) x)
     unfolding buildOutcome
     as-built =
         past-named
@@ -123,7 +111,7 @@ module _ (tape : List ℕ) (h : Header) (read : ReadAs tape h) where
         ((Modulus given-if badModulus (h .modulus)) ∷ (Order given-if badOrder (h .modulus) (h .order)) ∷ (Exponent given-if badExponent (h .exponent) (h .order)) ∷ [])
         ((Variant given-if unnamed (h .variant)) ∷ (Room given-if ltb 512 (length (builtFor h))) ∷ [])
         ((Mismatch given-if not (sameWords tape (builtFor h))) ∷ [])
-        (length (builtFor h)) 0
+        (length (builtFor h)) x
         (λ e.
         let m = passed _ _ _ _ _ e in
         let o = passed _ _ _ _ _ (m .1) in
@@ -132,15 +120,15 @@ module _ (tape : List ℕ) (h : Header) (read : ReadAs tape h) where
         passes _ _ _ is ∙ passes _ _ _ (le-ltb 512 (length (builtFor h)) short) ∙ answers _)
 
     module _ (n : ℕ) where
-      pub check-not-built : buildOutcome (h .modulus) (h .order) (h .exponent) (h .variant) 512 ≡ refused n → checkOutcome tape ≡ refused n
+      pub check-not-built : buildOutcome (h .modulus) (h .order) (h .exponent) (h .variant) 512 ≡ refused n → outcome (checkRules tape) x ≡ refused n
       check-not-built e = as-built ∙ rw e
 
       module _ (built : buildOutcome (h .modulus) (h .order) (h .exponent) (h .variant) 512 ≡ answered n) where
-        pub check-other : sameWords tape (builtFor h) ≡ false → checkOutcome tape ≡ refused (numberOf Mismatch)
+        pub check-other : sameWords tape (builtFor h) ≡ false → outcome (checkRules tape) x ≡ refused (numberOf Mismatch)
         check-other e = as-built ∙ rw built (gives _ _ _ (ap not e))
 
-        pub check-same : sameWords tape (builtFor h) ≡ true → checkOutcome tape ≡ answered 0
-        check-same e = as-built ∙ rw built (passes _ _ _ (ap not e) ∙ answers 0)
+        pub check-same : sameWords tape (builtFor h) ≡ true → outcome (checkRules tape) x ≡ answered x
+        check-same e = as-built ∙ rw built (passes _ _ _ (ap not e) ∙ answers x)
 
 -- ---- an accepted tape
 
@@ -150,9 +138,9 @@ pub record Accepted (tape : List ℕ) : Type 0 where
   pub variant : headerOf tape .variant ≤ lastVariant
   pub modulus : badModulus (headerOf tape .modulus) ≡ false
 
-pub accepted : (tape : List ℕ) → checkOutcome tape ≡ answered 0 → Accepted tape
-unfolding checkOutcome
-accepted tape e =
+pub accepted : {A : Type 0} (x : A) {y : A} (tape : List ℕ) → outcome (checkRules tape) x ≡ answered y → Accepted tape
+unfolding checkRules
+accepted x tape e =
     let a = passed _ _ _ _ _ e in
     let b = passed _ _ _ _ _ (a .1) in
     let c = passed _ _ _ _ _ (b .1) in
@@ -168,12 +156,12 @@ pub record AcceptedNamed (tape : List ℕ) : Type 0 where
   pub exponent : badExponent (headerOf tape .exponent) (headerOf tape .order) ≡ false
   pub words : tape ≡ builtFor (headerOf tape)
 
-pub accepted-named : (tape : List ℕ) → checkOutcome tape ≡ answered 0 → ¬ (headerOf tape .variant ≡ 0) → AcceptedNamed tape
-accepted-named tape e some =
-    let all = accepted tape e in
+pub accepted-named : {A : Type 0} (x : A) {y : A} (tape : List ℕ) → outcome (checkRules tape) x ≡ answered y → ¬ (headerOf tape .variant ≡ 0) → AcceptedNamed tape
+accepted-named x tape e some =
+    let all = accepted x tape e in
     let is = named (headerOf tape .variant) some (all .variant) in
     let read : ReadAs tape (headerOf tape) = record { long = all .long; laid = all .laid; header = refl } in
-    let m = passed _ _ _ _ _ (sym (past-named tape (headerOf tape) read is) ∙ e) in
+    let m = passed _ _ _ _ _ (sym (past-named _ tape (headerOf tape) read is) ∙ e) in
     let o = passed _ _ _ _ _ (m .1) in
     let x = passed _ _ _ _ _ (o .1) in
     let s = passed _ _ _ _ _ (x .1) in

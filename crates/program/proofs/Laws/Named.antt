@@ -9,7 +9,7 @@ use native.Mathlib.Nat.{mod-lt, mod-mod}
 use native.Mathlib.Omega.{arith}
 use native.Mathlib.Decide.{ℕ-discrete}
 use lib.Dec.{eqb, ltb}
-use lib.ListN.{length}
+use lib.ListN.{length, length-append}
 use borrow.Author.Tests.{eqb-false, ltb-false}
 use Rattle.modular.specs.Primes.{Prime}
 use Rattle.modular.specs.Inverses.{Inverse, inverse, badExponent}
@@ -25,7 +25,7 @@ use Rattle.fibonacci.proofs.Laws.Lengths.{multiple-length, multiple-shift, ones
 use Rattle.tape.specs.declared.Step.{Step}
 use Rattle.tape.specs.Steps.{AllSound}
 use Rattle.tape.proofs.Laws.Layout.{program-length}
-use Rattle.program.specs.Generators.{Raises, Lowers}
+use Rattle.program.specs.Generators.{dual, hybrid, Raises, Lowers}
 use Rattle.program.specs.Named.{basicSteps, dualForm, dualSteps, hybridSteps, lastVariant, namedSteps, namedProgram, namedWords}
 use Rattle.program.specs.Services.{badModulus, badOrder, unnamed}
 use Rattle.program.proofs.Laws.Parameters.{good-modulus, order-below}
@@ -192,6 +192,14 @@ named-is variant e =
       | yes one ↦ inl one
       | no not-one ↦ inr (elim (ℕ-discrete variant 2) [ yes two ↦ inl two | no not-two ↦ inr (omega arith) ])
     ]
+
+-- each has a swap at least
+pub named-steps-some : (variant r k : ℕ) → unnamed variant ≡ false → 0 < length (namedSteps variant r k)
+unfolding namedSteps basicSteps dualSteps hybridSteps dual hybrid
+named-steps-some variant r k named =
+    ⊎-elim (λ e. rw e (omega (arith, basic-length (zeckendorf k) (zeckendorf (inverse r k)))))
+    (λ more. ⊎-elim (λ e. rw e (rw length-append (omega arith))) (λ e. rw e (omega arith)) more)
+    (named-is variant named)
 
 module _ (p : ℕ) (pr : Prime p) (variant r k : ℕ) (good : badExponent k r ≡ false) (named : unnamed variant ≡ false) where
   pub named-raises : Raises p r k (namedSteps variant r k)

@@ -1,13 +1,13 @@
--- `check` meets its contract: what reading the tape refuses, check refuses, and the rules past the layout are `check_header`'s.
+-- `check` meets its contract: the rules are those of `accept`, and only the answer differs.
 use mathlib.Core.Path.{sym, ap, _∙_}
 use borrow.Author.Needs.{needs}
+use Rattle.refusal.proofs.Laws.Rules.{still-refused, still-answered}
 use Rattle.tape.specs.Layout.{readingOf}
-use Rattle.program.proofs.Laws.Checking.{check-unread}
 use Rattle.program.proofs.check.Statement.{statement}
 use Rattle.program.proofs.check.Tie as tie
 
-read-requires : tie.Need-read-requires
-read-requires c κs = search needs
+accept-requires : tie.Need-accept-requires
+accept-requires c κs = search needs
 
 enum-known-e : tie.Need-enum-known-e
 enum-known-e c = search needs
@@ -15,16 +15,11 @@ enum-known-e c = search needs
 enum-known-header : tie.Need-enum-known-header
 enum-known-header c = search needs
 
-check-header-requires : tie.Need-check-header-requires
-check-header-requires c κs = sym (c .before .before .before .read .ensures) ∙ ap readingOf (c .before .header .given .1)
-
 returns : tie.Need-returns
-returns c = sym (check-unread _ _ (sym (c .before .before .before .read .ensures) ∙ ap readingOf (c .before .e .given .1)))
+returns c = sym (still-refused _ 0 _ (sym (c .before .before .before .accept .ensures) ∙ ap readingOf (c .before .e .given .1)))
 
 returns-2 : tie.Need-returns-2
-returns-2 c = search needs
+returns-2 c = sym (still-answered _ 0 _ (sym (c .before .before .before .accept .ensures) ∙ ap readingOf (c .before .header .given .1)))
 
 pub check-spec : {M : Type 1} → statement M
-check-spec =
-    tie.close
-    (tie.spec read-requires enum-known-e enum-known-header check-header-requires returns returns-2)
+check-spec = tie.close (tie.spec accept-requires enum-known-e enum-known-header returns returns-2)

@@ -1,4 +1,4 @@
--- `check_named` meets its contract: check of a named program is build into 512 words, then the comparison with what build wrote,
+-- `accept_named` meets its contract: check of a named program is build into 512 words, then the comparison with what build wrote,
 -- which stands at the front of the row.
 use mathlib.Core.Path.{_≡_, sym, ap, _∙_}
 use mathlib.Core.List.{List}
@@ -13,8 +13,8 @@ use Rattle.tape.specs.declared.Header.{Header}
 use Rattle.tape.proofs.Laws.Reading.{read-answered}
 use Rattle.program.specs.Services.{buildOutcome, builtFor, sameWords}
 use Rattle.program.proofs.Laws.Checking.{build-count, build-words, check-not-built, check-other, check-same}
-use Rattle.program.proofs.check_named.Statement.{statement}
-use Rattle.program.proofs.check_named.Tie as tie
+use Rattle.program.proofs.accept_named.Statement.{statement}
+use Rattle.program.proofs.accept_named.Tie as tie
 
 slice-aggregate-build : tie.Need-slice-aggregate-build
 slice-aggregate-build c = search needs
@@ -71,21 +71,22 @@ returns : tie.Need-returns
 returns c =
     let words = c .before .before .before .before in
     let start = words .before .before .before .before .before .before in
-    sym (check-same _ _ (read-answered _ _ (start .pre .0)) (start .pre .1) _ (built words) (compared (c .before) ∙ c .if1 .taken))
+    let read = read-answered _ _ (start .pre .0) in
+    ap answered (read .header) ∙ sym (check-same _ _ _ read (start .pre .1) _ (built words) (compared (c .before) ∙ c .if1 .taken))
 
 returns-2 : tie.Need-returns-2
 returns-2 c =
     let start = c .before .before .before .before .before .before .before in
-    sym (check-not-built _ _ (read-answered _ _ (start .pre .0)) (start .pre .1) _ (not-built (c .before)))
+    sym (check-not-built _ _ _ (read-answered _ _ (start .pre .0)) (start .pre .1) _ (not-built (c .before)))
 
 returns-3 : tie.Need-returns-3
 returns-3 c =
     let words = c .before .before .before .before in
     let start = words .before .before .before .before .before .before in
-    sym (check-other _ _ (read-answered _ _ (start .pre .0)) (start .pre .1) _ (built words) (compared (c .before) ∙ c .if1 .left))
+    sym (check-other _ _ _ (read-answered _ _ (start .pre .0)) (start .pre .1) _ (built words) (compared (c .before) ∙ c .if1 .left))
 
-pub check-named-spec : {M : Type 1} → statement M
-check-named-spec =
+pub accept-named-spec : {M : Type 1} → statement M
+accept-named-spec =
     tie.close
     (tie.spec
     slice-aggregate-build

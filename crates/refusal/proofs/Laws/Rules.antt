@@ -1,0 +1,72 @@
+-- Lists of refusals: rules behind others only count where those refuse nothing, and a call that is answered has passed each rule.
+use mathlib.Core.Path.{_≡_, refl, _∙_}
+use mathlib.Core.Logic.{_⊎_, inl, inr}
+use mathlib.Core.Bool.{Bool, true, false}
+use mathlib.Core.List.{List, [], _∷_, _++_}
+use Prim.Native.Nat.{ℕ}
+use native.Mathlib.Omega.{arith}
+use Rattle.refusal.specs.declared.Refusal.{Refusal}
+use Rattle.refusal.specs.Refusals.{numberOf}
+use Rattle.refusal.specs.Outcomes.{Outcome, Rule, refused, answered, outcome, applies, _given-if_}
+
+-- a call that is answered has passed its first rule
+pub passed : {A : Type 0} (t : Bool) (e : Refusal) (rules : List Rule) (x y : A) → outcome ((e given-if t) ∷ rules) x ≡ answered y
+    → (t ≡ false) × (outcome rules x ≡ answered y)
+unfolding outcome
+passed true e rules x y a = let z : _≡_ {A = ℕ} 0 1 = cc in absurd (omega arith)
+passed false e rules x y a = (refl, a)
+
+-- one call, and where it answers, another
+abbrev pub andThen : {A B : Type 0} → Outcome A → Outcome B → Outcome B
+andThen (refused n) o = refused n
+andThen (answered x) o = o
+
+module _ {A B : Type 0} (x : A) (y : B) where
+  -- the same rules with another answer
+  alone : (rules : List Rule) → outcome rules y ≡ andThen (outcome rules x) (answered y)
+  unfolding outcome
+  alone [] = refl
+  alone ((e given-if true) ∷ rules) = refl
+  alone ((e given-if false) ∷ rules) = alone rules
+
+  -- rules behind others
+  behind : (front more : List Rule) → outcome (front ++ more) y ≡ andThen (outcome front x) (outcome more y)
+  unfolding outcome
+  behind [] more = refl
+  behind ((e given-if true) ∷ front) more = refl
+  behind ((e given-if false) ∷ front) more = behind front more
+
+  pub still-refused : (rules : List Rule) {n : ℕ} → outcome rules x ≡ refused n → outcome rules y ≡ refused n
+  still-refused rules e = alone rules ∙ rw e
+
+  pub still-answered : (rules : List Rule) {z : A} → outcome rules x ≡ answered z → outcome rules y ≡ answered y
+  still-answered rules e = alone rules ∙ rw e
+
+  pub refused-before : (front more : List Rule) {n : ℕ} → outcome front x ≡ refused n → outcome (front ++ more) y ≡ refused n
+  refused-before front more e = behind front more ∙ rw e
+
+  pub passed-before : (front more : List Rule) {z : A} → outcome front x ≡ answered z → outcome (front ++ more) y ≡ outcome more y
+  passed-before front more e = behind front more ∙ rw e
+
+-- a call that is answered has passed all its rules
+pub answered-before : {A : Type 0} (front more : List Rule) (x : A) {z : A} → outcome (front ++ more) x ≡ answered z
+    → (outcome front x ≡ answered x) × (outcome more x ≡ answered z)
+unfolding outcome
+answered-before [] more x e = (refl, e)
+answered-before ((r given-if true) ∷ front) more x e = let z : _≡_ {A = ℕ} 0 1 = cc in absurd (omega arith)
+answered-before ((r given-if false) ∷ front) more x e = answered-before front more x e
+
+-- and what it answers is the answer
+pub answer-is : {A : Type 0} (rules : List Rule) (x : A) {z : A} → outcome rules x ≡ answered z → z ≡ x
+unfolding outcome
+answer-is [] x e = cc
+answer-is ((r given-if true) ∷ rules) x e = let z : _≡_ {A = ℕ} 0 1 = cc in absurd (omega arith)
+answer-is ((r given-if false) ∷ rules) x e = answer-is rules x e
+
+-- a call is refused exactly where a refusal of its list applies
+pub refused-where : {A : Type 0} (rules : List Rule) (x : A)
+    → ((applies rules ≡ true) × ((n : ℕ) × (outcome rules x ≡ refused n))) ⊎ ((applies rules ≡ false) × (outcome rules x ≡ answered x))
+unfolding outcome applies
+refused-where [] x = inr (refl, refl)
+refused-where ((e given-if true) ∷ rules) x = inl (refl, (numberOf e, refl))
+refused-where ((e given-if false) ∷ rules) x = refused-where rules x
