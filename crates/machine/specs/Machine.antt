@@ -11,6 +11,11 @@ use Rattle.modular.specs.Residues.{Residue, times}
 use Rattle.modular.specs.Inverses.{inverse}
 use Rattle.tape.specs.declared.Step.{Step}
 use Rattle.tape.specs.declared.Step.the-variants.{Mul, Div, Swp}
+use Rattle.machine.specs.declared.Registers.{Registers}
+
+-- what the four registers of the code hold, by their numbers
+abbrev pub valuesOf : Registers → List ℕ
+valuesOf registers = registers .c ∷ registers .d ∷ registers .e ∷ registers .f ∷ []
 
 -- register i
 abbrev pub reg : List ℕ → ℕ → ℕ

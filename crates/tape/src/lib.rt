@@ -3,7 +3,7 @@ mod layout;
 
 ghost use mathlib.Core.Path.{_≡_};
 ghost use Rattle.tape.specs.Words.{decoded, headingIn, actionIn, swapIn};
-ghost use Rattle.tape.specs.Layout.{readOutcome, readingOf, stepAt};
+ghost use Rattle.tape.specs.Layout.{readOutcome, readingOf, stepAt, stepOf};
 use layout::HEADER_WORDS;
 use layout::MOST_WORDS;
 use layout::OTHER_WORDS;
@@ -94,6 +94,22 @@ pub fn step_at(tape: &[u32], position: usize) -> Decoded
         return Decoded::Bad;
     }
     means_at(tape, HEADER_WORDS + position)
+}
+
+// The step that a word's meaning is; mul 0 1 stands for what is none, and a tape that is laid out has none such between its header
+// and its end.
+pub fn step_of(d: Decoded) -> Step
+    ensures { λ s. ⌜ s ≡ stepOf d ⌝ }
+{
+    match d {
+        Decoded::Heading(_) => Step::Mul(0, 1),
+        Decoded::P(_) => Step::Mul(0, 1),
+        Decoded::R(_) => Step::Mul(0, 1),
+        Decoded::K(_) => Step::Mul(0, 1),
+        Decoded::Action(step) => step,
+        Decoded::End(_) => Step::Mul(0, 1),
+        Decoded::Bad => Step::Mul(0, 1),
+    }
 }
 
 // Reads a tape's header and tests its layout: 6, 7.

@@ -2,17 +2,17 @@
 -- from i to k, with no cases.
 use mathlib.Core.Path.{_≡_, refl, sym, _∙_, ap}
 use mathlib.Core.Bool.{Bool, true, false, cond}
-use mathlib.Core.List.{List, _++_}
-use Prim.Native.Nat.{ℕ, _≤_}
+use mathlib.Core.List.{List, [], _∷_, _++_}
+use Prim.Native.Nat.{ℕ, suc, _+_, _≤_, _<_}
 use native.Mathlib.Omega.{arith}
 use lib.Dec.{leb}
-use lib.ListN.{length, take, drop, take-append-drop}
-use lib.Seq.{slice, take-take, take-length}
+use lib.ListN.{length, getD, take, drop, take-append-drop}
+use lib.Seq.{slice, slice-empty, slice-cons, take-take, take-length, take-suc, length-take-le, drop-append-le}
 use borrow.Author.Tests.{leb-true, leb-false}
 use Rattle.modular.specs.Primes.{Prime}
 use Rattle.tape.specs.declared.Step.{Step}
 use Rattle.tape.specs.Steps.{AllSound}
-use Rattle.machine.specs.Machine.{doAll, undoAll, run, Good}
+use Rattle.machine.specs.Machine.{apply, opposite, doAll, undoAll, run, Good}
 use Rattle.machine.proofs.Laws.Steps.{sound-append-left, sound-append-right, doAll-append, undoAll-append, good-doAll, good-undoAll, undo-do, do-undo}
 
 sound-take : (n : ℕ) (xs : List Step) → AllSound xs → AllSound (take n xs)
@@ -22,6 +22,42 @@ sound-take n xs a = sound-append-left (take n xs) (drop n xs) (rw take-append-dr
 take-slice : (i j : ℕ) (xs : List Step) → i ≤ j → take j xs ≡ take i xs ++ slice i j xs
 take-slice i j xs h =
     sym (take-append-drop i (take j xs)) ∙ ap (λ (l : List Step). l ++ slice i j xs) (take-take i j xs h)
+
+-- ---- one step of a run
+
+module _ (p : ℕ) (xs : List Step) (v : List ℕ) (i j : ℕ) (there : i ≡ j) where
+  none : slice i j xs ≡ []
+  none = ap (λ (n : ℕ). slice n j xs) there ∙ slice-empty j xs
+
+  pub do-none : doAll p (slice i j xs) v ≡ v
+  unfolding doAll
+  do-none = ap (λ (l : List Step). doAll p l v) none
+
+  pub undo-none : undoAll p (slice i j xs) v ≡ v
+  unfolding undoAll
+  undo-none = ap (λ (l : List Step). undoAll p l v) none
+
+module _ (p : ℕ) (xs : List Step) (x : Step) (v : List ℕ) where
+  -- done, the first of the steps goes first
+  pub do-next : (i j : ℕ) → i < j → j ≤ length xs → doAll p (slice i j xs) v ≡ doAll p (slice (i + 1) j xs) (apply p (getD xs i x) v)
+  unfolding doAll
+  do-next i j h k =
+      let next : suc i ≡ i + 1 = omega arith in
+      ap (λ (l : List Step). doAll p l v) (slice-cons i j xs x h k)
+      ∙ ap (λ (n : ℕ). doAll p (slice n j xs) (apply p (getD xs i x) v)) next
+
+  -- undone, the last of them
+  pub undo-next : (i j : ℕ) → j ≤ i → i < length xs
+      → undoAll p (slice j (i + 1) xs) v ≡ undoAll p (slice j i xs) (apply p (opposite (getD xs i x)) v)
+  unfolding undoAll
+  undo-next i j h k =
+      let next : i + 1 ≡ suc i = omega arith in
+      let inside : j ≤ length (take i xs) = omega (arith, length-take-le i xs (omega arith)) in
+      ap (λ (l : List Step). undoAll p (drop j l) v) (ap (λ (n : ℕ). take n xs) next ∙ take-suc xs i x k)
+      ∙ ap (λ (l : List Step). undoAll p l v) (drop-append-le j (take i xs) (getD xs i x ∷ []) inside)
+      ∙ undoAll-append p (slice j i xs) (getD xs i x ∷ []) v
+
+-- ---- runs
 
 module _ (p : ℕ) (pr : Prime p) (xs : List Step) (a : AllSound xs) where
   pub run-form : (i j : ℕ) (v : List ℕ) → Good p v → run p xs i j v ≡ doAll p (take j xs) (undoAll p (take i xs) v)

@@ -6,14 +6,14 @@ use mathlib.Core.List.{List, [], _∷_, map}
 use Prim.Native.Nat.{ℕ, suc, _+_, _≤_, _<_}
 use native.Mathlib.Omega.{arith}
 use lib.Dec.{eqb}
-use lib.ListN.{length, List·getD-eq-default}
-use lib.Seq.{slice, slice-empty, slice-cons}
+use lib.ListN.{length, getD, take, List·getD-eq-default, List·getD-map}
+use lib.Seq.{slice, slice-empty, slice-cons, getD-drop, getD-take}
 use borrow.Author.Tests.{eqb-true, eq-eqb, ne-eqb}
 use Rattle.tape.specs.declared.Step.{Step}
 use Rattle.tape.specs.declared.Decoded.the-variants.{Bad}
 use Rattle.tape.specs.Steps.{AllSound}
 use Rattle.tape.specs.Words.{decoded, stepWord, encoded}
-use Rattle.tape.specs.Layout.{stepCount, stepAt, stepWords, sortOf, meansAt, stepsIn, allSteps}
+use Rattle.tape.specs.Layout.{stepCount, stepAt, stepWords, sortOf, stepOf, meansAt, stepsIn, stepsOf, allSteps}
 use Rattle.tape.proofs.Laws.Tests.{both}
 use Rattle.tape.proofs.Laws.Words.{decoded-step, decoded-lawful, decoded-zero, step-sound, word-again}
 
@@ -60,6 +60,13 @@ module _ (tape : List ℕ) (i : ℕ) (inside : i < stepCount tape) where
 pub steps-end : (tape : List ℕ) (n : ℕ) → allSteps (stepWords tape n n) ≡ true
 unfolding allSteps
 steps-end tape n = rw (slice-empty (4 + n) tape)
+
+-- the step numbered i + 1
+pub steps-at : (tape : List ℕ) (i : ℕ) → i < stepCount tape → getD (stepsOf tape) i (stepOf (decoded 0)) ≡ stepOf (decoded (stepAt tape i))
+steps-at tape i inside =
+    List·getD-map (λ (w : ℕ). stepOf (decoded w)) (stepWords tape 0 (stepCount tape)) i 0
+    ∙ ap (λ (w : ℕ). stepOf (decoded w))
+    (getD-drop 4 (take (4 + stepCount tape) tape) i 0 ∙ getD-take (4 + stepCount tape) tape (4 + i) 0 (omega arith))
 
 -- past the tape a word is 0, which means nothing
 pub means-past : (tape : List ℕ) (i : ℕ) → length tape ≤ i → meansAt tape i ≡ Bad
