@@ -1,0 +1,7 @@
+-- Load and run by cases, what their answers say, and demand 3.
+pub mod Cases
+pub mod Travel
+pub mod Requests
+pub mod Answers
+pub mod Chains
+pub mod Rewinds

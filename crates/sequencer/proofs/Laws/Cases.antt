@@ -1,0 +1,122 @@
+-- Load and run by cases: what check refuses, they refuse, and on an accepted tape their own rules are left.
+use mathlib.Core.Path.{_≡_, sym, ap, _∙_}
+use mathlib.Core.Bool.{true, false, not, _||_, or-true, or-false}
+use mathlib.Core.List.{List, [], _∷_}
+use Prim.Native.Nat.{ℕ, _≤_, _<_, _%_, _^_}
+use lib.Dec.{leb, ltb, eqb}
+use borrow.Author.Tests.{lt-ltb, le-ltb, eq-eqb, ne-eqb}
+use Rattle.refusal.specs.declared.Refusal.the-variants.{Register, Position, Base}
+use Rattle.refusal.specs.Refusals.{numberOf}
+use Rattle.refusal.specs.Outcomes.{Rule, refused, answered, outcome, _given-if_, gives, passes, answers}
+use Rattle.refusal.proofs.Laws.Rules.{refused-before, passed-before, answer-is}
+use Rattle.tape.specs.declared.Header.{Header}
+use Rattle.tape.specs.Layout.{headerOf, stepCount, stepsOf}
+use Rattle.machine.specs.Machine.{run, start}
+use Rattle.program.specs.Services.{checkRules, acceptOutcome}
+use Rattle.program.proofs.Laws.Checking.{accepted}
+use Rattle.program.proofs.Laws.Parameters.{good-modulus}
+use Rattle.sequencer.specs.Services.{badRegister, badRegisters, allowed, badBase, loadOutcome, runOutcome, runRules}
+
+-- ---- the tests
+
+module _ (p x : ℕ) where
+  pub register-zero : x ≡ 0 → badRegister p x ≡ true
+  unfolding badRegister
+  register-zero e = rw (eq-eqb x 0 e)
+
+  pub register-some : ¬ (x ≡ 0) → badRegister p x ≡ leb p x
+  unfolding badRegister
+  register-some ne = rw (ne-eqb x 0 ne)
+
+-- several numbers: the first is bad, or the others decide
+module _ (p x : ℕ) (v : List ℕ) where
+  pub registers-first : badRegister p x ≡ true → badRegisters p (x ∷ v) ≡ true
+  unfolding badRegisters
+  registers-first e = rw e
+
+  pub registers-others : badRegister p x ≡ false → badRegisters p (x ∷ v) ≡ badRegisters p v
+  unfolding badRegisters
+  registers-others e = rw e
+
+pub registers-last : (p x : ℕ) → badRegisters p (x ∷ []) ≡ badRegister p x
+unfolding badRegisters
+registers-last p x = or-false (badRegister p x)
+
+module _ (h : Header) (a : ℕ) where
+  pub base-free : h .variant ≡ 0 → badBase h a ≡ false
+  unfolding badBase
+  base-free e = rw (eq-eqb (h .variant) 0 e)
+
+  pub base-named : ¬ (h .variant ≡ 0) → badBase h a ≡ not (eqb (a ^ (h .order) % h .modulus) 1)
+  unfolding badBase allowed
+  base-named ne = rw (ne-eqb (h .variant) 0 ne)
+
+-- ---- refused by check
+
+module _ (tape : List ℕ) (n : ℕ) (e : acceptOutcome tape ≡ refused n) where
+  pub load-unaccepted : (a : ℕ) → loadOutcome tape a ≡ refused n
+  unfolding loadOutcome
+  load-unaccepted a = refused-before (headerOf tape) (start a) (checkRules tape) _ e
+
+  pub run-unaccepted : (v : List ℕ) (from goal : ℕ) → runOutcome tape v from goal ≡ refused n
+  unfolding runOutcome runRules
+  run-unaccepted v from goal = refused-before (headerOf tape) _ (checkRules tape) _ e
+
+-- ---- accepted
+
+module _ (tape : List ℕ) (h : Header) (e : acceptOutcome tape ≡ answered h) where
+  pub header-is : h ≡ headerOf tape
+  header-is = answer-is (checkRules tape) (headerOf tape) e
+
+  pub steps-are : h .steps ≡ stepCount tape
+  steps-are = ap (λ (g : Header). g .steps) header-is
+
+  pub modulus-some : 3 ≤ h .modulus
+  modulus-some = rw header-is (good-modulus _ (accepted (headerOf tape) tape e .modulus) .low)
+
+  module _ (a : ℕ) where
+    load-rules : loadOutcome tape a
+        ≡ outcome ((Register given-if badRegister (h .modulus) a) ∷ (Base given-if badBase h a) ∷ []) (start a)
+    unfolding loadOutcome
+    load-rules =
+        passed-before (headerOf tape) (start a) (checkRules tape) _ e
+        ∙ ap (λ (g : Header). outcome ((Register given-if badRegister (g .modulus) a) ∷ (Base given-if badBase g a) ∷ []) (start a)) (sym header-is)
+
+    pub load-register : badRegister (h .modulus) a ≡ true → loadOutcome tape a ≡ refused (numberOf Register)
+    load-register bad = load-rules ∙ gives _ _ _ bad
+
+    pub load-base : badRegister (h .modulus) a ≡ false → badBase h a ≡ true → loadOutcome tape a ≡ refused (numberOf Base)
+    load-base good bad = load-rules ∙ passes _ _ _ good ∙ gives _ _ _ bad
+
+    pub load-start : badRegister (h .modulus) a ≡ false → badBase h a ≡ false → loadOutcome tape a ≡ answered (start a)
+    load-start good may = load-rules ∙ passes _ _ _ good ∙ passes _ _ _ may ∙ answers _
+
+  module _ (v : List ℕ) (from goal : ℕ) where
+    abbrev there : Header → List ℕ
+    there g = run (g .modulus) (stepsOf tape) from goal v
+
+    abbrev rules : Header → List Rule
+    rules g =
+        (Register given-if badRegisters (g .modulus) v)
+        ∷ (Position given-if (ltb (g .steps) from || ltb (g .steps) goal))
+        ∷ []
+
+    run-rules : runOutcome tape v from goal ≡ outcome (rules h) (there h)
+    unfolding runOutcome runRules
+    run-rules =
+        passed-before (headerOf tape) (there (headerOf tape)) (checkRules tape) _ e
+        ∙ ap (λ (g : Header). outcome (rules g) (there g)) (sym header-is)
+
+    pub run-register : badRegisters (h .modulus) v ≡ true → runOutcome tape v from goal ≡ refused (numberOf Register)
+    run-register bad = run-rules ∙ gives _ _ _ bad
+
+    module _ (good : badRegisters (h .modulus) v ≡ false) where
+      pub run-from : h .steps < from → runOutcome tape v from goal ≡ refused (numberOf Position)
+      run-from past = run-rules ∙ passes _ _ _ good ∙ gives _ _ _ (rw (lt-ltb (h .steps) from past))
+
+      pub run-goal : h .steps < goal → runOutcome tape v from goal ≡ refused (numberOf Position)
+      run-goal past = run-rules ∙ passes _ _ _ good ∙ gives _ _ _ (rw (lt-ltb (h .steps) goal past, or-true (ltb (h .steps) from)))
+
+      pub run-there : from ≤ h .steps → goal ≤ h .steps → runOutcome tape v from goal ≡ answered (there h)
+      run-there low high =
+          run-rules ∙ passes _ _ _ good ∙ passes _ _ _ (rw (le-ltb (h .steps) from low, le-ltb (h .steps) goal high)) ∙ answers _

@@ -1,0 +1,111 @@
+-- Demand 3, chain: the registers stay (1, a^E, 1, 1). A run end to end of a named program raises b = a^E to b^k, or undone to b^K, and
+-- b^r = 1 too, so its exponent may be reduced modulo r; a refused run changes neither registers nor E.
+use mathlib.Core.Path.{_≡_, refl, sym, ap, ap₂, subst, _∙_}
+use mathlib.Core.Logic.{⊎-elim}
+use mathlib.Core.Bool.{true, false}
+use mathlib.Core.List.{List, [], _∷_}
+use Prim.Native.Nat.{ℕ, _*_, _%_, _^_}
+use native.Mathlib.Omega.{arith}
+use lib.Dec.{ltb}
+use lib.ListN.{length}
+use borrow.Author.Tests.{lt-ltb, le-ltb, eqb-false, not-true}
+use Rattle.refusal.specs.Outcomes.{Outcome, refused, answered}
+use Rattle.modular.specs.Primes.{Prime}
+use Rattle.modular.specs.Residues.{Residue}
+use Rattle.modular.specs.Inverses.{inverse}
+use Rattle.modular.proofs.Laws.Powers.{pow-pow, pow-order, residue-pow}
+use Rattle.tape.specs.declared.Step.{Step}
+use Rattle.tape.specs.Layout.{headerOf, stepsOf}
+use Rattle.tape.proofs.Laws.Layout.{steps-count}
+use Rattle.machine.specs.Machine.{run, start}
+use Rattle.machine.proofs.Laws.Steps.{good-start}
+use Rattle.machine.proofs.Laws.Runs.{run-forward, run-backward}
+use Rattle.program.specs.Generators.{Raises, Lowers}
+use Rattle.program.proofs.Laws.Exponents.{power-one}
+use Rattle.program.proofs.Laws.Targets.{order-power}
+use Rattle.program.proofs.Laws.Checking.{AcceptedNamed, accepted-named}
+use Rattle.program.proofs.Laws.Accepting.{accepted-some, accepted-raises, accepted-lowers}
+use Rattle.sequencer.specs.Lists.{Request, answerTo, left, leftBy}
+use Rattle.sequencer.specs.Demand.{EndToEnd, Link, Links, factor, factored, exponentAfter, ChainEnds}
+use Rattle.sequencer.proofs.Laws.Answers.{steps-sound, prime-of, load-answered, run-answered, each-as-said}
+
+module _ (p : ℕ) (pr : Prime p) (r a : ℕ) (ra : Residue p a) (ord : a ^ r % p ≡ 1) where
+  -- (1, a^n, 1, 1) by n modulo r, from a power of the power of a before
+  reduced : (E n : ℕ) → start ((a ^ E % p) ^ n % p) ≡ start (a ^ (E * n % r) % p)
+  reduced E n = ap start (pow-pow p a E n ∙ sym (pow-order p a r (E * n) ord))
+
+  -- one run end to end, at (1, a^E, 1, 1)
+  module _ (q : Request) (end : EndToEnd p r q) (E : ℕ) where
+    abbrev xs : List Step
+    xs = stepsOf (q .tape)
+
+    abbrev k : ℕ
+    k = headerOf (q .tape) .exponent
+
+    abbrev b : ℕ
+    b = a ^ E % p
+
+    residue : Residue p b
+    residue = residue-pow p pr a E ra
+
+    is-named : AcceptedNamed (q .tape)
+    is-named = accepted-named 0 (q .tape) (end .accepted) (eqb-false _ 0 (not-true _ (end .named)))
+
+    raises : Raises p r k xs
+    raises =
+        subst (λ (n : ℕ). Raises n r k xs) (end .modulus)
+        (subst (λ (n : ℕ). Raises (headerOf (q .tape) .modulus) n k xs) (end .order) (accepted-raises (q .tape) is-named))
+
+    lowers : Lowers p r (inverse r k) xs
+    lowers =
+        subst (λ (n : ℕ). Lowers n r (inverse r k) xs) (end .modulus)
+        (subst (λ (n : ℕ). Lowers (headerOf (q .tape) .modulus) n (inverse n k) xs) (end .order) (accepted-lowers (q .tape) is-named))
+
+    goal-is : headerOf (q .tape) .steps ≡ length xs
+    goal-is = sym (steps-count (q .tape))
+
+    forward : q .from ≡ 0 → q .goal ≡ length xs → run p xs (q .from) (q .goal) (start b) ≡ start (a ^ (E * factor r q % r) % p)
+    forward e f =
+        let up : ltb (q .from) (q .goal) ≡ true = lt-ltb (q .from) (q .goal) (omega (arith, accepted-some (q .tape) is-named)) in
+        ap₂ (λ (i j : ℕ). run p xs i j (start b)) e f
+        ∙ run-forward p pr xs (steps-sound (q .tape)) (start b) (good-start p pr b residue)
+        ∙ raises b residue (order-power p pr a r E ord)
+        ∙ rw up (reduced E k)
+
+    backward : q .from ≡ length xs → q .goal ≡ 0 → run p xs (q .from) (q .goal) (start b) ≡ start (a ^ (E * factor r q % r) % p)
+    backward e f =
+        let down : ltb (q .from) (q .goal) ≡ false = le-ltb (q .from) (q .goal) (omega arith) in
+        ap₂ (λ (i j : ℕ). run p xs i j (start b)) e f
+        ∙ run-backward p pr xs (steps-sound (q .tape)) (start b) (good-start p pr b residue)
+        ∙ lowers b residue (order-power p pr a r E ord)
+        ∙ rw down (reduced E (inverse r k))
+
+    pub linked : run (headerOf (q .tape) .modulus) xs (q .from) (q .goal) (start b) ≡ start (a ^ (E * factor r q % r) % p)
+    linked =
+        ap (λ (n : ℕ). run n xs (q .from) (q .goal) (start b)) (end .modulus)
+        ∙ ⊎-elim (λ e. forward (e .0) (e .1 ∙ goal-is)) (λ e. backward (e .0 ∙ goal-is) (e .1)) (end .ends)
+
+  from-there : (qs : List Request) (E : ℕ) (v : List ℕ) → v ≡ start (a ^ E % p) → Links p r v qs
+      → leftBy qs v ≡ start (a ^ exponentAfter r v qs E % p)
+  unfolding leftBy Links exponentAfter
+  from-there [] E v e h = e
+  from-there (q ∷ qs) E v e h = go (answerTo q v) refl (from-there qs) (h .0) (h .1)
+    where
+      go : (answer : Outcome (List ℕ)) → answerTo q v ≡ answer
+          → ((E′ : ℕ) (v′ : List ℕ) → v′ ≡ start (a ^ E′ % p) → Links p r v′ qs → leftBy qs v′ ≡ start (a ^ exponentAfter r v′ qs E′ % p))
+          → Link p r q answer → Links p r (left answer v) qs
+          → leftBy qs (left answer v) ≡ start (a ^ exponentAfter r (left answer v) qs (factored r q answer E) % p)
+      go (refused n) was rest link links = rest E v e links
+      go (answered w) was rest link links =
+          rest (E * factor r q % r) w
+          (run-answered (q .tape) v (q .from) (q .goal) w was
+          ∙ ap (run (headerOf (q .tape) .modulus) (stepsOf (q .tape)) (q .from) (q .goal)) e
+          ∙ linked q link E)
+          links
+
+pub chain : (qs : List Request) (v : List ℕ) → ChainEnds qs v (leftBy qs v)
+chain qs v p r a c =
+    let pr : Prime p = subst Prime (c .modulus) (prime-of (c .tape) (c .accepted)) in
+    let load = load-answered (c .tape) a v (c .loaded) in
+    let ra : Residue p a = subst (λ (n : ℕ). Residue n a) (c .modulus) (load .base) in
+    (each-as-said v qs, from-there p pr r a ra (c .order) qs 1 v (load .registers ∙ ap start (sym (power-one p pr a ra))) (c .links))

@@ -1,0 +1,68 @@
+-- A list of requests as words: four words from an index on are its next request, and fewer are none.
+use mathlib.Core.Path.{_≡_, refl, sym, ap, _∙_}
+use mathlib.Core.Bool.{and-false}
+use mathlib.Core.List.{List, [], _∷_}
+use Prim.Native.Nat.{ℕ, suc, _+_, _-_, _≤_, _<_}
+use native.Mathlib.Omega.{arith}
+use lib.Dec.{leb}
+use lib.ListN.{length, getD, take, drop, length-drop}
+use lib.Seq.{drop-cons}
+use borrow.Author.Tests.{le-leb, lt-leb}
+use Rattle.sequencer.specs.Services.{runOutcome}
+use Rattle.sequencer.specs.Lists.{Request, left, leftBy, part, requestsOf}
+
+-- ---- the part of a row
+
+module _ (row : List ℕ) (begin end : ℕ) where
+  pub part-reversed : end < begin → part row begin end ≡ []
+  unfolding part
+  part-reversed h = rw (lt-leb begin end h)
+
+  pub part-past : length row < end → part row begin end ≡ []
+  unfolding part
+  part-past h = rw (lt-leb end (length row) h, and-false (leb begin end))
+
+  pub part-inside : begin ≤ end → end ≤ length row → part row begin end ≡ take (end - begin) (drop begin row)
+  unfolding part
+  part-inside h k = rw (le-leb begin end h, le-leb end (length row) k)
+
+-- ---- the next request
+
+fewer : (row words : List ℕ) → length words < 4 → requestsOf row words ≡ []
+unfolding requestsOf
+fewer row [] h = refl
+fewer row (a ∷ []) h = refl
+fewer row (a ∷ b ∷ []) h = refl
+fewer row (a ∷ b ∷ c ∷ []) h = refl
+fewer row (a ∷ b ∷ c ∷ d ∷ words) h = absurd (omega arith)
+
+module _ (row words : List ℕ) (i : ℕ) where
+  -- the word at an index, and those past it
+  next-word : (j : ℕ) → j < length words → drop j words ≡ getD words j 0 ∷ drop (j + 1) words
+  next-word j h = let next : suc j ≡ j + 1 = omega arith in drop-cons words j 0 h ∙ ap (λ (n : ℕ). getD words j 0 ∷ drop n words) next
+
+  four-words : i + 4 ≤ length words
+      → drop i words ≡ getD words i 0 ∷ getD words (i + 1) 0 ∷ getD words (i + 2) 0 ∷ getD words (i + 3) 0 ∷ drop (i + 4) words
+  four-words h =
+      let a = next-word i (omega arith) in
+      let b = next-word (i + 1) (omega arith) in
+      let c = next-word (i + 2) (omega arith) in
+      let d = next-word (i + 3) (omega arith) in
+      let two : i + 1 + 1 ≡ i + 2 = omega arith in
+      let three : i + 2 + 1 ≡ i + 3 = omega arith in
+      let four : i + 3 + 1 ≡ i + 4 = omega arith in
+      cc (a, b, c, d, two, three, four)
+
+  -- what the list leaves is what the requests past the next make of what that one leaves
+  pub left-next : (tape v w : List ℕ) → i + 4 ≤ length words → tape ≡ part row (getD words i 0) (getD words (i + 1) 0)
+      → w ≡ left (runOutcome tape v (getD words (i + 2) 0) (getD words (i + 3) 0)) v
+      → leftBy (requestsOf row (drop (i + 4) words)) w ≡ leftBy (requestsOf row (drop i words)) v
+  unfolding leftBy requestsOf
+  left-next tape v w h is after =
+      ap (leftBy (requestsOf row (drop (i + 4) words)))
+      (after ∙ ap (λ (t : List ℕ). left (runOutcome t v (getD words (i + 2) 0) (getD words (i + 3) 0)) v) is)
+      ∙ sym (ap (λ (l : List ℕ). leftBy (requestsOf row l) v) (four-words h))
+
+  pub left-last : (v : List ℕ) → length words - i < 4 → leftBy (requestsOf row (drop i words)) v ≡ v
+  unfolding leftBy
+  left-last v h = ap (λ (qs : List Request). leftBy qs v) (fewer row (drop i words) (omega (arith, length-drop i words)))

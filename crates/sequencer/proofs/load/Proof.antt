@@ -1,0 +1,36 @@
+-- `load` meets its contract: what check refuses, load refuses, and the rules past it are `load_accepted`'s.
+use mathlib.Core.Path.{sym, ap, _∙_}
+use Rattle.tape.specs.Layout.{readingOf}
+use Rattle.sequencer.proofs.Laws.Cases.{load-unaccepted}
+use borrow.Author.Needs.{needs}
+use Rattle.sequencer.proofs.load.Statement.{statement}
+use Rattle.sequencer.proofs.load.Tie as tie
+
+accept-requires : tie.Need-accept-requires
+accept-requires c κs = search needs
+
+enum-known-e : tie.Need-enum-known-e
+enum-known-e c = search needs
+
+enum-known-header : tie.Need-enum-known-header
+enum-known-header c = search needs
+
+load-accepted-requires : tie.Need-load-accepted-requires
+load-accepted-requires c κs = sym (c .before .before .before .accept .ensures) ∙ ap readingOf (c .before .header .given .1)
+
+returns : tie.Need-returns
+returns c = sym (load-unaccepted _ _ (sym (c .before .before .before .accept .ensures) ∙ ap readingOf (c .before .e .given .1)) _)
+
+returns-2 : tie.Need-returns-2
+returns-2 c = search needs
+
+pub load-spec : {M : Type 1} → statement M
+load-spec =
+    tie.close
+    (tie.spec
+    accept-requires
+    enum-known-e
+    enum-known-header
+    load-accepted-requires
+    returns
+    returns-2)

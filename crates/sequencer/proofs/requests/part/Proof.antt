@@ -1,0 +1,43 @@
+-- `requests::part` meets its contract: outside the row the part is empty, and inside it is the slice.
+use mathlib.Core.Path.{sym}
+use borrow.Author.Needs.{needs}
+use Rattle.sequencer.proofs.Laws.Requests.{part-reversed, part-past, part-inside}
+use Rattle.sequencer.proofs.requests.part.Statement.{statement}
+use Rattle.sequencer.proofs.requests.part.Tie as tie
+
+slice-aggregate-result : tie.Need-slice-aggregate-result
+slice-aggregate-result c = search needs
+
+returns : tie.Need-returns
+returns c = sym (part-reversed _ _ _ (c .before .if1 .taken))
+
+slice-aggregate-result-2 : tie.Need-slice-aggregate-result-2
+slice-aggregate-result-2 c = search needs
+
+returns-2 : tie.Need-returns-2
+returns-2 c = sym (part-past _ _ _ (c .before .if2 .taken))
+
+mul-result : tie.Need-mul-result
+mul-result c = search needs
+
+part-result-start : tie.Need-part-result-start
+part-result-start c = search needs
+
+part-result-end : tie.Need-part-result-end
+part-result-end c = search needs
+
+returns-3 : tie.Need-returns-3
+returns-3 c = sym (part-inside _ _ _ (c .before .before .if1 .left) (c .before .if2 .left))
+
+pub part-spec : {M : Type 1} → statement M
+part-spec =
+    tie.close
+    (tie.spec
+    slice-aggregate-result
+    returns
+    slice-aggregate-result-2
+    returns-2
+    mul-result
+    part-result-start
+    part-result-end
+    returns-3)

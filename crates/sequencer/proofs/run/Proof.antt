@@ -1,0 +1,36 @@
+-- `run` meets its contract: what check refuses, run refuses, and the rules past it are `run_accepted`'s.
+use mathlib.Core.Path.{sym, ap, _∙_}
+use Rattle.tape.specs.Layout.{readingOf}
+use Rattle.sequencer.proofs.Laws.Cases.{run-unaccepted}
+use borrow.Author.Needs.{needs}
+use Rattle.sequencer.proofs.run.Statement.{statement}
+use Rattle.sequencer.proofs.run.Tie as tie
+
+accept-requires : tie.Need-accept-requires
+accept-requires c κs = search needs
+
+enum-known-e : tie.Need-enum-known-e
+enum-known-e c = search needs
+
+enum-known-header : tie.Need-enum-known-header
+enum-known-header c = search needs
+
+run-accepted-requires : tie.Need-run-accepted-requires
+run-accepted-requires c κs = sym (c .before .before .before .accept .ensures) ∙ ap readingOf (c .before .header .given .1)
+
+returns : tie.Need-returns
+returns c = sym (run-unaccepted _ _ (sym (c .before .before .before .accept .ensures) ∙ ap readingOf (c .before .e .given .1)) _ _ _)
+
+returns-2 : tie.Need-returns-2
+returns-2 c = search needs
+
+pub run-spec : {M : Type 1} → statement M
+run-spec =
+    tie.close
+    (tie.spec
+    accept-requires
+    enum-known-e
+    enum-known-header
+    run-accepted-requires
+    returns
+    returns-2)

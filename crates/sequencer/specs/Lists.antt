@@ -1,0 +1,42 @@
+-- A list of runs, one after another. The list gives tapes and positions only: each run gets the registers as they stand after
+-- the runs before it, and what it makes of them is what run's own contract says.
+use mathlib.Core.Bool.{cond, _&&_}
+use mathlib.Core.List.{List, [], _∷_}
+use Prim.Native.Nat.{ℕ, _-_}
+use lib.Dec.{leb}
+use lib.ListN.{length, take, drop}
+use Rattle.refusal.specs.Outcomes.{Outcome, refused, answered}
+use Rattle.sequencer.specs.Services.{runOutcome}
+
+pub record Request : Type 0 where
+  pub tape : List ℕ
+  pub from : ℕ
+  pub goal : ℕ
+
+-- what run answers to a request at registers v
+abbrev pub answerTo : Request → List ℕ → Outcome (List ℕ)
+answerTo q v = runOutcome (q .tape) v (q .from) (q .goal)
+
+-- the registers after an answer: a refused run leaves them as they are
+abbrev pub left : Outcome (List ℕ) → List ℕ → List ℕ
+left (refused n) v = v
+left (answered w) v = w
+
+-- the registers after all runs of a list
+unfoldable pub leftBy : List Request → List ℕ → List ℕ
+leftBy [] v = v
+leftBy (q ∷ qs) v = leftBy qs (left (answerTo q v) v)
+
+-- ---- requests as words
+
+-- the part of a row from one index to another; outside the row, nothing
+unfoldable pub part : List ℕ → ℕ → ℕ → List ℕ
+part row begin end = cond (leb begin end && leb end (length row)) (take (end - begin) (drop begin row)) []
+
+-- Four words make a request: where its tape begins and ends in the row, and its two positions. Fewer words than four make none.
+unfoldable pub requestsOf : List ℕ → List ℕ → List Request
+requestsOf row [] = []
+requestsOf row (begin ∷ []) = []
+requestsOf row (begin ∷ end ∷ []) = []
+requestsOf row (begin ∷ end ∷ from ∷ []) = []
+requestsOf row (begin ∷ end ∷ from ∷ goal ∷ words) = record { tape = part row begin end; from = from; goal = goal } ∷ requestsOf row words

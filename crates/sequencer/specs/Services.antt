@@ -1,0 +1,60 @@
+-- Load and run: check's refusals, then their own, else the four registers.
+use mathlib.Core.Bool.{Bool, false, not, _&&_, _||_}
+use mathlib.Core.List.{List, [], _∷_, _++_}
+use Prim.Native.Nat.{ℕ, _%_, _^_}
+use lib.Dec.{leb, ltb, eqb}
+use Rattle.refusal.specs.declared.Refusal.the-variants.{Register, Position, Base}
+use Rattle.refusal.specs.Refusals.{numberOf}
+use Rattle.refusal.specs.Outcomes.{Outcome, Rule, refused, answered, outcome, _given-if_}
+use Rattle.tape.specs.declared.Header.{Header}
+use Rattle.tape.specs.Layout.{headerOf, stepsOf}
+use Rattle.machine.specs.Machine.{valuesOf, run, start}
+use Rattle.program.specs.Services.{isNamed, checkRules}
+use Rattle.sequencer.specs.declared.Standing.{Standing}
+use Rattle.sequencer.specs.declared.Standing.the-variants.{At, Refused}
+
+-- refusal 9: a register or base is 0 or at least p
+unfoldable pub badRegister : ℕ → ℕ → Bool
+badRegister p x = eqb x 0 || leb p x
+
+-- and so is one of several
+unfoldable pub badRegisters : ℕ → List ℕ → Bool
+badRegisters p [] = false
+badRegisters p (x ∷ v) = badRegister p x || badRegisters p v
+
+-- a base that a named program takes: a^r is 1
+unfoldable pub allowed : Header → ℕ → Bool
+allowed h a = eqb (a ^ (h .order) % h .modulus) 1
+
+-- refusal 11: named program, a^r isn't 1
+unfoldable pub badBase : Header → ℕ → Bool
+badBase h a = isNamed h && not (allowed h a)
+
+-- load: (1, a, 1, 1)
+unfoldable pub loadOutcome : List ℕ → ℕ → Outcome (List ℕ)
+loadOutcome tape a =
+    let h = headerOf tape in
+    outcome
+    (checkRules tape
+    ++ (Register given-if badRegister (h .modulus) a)
+    ∷ (Base given-if badBase h a)
+    ∷ [])
+    (start a)
+
+-- the refusals listed for run
+unfoldable pub runRules : List ℕ → List ℕ → ℕ → ℕ → List Rule
+runRules tape v from goal =
+    let h = headerOf tape in
+    checkRules tape
+    ++ (Register given-if badRegisters (h .modulus) v)
+    ∷ (Position given-if (ltb (h .steps) from || ltb (h .steps) goal))
+    ∷ []
+
+-- run: the registers at its goal
+unfoldable pub runOutcome : List ℕ → List ℕ → ℕ → ℕ → Outcome (List ℕ)
+runOutcome tape v from goal = outcome (runRules tape v from goal) (run (headerOf tape .modulus) (stepsOf tape) from goal v)
+
+-- the outcome that a `Standing` of the code stands for
+abbrev pub standingOf : Standing → Outcome (List ℕ)
+standingOf (At registers) = answered (valuesOf registers)
+standingOf (Refused e) = refused (numberOf e)

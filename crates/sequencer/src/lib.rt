@@ -1,0 +1,104 @@
+// Document 01, "Services and refusals": load, run, and lists of runs.
+mod requests;
+mod tests;
+mod travel;
+
+ghost use mathlib.Core.Path.{_≡_};
+ghost use Rattle.refusal.specs.Outcomes.{answered};
+ghost use Rattle.machine.specs.Machine.{valuesOf};
+ghost use Rattle.program.specs.Services.{acceptOutcome};
+ghost use Rattle.sequencer.specs.Services.{standingOf, loadOutcome, runOutcome};
+ghost use Rattle.sequencer.specs.Lists.{leftBy, requestsOf};
+ghost use Rattle.sequencer.specs.Demand.{ChainEnds, RewindEnds};
+use machine::Registers;
+use refusal::Refusal;
+use requests::left;
+use requests::part;
+use tape::Header;
+use tape::Reading;
+use tests::is_bad_base;
+use tests::is_bad_register;
+use tests::is_some_bad;
+use travel::travel;
+
+// What load and run answer: the four registers, or a refusal.
+pub enum Standing {
+    At(Registers),
+    Refused(Refusal),
+}
+
+// The words of a request in a list of runs.
+const REQUEST_WORDS: usize = 4;
+
+// The registers (1, a, 1, 1) for a base a: check's refusals, 9, and for named programs 11.
+pub fn load(tape: &[u32], base: u32) -> Standing
+    ensures { λ answer. ⌜ standingOf answer ≡ loadOutcome (now (tape .entry)) base ⌝ }
+{
+    match program::accept(tape) {
+        Reading::Refused(e) => Standing::Refused(e),
+        Reading::Laid(header) => load_accepted(tape, header, base),
+    }
+}
+
+// The registers at position `to`, from those at position `from`: check's refusals, 9, 10.
+pub fn run(tape: &[u32], registers: Registers, from: u32, to: u32) -> Standing
+    ensures { λ answer. ⌜ standingOf answer ≡ runOutcome (now (tape .entry)) (valuesOf registers) from to ⌝ }
+{
+    match program::accept(tape) {
+        Reading::Refused(e) => Standing::Refused(e),
+        Reading::Laid(header) => run_accepted(tape, header, registers, from, to),
+    }
+}
+
+// A list of runs, one after another, each on the registers that those before it left. A request is four words: where its tape begins
+// and ends in the row, and its two positions. A tape outside the row is empty, so its run is refused; nothing else is.
+pub fn play(row: &[u32], requests: &[u32], registers: Registers) -> Registers
+    ensures { λ after. ⌜ valuesOf after ≡ leftBy (requestsOf (now (row .entry)) (now (requests .entry))) (valuesOf registers) ⌝ }
+    ensures { λ after. ⌜ ChainEnds (requestsOf (now (row .entry)) (now (requests .entry))) (valuesOf registers) (valuesOf after) ⌝ }
+    ensures { λ after. ⌜ RewindEnds (requestsOf (now (row .entry)) (now (requests .entry))) (valuesOf registers) (valuesOf after) ⌝ }
+{
+    let mut after = registers;
+    let mut i: usize = 0;
+    while REQUEST_WORDS <= requests.len() - i {
+        let tape = part(row, requests[i], requests[i + 1]);
+        after = left(run(tape, after, requests[i + 2], requests[i + 3]), after);
+        i += REQUEST_WORDS;
+    }
+    after
+}
+
+// Load on a program that is accepted: 9, 11.
+fn load_accepted(tape: &[u32], header: Header, base: u32) -> Standing
+    requires { ⌜ acceptOutcome (now tape) ≡ answered header ⌝ }
+    ensures { λ answer. ⌜ standingOf answer ≡ loadOutcome (now (tape .entry)) base ⌝ }
+{
+    if is_bad_register(header.modulus, base) {
+        return Standing::Refused(Refusal::Register);
+    }
+    if is_bad_base(header, base) {
+        return Standing::Refused(Refusal::Base);
+    }
+    Standing::At(Registers {
+        c: 1,
+        d: base,
+        e: 1,
+        f: 1,
+    })
+}
+
+// Run of a program that is accepted: 9, 10.
+fn run_accepted(tape: &[u32], header: Header, registers: Registers, from: u32, to: u32) -> Standing
+    requires { ⌜ acceptOutcome (now tape) ≡ answered header ⌝ }
+    ensures { λ answer. ⌜ standingOf answer ≡ runOutcome (now (tape .entry)) (valuesOf registers) from to ⌝ }
+{
+    if is_some_bad(header.modulus, registers) {
+        return Standing::Refused(Refusal::Register);
+    }
+    if header.steps < from {
+        return Standing::Refused(Refusal::Position);
+    }
+    if header.steps < to {
+        return Standing::Refused(Refusal::Position);
+    }
+    Standing::At(travel(tape, header.modulus, registers, from as usize, to as usize))
+}

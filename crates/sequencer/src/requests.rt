@@ -1,0 +1,32 @@
+// What a list of runs is made of.
+ghost use mathlib.Core.Path.{_≡_};
+ghost use Rattle.machine.specs.Machine.{valuesOf};
+ghost use Rattle.sequencer.specs.Services.{standingOf};
+ghost use Rattle.sequencer.specs.Lists.{part, left};
+use crate::Standing;
+use machine::Registers;
+
+// The part of a row from one index to another; outside the row, the empty part.
+pub(crate) fn part(row: &[u32], begin: u32, end: u32) -> &[u32]
+    ensures { λ r. ⌜ now r ≡ part (now (row .entry)) begin end ⌝ }
+{
+    let first = begin as usize;
+    let past = end as usize;
+    if past < first {
+        return &row[..0];
+    }
+    if row.len() < past {
+        return &row[..0];
+    }
+    &row[first..past]
+}
+
+// The registers after a run: a refused one leaves them as they are.
+pub(crate) fn left(answer: Standing, registers: Registers) -> Registers
+    ensures { λ r. ⌜ valuesOf r ≡ left (standingOf answer) (valuesOf registers) ⌝ }
+{
+    match answer {
+        Standing::At(after) => after,
+        Standing::Refused(e) => registers,
+    }
+}
