@@ -1,3 +1,7 @@
--- Laws of steps and of going from one position to another.
+-- Laws of steps, of going from one position to another, and of whole exponents.
 pub mod Steps
 pub mod Runs
+pub mod Lists
+pub mod Integers
+pub mod Exponents
+pub mod Ranges

@@ -15,7 +15,7 @@ use Rattle.tape.specs.Steps.{AllSound}
 use Rattle.machine.specs.Machine.{apply, opposite, doAll, undoAll, run, Good}
 use Rattle.machine.proofs.Laws.Steps.{sound-append-left, sound-append-right, doAll-append, undoAll-append, good-doAll, good-undoAll, undo-do, do-undo}
 
-sound-take : (n : ℕ) (xs : List Step) → AllSound xs → AllSound (take n xs)
+pub sound-take : (n : ℕ) (xs : List Step) → AllSound xs → AllSound (take n xs)
 sound-take n xs a = sound-append-left (take n xs) (drop n xs) (rw take-append-drop a)
 
 -- the first j steps are the first i and those between

@@ -1,0 +1,174 @@
+-- Whole exponents: a step and its opposite undo each other, and each register holds a to its exponent, since a power of a sum is
+-- the product of the powers, for exponents of either sign.
+use mathlib.Core.Path.{_≡_, refl, sym, _∙_, ap, ap₂}
+use mathlib.Core.Logic.{_≢_}
+use mathlib.Core.Bool.{Bool, true, false, cond}
+use mathlib.Core.List.{List, [], _∷_, _++_, map}
+use Prim.Native.Nat.{ℕ, zero, suc, _+_, _-_, _%_, _^_, _<_}
+use native.Mathlib.Nat.{sub-add-cancel, mod-eq-of-lt, pow-zero}
+use native.Mathlib.Omega.{arith}
+use lib.Dec.{ltb}
+use lib.IntN.{ℤ, pos, negsuc, negℤ, _+ℤ_, _-ℤ_, subℕ, +ℤ-negℤ-cancel, -ℤ-+ℤ-cancel}
+use lib.ListN.{length, getD, set, take, length-set}
+use lib.Seq.{set-set, set-getD, getD-set-same, getD-set-other}
+use borrow.Author.Tests.{ltb-true, ltb-false}
+use Rattle.modular.specs.Primes.{Prime}
+use Rattle.modular.specs.Residues.{Residue, times}
+use Rattle.modular.specs.Inverses.{inverse}
+use Rattle.modular.proofs.Laws.Residues.{times-comm, times-assoc, times-one}
+use Rattle.modular.proofs.Laws.Group.{residue-inverse, inverse-times, inverse-inverse, inverse-one, inverse-product, mul-div}
+use Rattle.modular.proofs.Laws.Powers.{times-pow, pow-one, residue-pow}
+use Rattle.tape.specs.declared.Step.{Step}
+use Rattle.tape.specs.declared.Step.the-variants.{Mul, Div, Swp}
+use Rattle.tape.specs.Steps.{Sound, AllSound}
+use Rattle.machine.specs.Machine.{apply, opposite, doAll, undoAll, run, back, start}
+use Rattle.machine.specs.Exponents.{exponent, shift, shiftAll, startExponents, exponentsAt, powerOf}
+use Rattle.machine.proofs.Laws.Lists.{exchange-twice, getD-map, map-set}
+use Rattle.machine.proofs.Laws.Steps.{good-start}
+use Rattle.machine.proofs.Laws.Runs.{sound-take, run-form}
+
+-- ---- steps on exponents
+
+pub length-shift : (x : Step) (z : List ℤ) → length (shift x z) ≡ length z
+unfolding shift
+length-shift (Mul t s) z = simp length-set
+length-shift (Div t s) z = simp length-set
+length-shift (Swp t s) z = simp length-set
+
+pub shift-append : (xs ys : List Step) (z : List ℤ) → shiftAll (xs ++ ys) z ≡ shiftAll ys (shiftAll xs z)
+unfolding shiftAll
+shift-append [] ys z = refl
+shift-append (x ∷ xs) ys z = shift-append xs ys (shift x z)
+
+-- a step and its opposite
+pub shift-opposite : (x : Step) (z : List ℤ) → Sound x → length z ≡ 4 → shift (opposite x) (shift x z) ≡ z
+unfolding shift opposite
+shift-opposite (Mul t s) z a n =
+    let k : t < length z = rw n (a .target-is-one) in
+    let ne : s ≢ t = λ e. a .differ (sym e) in
+    simp (getD-set-same, getD-set-other, set-set, +ℤ-negℤ-cancel, set-getD)
+shift-opposite (Div t s) z a n =
+    let k : t < length z = rw n (a .target-is-one) in
+    let ne : s ≢ t = λ e. a .differ (sym e) in
+    simp (getD-set-same, getD-set-other, set-set, -ℤ-+ℤ-cancel, set-getD)
+shift-opposite (Swp t s) z a n =
+    exchange-twice (pos 0) z t s (rw n (a .0 .target-is-one)) (rw n (a .0 .source-is-one)) (a .0 .differ)
+
+-- a list and the list taken back
+pub shift-back : (xs : List Step) (z : List ℤ) → AllSound xs → length z ≡ 4 → shiftAll (back xs) (shiftAll xs z) ≡ z
+unfolding shiftAll back
+shift-back [] z a n = refl
+shift-back (x ∷ xs) z a n =
+    shift-append (back xs) (opposite x ∷ []) (shiftAll xs (shift x z))
+    ∙ ap (shift (opposite x)) (shift-back xs (shift x z) (a .1) (length-shift x z ∙ n))
+    ∙ shift-opposite x z (a .0) n
+
+-- ---- powers
+
+module _ (p : ℕ) (pr : Prime p) (a : ℕ) (ra : Residue p a) where
+  power : ℕ → ℕ
+  power n = a ^ n % p
+
+  power-residue : (n : ℕ) → Residue p (power n)
+  unfolding power
+  power-residue n = residue-pow p pr a n ra
+
+  power-times : (m n : ℕ) → times p (power m) (power n) ≡ power (m + n)
+  unfolding power
+  power-times m n = times-pow p pr a m n
+
+  power-zero : power 0 ≡ 1
+  unfolding power
+  power-zero = ap (λ (x : ℕ). x % p) (pow-zero a) ∙ mod-eq-of-lt (pr .least)
+
+  power-one : power 1 ≡ a
+  unfolding power
+  power-one = ap (λ (x : ℕ). x % p) (pow-one a) ∙ mod-eq-of-lt (ra .high)
+
+  -- of a difference of natural numbers
+  power-difference : (m n : ℕ) → powerOf p a (subℕ m n) ≡ times p (power m) (inverse p (power n))
+  unfolding powerOf power
+  power-difference m n = go (ltb m n) refl
+    where
+      go : (b : Bool) → ltb m n ≡ b → powerOf p a (cond b (negsuc (n - suc m)) (pos (m - n))) ≡ times p (power m) (inverse p (power n))
+      go true e =
+          let h : m < n = ltb-true m n e in
+          let d : ℕ = suc (n - suc m) in
+          let s : d + m ≡ n = omega arith in
+          sym
+          (ap (λ (x : ℕ). times p (power m) (inverse p x)) (ap power (sym s) ∙ sym (power-times d m))
+          ∙ ap (times p (power m)) (inverse-product p pr (power d) (power m) (power-residue d) (power-residue m))
+          ∙ times-comm p (power m) (times p (inverse p (power d)) (inverse p (power m)))
+          ∙ times-assoc p (inverse p (power d)) (inverse p (power m)) (power m)
+          ∙ ap (times p (inverse p (power d))) (inverse-times p pr (power m) (power-residue m))
+          ∙ times-one p (inverse p (power d)) (residue-inverse p pr (power d) (power-residue d)))
+      go false e =
+          sym
+          (ap (λ (x : ℕ). times p x (inverse p (power n))) (ap power (sym (sub-add-cancel (ltb-false m n e))) ∙ sym (power-times (m - n) n))
+          ∙ mul-div p pr (power (m - n)) (power n) (power-residue (m - n)) (power-residue n))
+
+  -- of a sum, of the opposite and of a difference
+  pub powerOf-sum : (x y : ℤ) → powerOf p a (x +ℤ y) ≡ times p (powerOf p a x) (powerOf p a y)
+  unfolding powerOf power
+  powerOf-sum (pos m) (pos n) = sym (power-times m n)
+  powerOf-sum (pos m) (negsuc n) = power-difference m (suc n)
+  powerOf-sum (negsuc m) (pos n) = power-difference n (suc m) ∙ times-comm p (power n) (inverse p (power (suc m)))
+  powerOf-sum (negsuc m) (negsuc n) =
+      ap (inverse p) (ap power (omega arith) ∙ sym (power-times (suc m) (suc n)))
+      ∙ inverse-product p pr (power (suc m)) (power (suc n)) (power-residue (suc m)) (power-residue (suc n))
+
+  powerOf-opposite : (x : ℤ) → powerOf p a (negℤ x) ≡ inverse p (powerOf p a x)
+  unfolding powerOf power
+  powerOf-opposite (pos zero) = power-zero ∙ sym (ap (inverse p) power-zero ∙ inverse-one p pr)
+  powerOf-opposite (pos (suc n)) = refl
+  powerOf-opposite (negsuc n) = sym (inverse-inverse p pr (power (suc n)) (power-residue (suc n)))
+
+  pub powerOf-less : (x y : ℤ) → powerOf p a (x -ℤ y) ≡ times p (powerOf p a x) (inverse p (powerOf p a y))
+  powerOf-less x y = powerOf-sum x (negℤ y) ∙ ap (times p (powerOf p a x)) (powerOf-opposite y)
+
+-- ---- each register holds a to its exponent
+
+module _ (p : ℕ) (pr : Prime p) (a : ℕ) (ra : Residue p a) where
+  abbrev held : List ℤ → List ℕ
+  held z = map (powerOf p a) z
+
+  held-at : (z : List ℤ) (i : ℕ) → length z ≡ 4 → i < 4 → powerOf p a (exponent z i) ≡ getD (held z) i 0
+  held-at z i n h = sym (getD-map (powerOf p a) z i (pos 0) 0 (rw n h))
+
+  apply-held : (x : Step) (z : List ℤ) → Sound x → length z ≡ 4 → apply p x (held z) ≡ held (shift x z)
+  unfolding apply shift
+  apply-held (Mul t s) z h n =
+      sym
+      (map-set (powerOf p a) z t (exponent z t +ℤ exponent z s)
+      ∙ ap (set (held z) t)
+      (powerOf-sum p pr a ra (exponent z t) (exponent z s)
+      ∙ ap₂ (times p) (held-at z t n (h .target-is-one)) (held-at z s n (h .source-is-one))))
+  apply-held (Div t s) z h n =
+      sym
+      (map-set (powerOf p a) z t (exponent z t -ℤ exponent z s)
+      ∙ ap (set (held z) t)
+      (powerOf-less p pr a ra (exponent z t) (exponent z s)
+      ∙ ap₂ (λ (x y : ℕ). times p x (inverse p y)) (held-at z t n (h .target-is-one)) (held-at z s n (h .source-is-one))))
+  apply-held (Swp t s) z h n =
+      sym
+      (map-set (powerOf p a) (set z t (exponent z s)) s (exponent z t)
+      ∙ ap (λ (l : List ℕ). set l s (powerOf p a (exponent z t))) (map-set (powerOf p a) z t (exponent z s))
+      ∙ ap₂ (λ (x y : ℕ). set (set (held z) t y) s x) (held-at z t n (h .0 .target-is-one)) (held-at z s n (h .0 .source-is-one)))
+
+  pub doAll-held : (xs : List Step) (z : List ℤ) → AllSound xs → length z ≡ 4 → doAll p xs (held z) ≡ held (shiftAll xs z)
+  unfolding doAll shiftAll
+  doAll-held [] z s n = refl
+  doAll-held (x ∷ xs) z s n = ap (doAll p xs) (apply-held x z (s .0) n) ∙ doAll-held xs (shift x z) (s .1) (length-shift x z ∙ n)
+
+  start-held : start a ≡ held startExponents
+  unfolding powerOf power
+  start-held = sym (simp (power-zero p pr a ra, power-one p pr a ra))
+
+  -- after the first n steps from (1, a, 1, 1)
+  pub registers-exponents : (xs : List Step) (n : ℕ) → AllSound xs → doAll p (take n xs) (start a) ≡ map (powerOf p a) (exponentsAt xs n)
+  registers-exponents xs n s = ap (doAll p (take n xs)) start-held ∙ doAll-held (take n xs) startExponents (sound-take n xs s) refl
+
+  -- and so by a run to position n
+  pub run-exponents : (xs : List Step) (n : ℕ) → AllSound xs → run p xs 0 n (start a) ≡ map (powerOf p a) (exponentsAt xs n)
+  unfolding undoAll
+  run-exponents xs n s = run-form p pr xs s 0 n (start a) (good-start p pr a ra) ∙ registers-exponents xs n s
