@@ -174,6 +174,11 @@ odd-height-le r = rw (odd-height-is r) (or-next-le (odd (height r)) (height r))
 pub height-le-odd : (r : ℕ) → height r ≤ oddHeight r
 height-le-odd r = height-le r (odd-height-least r .from) (odd-height-reaches r)
 
+-- for the moduli of format 1 no higher than h, since 41 is odd
+pub odd-height-28 : (r : ℕ) → r < 2 ^ 28 → oddHeight r ≤ 41
+unfolding reaches lucas
+odd-height-28 r h = first-le {j = 41} (odd-height-least r) (omega arith) (le-leb r 370248451 (omega arith))
+
 -- ---- going up to h, one number after another, by the test that the code makes
 
 pub climb-fails : (r h : ℕ) → lucas h + h % 2 ≤ r → reaches r h ≡ false
