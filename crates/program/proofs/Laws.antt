@@ -12,3 +12,6 @@ pub mod Answering
 pub mod Same
 pub mod Checking
 pub mod Accepting
+pub mod Sequences
+pub mod Loops
+pub mod Range

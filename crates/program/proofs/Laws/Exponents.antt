@@ -53,7 +53,7 @@ unfolding fibsumFrom
 sum-lowest i [] = refl
 sum-lowest i (t ∷ ts) = refl
 
-length-higher : (n : ℕ) (ts : List Bool) → length ts ≤ suc n → length (higher ts) ≤ n
+pub length-higher : (n : ℕ) (ts : List Bool) → length ts ≤ suc n → length (higher ts) ≤ n
 length-higher n [] h = omega arith
 length-higher n (t ∷ ts) h = omega arith
 
@@ -88,11 +88,11 @@ descended p pr a false u v =
     ap (λ (x : ℕ). (a ^ 1 % p) ∷ (a ^ v % p) ∷ x ∷ (a ^ 0 % p) ∷ []) (times-pow p pr a u v)
     ∙ ap (λ (x : ℕ). powers p a 1 x (u + x) 0) (sym (add-zero v))
 
-place-low : (b : Bool) (n : ℕ) → n + cond b 1 0 ≡ cond b (fib 1) 0 + n
+pub place-low : (b : Bool) (n : ℕ) → n + cond b 1 0 ≡ cond b (fib 1) 0 + n
 place-low true n = omega (arith, fib-one)
 place-low false n = omega arith
 
-place-high : (b : Bool) (u v : ℕ) → u + (v + cond b 1 0) ≡ cond b (fib 2) 0 + (v + u)
+pub place-high : (b : Bool) (u v : ℕ) → u + (v + cond b 1 0) ≡ cond b (fib 2) 0 + (v + u)
 place-high true u v = omega (arith, fib-next 0, fib-one, fib-zero)
 place-high false u v = omega arith
 

@@ -34,10 +34,10 @@ use Rattle.program.proofs.Laws.Targets.{raises-lowers, basic-raises, du
 use Rattle.program.proofs.Laws.Lengths.{basic-length, dual-length, hybrid-length}
 
 module _ (r k : ℕ) (good : badExponent k r ≡ false) where
-  below : k < r
+  pub below : k < r
   below = good-exponent k r good .high
 
-  inverse-is : Inverse r k (inverse r k)
+  pub inverse-is : Inverse r k (inverse r k)
   inverse-is = inverse-order k r good
 
   -- a form of a number below r: its length and how many places are set
@@ -47,22 +47,22 @@ module _ (r k : ℕ) (good : badExponent k r ≡ false) where
   form-ones : (n : ℕ) → n < r → 2 * ones (zeckendorf n) ≤ height r + 1
   form-ones n h = rw (ones-places 1 (zeckendorf n)) at (ones-count r n h)
 
-  residue-below : (n : ℕ) → n % r < r
+  pub residue-below : (n : ℕ) → n % r < r
   residue-below n = mod-lt n (omega (arith, below))
 
-  dual-form-length : (x i : ℕ) → length (dualForm r x i) ≡ height r
+  pub dual-form-length : (x i : ℕ) → length (dualForm r x i) ≡ height r
   dual-form-length x i = pad-length (height r) (zeckendorf (x * fib i % r)) (form-length (x * fib i % r) (residue-below (x * fib i)))
 
-  dual-form-sum : (x i : ℕ) → fibsum (dualForm r x i) % r ≡ x * fib i % r
+  pub dual-form-sum : (x i : ℕ) → fibsum (dualForm r x i) % r ≡ x * fib i % r
   dual-form-sum x i =
       ap (λ (n : ℕ). n % r) (pad-sum (height r) 1 (zeckendorf (x * fib i % r)) ∙ zeckendorf-sum (x * fib i % r)) ∙ mod-mod (x * fib i) r
 
   -- K's form padded to ℓ'
-  padded-length : length (pad (oddHeight r) (zeckendorf (inverse r k))) ≡ oddHeight r
+  pub padded-length : length (pad (oddHeight r) (zeckendorf (inverse r k))) ≡ oddHeight r
   padded-length =
       pad-length (oddHeight r) (zeckendorf (inverse r k)) (omega (arith, form-length (inverse r k) (inverse-is .high), height-le-odd r))
 
-  padded-sum : fibsum (pad (oddHeight r) (zeckendorf (inverse r k))) ≡ inverse r k
+  pub padded-sum : fibsum (pad (oddHeight r) (zeckendorf (inverse r k))) ≡ inverse r k
   padded-sum = pad-sum (oddHeight r) 1 (zeckendorf (inverse r k)) ∙ zeckendorf-sum (inverse r k)
 
   -- ---- at most 9h + 2, 6h + 4 and 8h + 5 steps
@@ -153,7 +153,7 @@ module _ (r k : ℕ) (good : badExponent k r ≡ false) where
 -- ---- whichever the variant picks
 
 -- what holds of each of the three programs, and of no steps, holds of the steps of a variant
-by-variant : (P : List Step → Type 0) (variant r k : ℕ) → P (basicSteps r k) → P (dualSteps r k) → P (hybridSteps r k) → P [] → P (namedSteps variant r k)
+pub by-variant : (P : List Step → Type 0) (variant r k : ℕ) → P (basicSteps r k) → P (dualSteps r k) → P (hybridSteps r k) → P [] → P (namedSteps variant r k)
 unfolding namedSteps
 by-variant P variant r k b d h n = go (eqb variant 1) (eqb variant 2) (eqb variant 3)
   where

@@ -1,0 +1,151 @@
+-- What the two loops make of whole exponents, in range at every position: going up, registers 0 and 1 go along a sequence whose
+-- terms are at most 2^56, and registers 2 and 3 are away from where they end by at most 41 of its terms; coming down, all grow.
+use mathlib.Core.Path.{_≡_, refl, sym, ap, ap₂, subst, _∙_}
+use mathlib.Core.Bool.{Bool, true, false, cond}
+use mathlib.Core.List.{List, [], _∷_}
+use Prim.Native.Nat.{ℕ, suc, _+_, _*_, _≤_, _<_, _^_}
+use native.Mathlib.Nat.{add-zero}
+use native.Mathlib.Omega.{arith}
+use lib.IntN.{ℤ, pos, _+ℤ_, _-ℤ_, -ℤ-+ℤ-cancel}
+use lib.ListN.{length}
+use Rattle.fibonacci.specs.Fibonacci.{fib}
+use Rattle.fibonacci.specs.Forms.{fibsumFrom, fibsum, pad}
+use Rattle.fibonacci.proofs.Laws.Fibonacci.{fib-zero, fib-one}
+use Rattle.fibonacci.proofs.Laws.Forms.{pad-length, sum-next}
+use Rattle.tape.specs.declared.Step.{Step}
+use Rattle.tape.specs.declared.Step.the-variants.{Mul, Swp}
+use Rattle.machine.specs.Exponents.{shift, startExponents, allInRange}
+use Rattle.machine.proofs.Laws.Integers.{Within, within-more}
+use Rattle.machine.proofs.Laws.Ranges.{four-range, Goes, goes-none, goes-step, goes-append}
+use Rattle.program.specs.Generators.{select, lowest, higher, ascend, chain, downSteps, descend}
+use Rattle.program.proofs.Laws.Exponents.{length-higher, place-low, place-high}
+use Rattle.program.proofs.Laws.Sequences.{Sequence, before, before-lowest, before-none, before-range, multiple, multiples, before-sum}
+
+-- an exponent in range
+abbrev Ranged : ℤ → Type 0
+Ranged = Within (2 ^ 62)
+
+-- ---- going up
+
+-- a step for a place that is set takes a to b in the exponents f a; where the place is not set, b is there already
+selected : (s : Bool) (x : Step) {xs : List Step} {v : List ℤ} (f : ℤ → List ℤ) (a b : ℤ) → allInRange (f a) ≡ true → shift x (f a) ≡ f b
+    → Goes xs (f b) v → Goes (select s x xs) (f (cond s a b)) v
+selected true x f a b r e g = goes-step r e g
+selected false x f a b r e g = g
+
+either-ranged : (s : Bool) (a b : ℤ) → Ranged a → Ranged b → Ranged (cond s a b)
+either-ranged true a b ra rb = ra
+either-ranged false a b ra rb = rb
+
+-- a chain step to w and its selected multiplications
+chained : (s t : Bool) {xs : List Step} {v : List ℤ} (c d w a b : ℤ) → c +ℤ d ≡ w
+    → Ranged c → Ranged d → Ranged w → Ranged a → Ranged b → Ranged (a -ℤ w) → Ranged (b -ℤ w)
+    → Goes xs (d ∷ w ∷ a ∷ b ∷ []) v
+    → Goes (Mul 0 1 ∷ Swp 0 1 ∷ select s (Mul 2 1) (select t (Mul 3 1) xs)) (c ∷ d ∷ cond s (a -ℤ w) a ∷ cond t (b -ℤ w) b ∷ []) v
+unfolding shift
+chained s t c d w a b next rc rd rw′ ra rb ra′ rb′ g =
+    let x : ℤ = cond s (a -ℤ w) a in
+    let y : ℤ = cond t (b -ℤ w) b in
+    let rx : Ranged x = either-ranged s (a -ℤ w) a ra′ ra in
+    let ry : Ranged y = either-ranged t (b -ℤ w) b rb′ rb in
+    goes-step (four-range c d x y rc rd rx ry) (ap (λ (z : ℤ). z ∷ d ∷ x ∷ y ∷ []) next)
+    (goes-step (four-range w d x y rw′ rd rx ry) refl
+    (selected s (Mul 2 1) (λ z. d ∷ w ∷ z ∷ y ∷ []) (a -ℤ w) a (four-range d w (a -ℤ w) y rd rw′ ra′ ry)
+    (ap (λ (z : ℤ). d ∷ w ∷ z ∷ y ∷ []) (-ℤ-+ℤ-cancel a w))
+    (selected t (Mul 3 1) (λ z. d ∷ w ∷ a ∷ z ∷ []) (b -ℤ w) b (four-range d w a (b -ℤ w) rd rw′ ra rb′)
+    (ap (λ (z : ℤ). d ∷ w ∷ a ∷ z ∷ []) (-ℤ-+ℤ-cancel b w)) g)))
+
+module _ (n : ℕ) (u : ℕ → ℤ) (q : Sequence n u) (low : n ≤ 41) (e f : ℤ) (we : Within (2 ^ 56) e) (wf : Within (2 ^ 56) f) where
+  term-ranged : (i : ℕ) → i ≤ suc n → Ranged (u i)
+  term-ranged i h = within-more (omega arith) (q .small i h)
+
+  -- to e and f, from what was there before the terms that the forms select
+  pub ascend-from : (ss ts : List Bool) (i : ℕ) → length ts ≤ length ss → i + length ss ≡ n
+      → Goes (ascend ss ts) (u i ∷ u (suc i) ∷ before u (suc i) ss e ∷ before u (suc i) ts f ∷ []) (u n ∷ u (suc n) ∷ e ∷ f ∷ [])
+  unfolding ascend
+  ascend-from [] [] i h l =
+      let here : i ≡ n = omega arith in
+      rw here
+      (goes-none
+      (four-range (u n) (u (suc n)) e f (term-ranged n (omega arith)) (term-ranged (suc n) (omega arith))
+      (within-more (omega arith) we) (within-more (omega arith) wf)))
+  ascend-from [] (t ∷ ts) i h l = absurd (omega arith)
+  ascend-from (s ∷ ss) ts i h l =
+      let j : ℕ = suc (suc i) in
+      let short : length (higher ts) ≤ length ss = length-higher (length ss) ts h in
+      let two : (k : ℕ) (bs : List Bool) → 1 ≤ k → k + length bs ≤ suc n → Ranged (before u k bs e) =
+      λ k bs some fits. before-range n u q low k bs e some fits we in
+      let three : (k : ℕ) (bs : List Bool) → 1 ≤ k → k + length bs ≤ suc n → Ranged (before u k bs f) =
+      λ k bs some fits. before-range n u q low k bs f some fits wf in
+      rw (before-lowest u (suc i) ts f)
+      (chained s (lowest ts) (u i) (u (suc i)) (u j) (before u j ss e) (before u j (higher ts) f) (q .next i)
+      (term-ranged i (omega arith)) (term-ranged (suc i) (omega arith)) (term-ranged j (omega arith))
+      (two j ss (omega arith) (omega arith)) (three j (higher ts) (omega arith) (omega arith))
+      (two (suc i) (true ∷ ss) (omega arith) (omega arith)) (three (suc i) (true ∷ higher ts) (omega arith) (omega arith))
+      (ascend-from ss (higher ts) (suc i) short (omega arith)))
+
+-- ---- going up from 0 and k, along the multiples of k
+
+pub natural : (m : ℕ) → m ≤ 2 ^ 56 → Within (2 ^ 56) (pos m)
+natural m h = record { high = h; low = omega arith }
+
+module _ (n k : ℕ) (low : n ≤ 41) (small : k < 2 ^ 28) (e f : ℤ) (we : Within (2 ^ 56) e) (wf : Within (2 ^ 56) f) where
+  pub ascend-multiples : (ss ts : List Bool) → length ss ≡ n → length ts ≤ n
+      → Goes (ascend ss ts) (pos 0 ∷ pos k ∷ before (multiple k) 1 ss e ∷ before (multiple k) 1 ts f ∷ [])
+      (multiple k n ∷ multiple k (suc n) ∷ e ∷ f ∷ [])
+  ascend-multiples ss ts ls lt =
+      let zero-is : k * fib 0 ≡ 0 = ap (λ (x : ℕ). k * x) fib-zero ∙ omega arith in
+      let one-is : k * fib 1 ≡ k = ap (λ (x : ℕ). k * x) fib-one ∙ omega arith in
+      let x : ℤ = before (multiple k) 1 ss e in
+      let y : ℤ = before (multiple k) 1 ts f in
+      subst (λ (z : List ℤ). Goes (ascend ss ts) z (multiple k n ∷ multiple k (suc n) ∷ e ∷ f ∷ []))
+      (ap₂ (λ (c d : ℕ). pos c ∷ pos d ∷ x ∷ y ∷ []) zero-is one-is)
+      (ascend-from n (multiple k) (multiples n k low small) low e f we wf ss ts 0 (omega arith) (omega arith))
+
+  pub chain-multiples : Goes (chain n) (pos 0 ∷ pos k ∷ e ∷ f ∷ []) (multiple k n ∷ multiple k (suc n) ∷ e ∷ f ∷ [])
+  chain-multiples =
+      rw (before-none (multiple k) 1 n e) at (ascend-multiples (pad n []) [] (pad-length n [] (omega arith)) (omega arith))
+
+-- from (0, 1, 0, 0) to the sums of two forms
+pub ascend-sums : (ss ts : List Bool) → length ss ≤ 41 → length ts ≤ length ss → fibsum ss < 2 ^ 28 → fibsum ts < 2 ^ 28
+    → Goes (ascend ss ts) startExponents (multiple 1 (length ss) ∷ multiple 1 (suc (length ss)) ∷ pos (fibsum ss) ∷ pos (fibsum ts) ∷ [])
+ascend-sums ss ts low lt hs ht =
+    let none : (bs : List Bool) → before (multiple 1) 1 bs (pos (fibsum bs)) ≡ pos 0 =
+    λ bs. ap (λ (m : ℕ). before (multiple 1) 1 bs (pos m)) (omega arith) ∙ before-sum 1 1 bs in
+    rw (none ss, none ts) at
+    (ascend-multiples (length ss) 1 low (omega arith) (pos (fibsum ss)) (pos (fibsum ts)) (natural (fibsum ss) (omega arith)) (natural (fibsum ts) (omega arith))
+    ss ts refl lt)
+
+-- ---- coming down
+
+pub naturals-range : (c d e f : ℕ) → c + d + e + f ≤ 2 ^ 62 → allInRange (pos c ∷ pos d ∷ pos e ∷ pos f ∷ []) ≡ true
+naturals-range c d e f h =
+    four-range (pos c) (pos d) (pos e) (pos f) (ranged c (omega arith)) (ranged d (omega arith)) (ranged e (omega arith)) (ranged f (omega arith))
+  where
+    ranged : (m : ℕ) → m ≤ 2 ^ 62 → Ranged (pos m)
+    ranged m h = record { high = h; low = omega arith }
+
+downward : (b : Bool) (u v : ℕ) → u + (v + cond b 1 0) ≤ 2 ^ 60
+    → Goes (downSteps b) (pos 1 ∷ pos u ∷ pos v ∷ pos 0 ∷ []) (pos 1 ∷ pos (v + cond b 1 0) ∷ pos (u + (v + cond b 1 0)) ∷ pos 0 ∷ [])
+unfolding shift
+downward true u v h =
+    goes-step (naturals-range 1 u v 0 (omega arith)) refl
+    (goes-step (naturals-range 1 u (v + 1) 0 (omega arith)) refl
+    (goes-step (naturals-range 1 (u + (v + 1)) (v + 1) 0 (omega arith)) refl
+    (goes-none (naturals-range 1 (v + 1) (u + (v + 1)) 0 (omega arith)))))
+downward false u v h =
+    rw (add-zero v)
+    (goes-step (naturals-range 1 u v 0 (omega arith)) refl
+    (goes-step (naturals-range 1 (u + v) v 0 (omega arith)) refl
+    (goes-none (naturals-range 1 v (u + v) 0 (omega arith)))))
+
+pub descend-sums : (bs : List Bool) → fibsum bs ≤ 2 ^ 60
+    → Goes (descend bs) (pos 1 ∷ pos 0 ∷ pos 0 ∷ pos 0 ∷ []) (pos 1 ∷ pos (fibsumFrom 0 bs) ∷ pos (fibsum bs) ∷ pos 0 ∷ [])
+unfolding descend fibsumFrom
+descend-sums [] h = goes-none (naturals-range 1 0 0 0 (omega arith))
+descend-sums (b ∷ bs) h =
+    let u : ℕ = fibsumFrom 0 bs in
+    let v : ℕ = fibsum bs in
+    let high : u + (v + cond b 1 0) ≡ cond b (fib 2) 0 + fibsumFrom 2 bs =
+    place-high b u v ∙ ap (λ (x : ℕ). cond b (fib 2) 0 + x) (sym (sum-next 0 bs)) in
+    goes-append (descend bs) (descend-sums bs (omega arith)) (rw (high, place-low b v) at (downward b u v (omega arith)))
