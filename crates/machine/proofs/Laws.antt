@@ -5,3 +5,4 @@ pub mod Lists
 pub mod Integers
 pub mod Exponents
 pub mod Ranges
+pub mod Congruences

@@ -15,3 +15,4 @@ pub mod Accepting
 pub mod Sequences
 pub mod Loops
 pub mod Range
+pub mod Ends

@@ -7,11 +7,12 @@ use Prim.Native.Nat.{ℕ, zero, suc, _^_}
 use native.Mathlib.Omega.{arith}
 use lib.IntN.{ℤ, pos, negℤ}
 use lib.ListN.{length, take}
+use lib.Seq.{take-length}
 use Rattle.modular.proofs.Laws.Tests.{both}
 use Rattle.tape.specs.declared.Step.{Step}
 use Rattle.tape.specs.Steps.{AllSound}
 use Rattle.machine.specs.Machine.{back}
-use Rattle.machine.specs.Exponents.{shift, shiftAll, inRange, allInRange, staysInRange}
+use Rattle.machine.specs.Exponents.{shift, shiftAll, startExponents, exponentsAt, inRange, allInRange, staysInRange}
 use Rattle.machine.proofs.Laws.Integers.{Within, le-leZ}
 use Rattle.machine.proofs.Laws.Exponents.{length-shift, shift-opposite}
 
@@ -72,3 +73,7 @@ goes-back (x ∷ xs) {z} a n g =
     let s = both (allInRange z) (staysInRange xs (shift x z)) (g .stays) in
     goes-append (back xs) (goes-back xs {z = shift x z} (a .1) (length-shift x z ∙ n) (record { stays = s .1; ends = g .ends }))
     (goes-step (stays-first xs (shift x z) (s .1)) (shift-opposite x z (a .0) n) (goes-none (s .0)))
+
+-- from the exponents that a trace starts from, w is where it ends
+pub goes-end : {xs : List Step} {w : List ℤ} → Goes xs startExponents w → exponentsAt xs (length xs) ≡ w
+goes-end {xs} g = ap (λ (l : List Step). shiftAll l startExponents) (take-length xs) ∙ g .ends
