@@ -76,6 +76,9 @@ pub record Within (m : ℕ) (a : ℤ) : Type 0 where
   pub high : over a ≤ m
   pub low : under a ≤ m
 
+pub within-natural : {n : ℕ} (m : ℕ) → m ≤ n → Within n (pos m)
+within-natural m h = record { high = h; low = omega arith }
+
 pub within-less : {m n : ℕ} (a b : ℤ) → Within m a → Within n b → Within (m + n) (a -ℤ b)
 within-less a b v w = record { high = omega (arith, over-less a b); low = omega (arith, under-less a b) }
 

@@ -15,7 +15,6 @@ use Rattle.modular.proofs.Laws.Residues.{mul-mod-left, mul-mod-right}
 use Rattle.fibonacci.specs.Fibonacci.{fib}
 use Rattle.fibonacci.specs.Forms.{fibsum}
 use Rattle.fibonacci.specs.Height.{height}
-use Rattle.fibonacci.proofs.Laws.Fibonacci.{fib-zero, fib-one}
 use Rattle.fibonacci.proofs.Laws.Height.{height-28}
 use Rattle.tape.specs.declared.Step.{Step}
 use Rattle.machine.specs.Exponents.{startExponents, exponentsAt, residueOf}
@@ -25,7 +24,7 @@ use Rattle.program.specs.Named.{basicSteps, dualForm, dualSteps, hybridS
 use Rattle.program.specs.Services.{badModulus, badOrder, unnamed}
 use Rattle.program.proofs.Laws.Parameters.{good-modulus, order-below}
 use Rattle.program.proofs.Laws.Named.{below, inverse-is, dual-form-length, dual-form-sum, named-is}
-use Rattle.program.proofs.Laws.Sequences.{Sequence, before, multiple, multiples, before-sum, Reaching}
+use Rattle.program.proofs.Laws.Sequences.{Sequence, before, multiple, multiple-zero, multiple-one, multiples, before-sum, Reaching}
 use Rattle.program.proofs.Laws.Range.{target, dualTarget, basic-trace, hybrid-trace, dual-through, dual-trace}
 
 -- (0, k, 0, 0) modulo r
@@ -114,9 +113,9 @@ dual-ends r k K ss ts Ss Ts q h small low inv lS lT es et eS eT =
     (congruent-naturals r (1 * fib i) (k * fibsum bs) (ap (λ (x : ℕ). x % r) (one-mul (fib i)) ∙ sym (unscaled r k K (fibsum bs) (fib i) inv e)))) in
     ends-at r k (u 0) (u 1) (before u 1 Ss (multiple 1 n)) (before u 1 Ts (multiple 1 (suc n))) h
     (congruent-through r (u 0) (multiple k 0) (pos 0) (terms 0 (omega arith))
-    (congruent-same r (multiple k 0) (pos 0) (ap pos (ap (λ (x : ℕ). k * x) fib-zero ∙ omega arith))))
+    (congruent-same r (multiple k 0) (pos 0) (multiple-zero k)))
     (congruent-through r (u 1) (multiple k 1) (pos k) (terms 1 (omega arith))
-    (congruent-same r (multiple k 1) (pos k) (ap pos (ap (λ (x : ℕ). k * x) fib-one ∙ omega arith))))
+    (congruent-same r (multiple k 1) (pos k) (multiple-one k)))
     (none Ss n lS eS) (none Ts (suc n) lT eT)
 
 -- ---- the named programs

@@ -3,23 +3,22 @@
 use mathlib.Core.Path.{_≡_, refl, sym, ap, ap₂, subst, _∙_}
 use mathlib.Core.Bool.{Bool, true, false, cond}
 use mathlib.Core.List.{List, [], _∷_}
-use Prim.Native.Nat.{ℕ, suc, _+_, _*_, _≤_, _<_, _^_}
+use Prim.Native.Nat.{ℕ, suc, _+_, _≤_, _<_, _^_}
 use native.Mathlib.Nat.{add-zero}
 use native.Mathlib.Omega.{arith}
 use lib.IntN.{ℤ, pos, _+ℤ_, _-ℤ_, -ℤ-+ℤ-cancel}
 use lib.ListN.{length}
 use Rattle.fibonacci.specs.Fibonacci.{fib}
 use Rattle.fibonacci.specs.Forms.{fibsumFrom, fibsum, pad}
-use Rattle.fibonacci.proofs.Laws.Fibonacci.{fib-zero, fib-one}
 use Rattle.fibonacci.proofs.Laws.Forms.{pad-length, sum-next}
 use Rattle.tape.specs.declared.Step.{Step}
 use Rattle.tape.specs.declared.Step.the-variants.{Mul, Swp}
 use Rattle.machine.specs.Exponents.{shift, startExponents, allInRange}
-use Rattle.machine.proofs.Laws.Integers.{Within, within-more}
+use Rattle.machine.proofs.Laws.Integers.{Within, within-natural, within-more}
 use Rattle.machine.proofs.Laws.Ranges.{four-range, Goes, goes-none, goes-step, goes-append}
 use Rattle.program.specs.Generators.{select, lowest, higher, ascend, chain, downSteps, descend}
 use Rattle.program.proofs.Laws.Exponents.{length-higher, place-low, place-high}
-use Rattle.program.proofs.Laws.Sequences.{Sequence, before, before-lowest, before-none, before-range, multiple, multiples, before-sum}
+use Rattle.program.proofs.Laws.Sequences.{Sequence, before, before-lowest, before-none, before-range, multiple, multiple-zero, multiple-one, multiples, before-sum}
 
 -- an exponent in range
 abbrev Ranged : ℤ → Type 0
@@ -73,33 +72,26 @@ module _ (n : ℕ) (u : ℕ → ℤ) (q : Sequence n u) (low : n ≤ 41) (e f : 
   ascend-from (s ∷ ss) ts i h l =
       let j : ℕ = suc (suc i) in
       let short : length (higher ts) ≤ length ss = length-higher (length ss) ts h in
-      let two : (k : ℕ) (bs : List Bool) → 1 ≤ k → k + length bs ≤ suc n → Ranged (before u k bs e) =
-      λ k bs some fits. before-range n u q low k bs e some fits we in
-      let three : (k : ℕ) (bs : List Bool) → 1 ≤ k → k + length bs ≤ suc n → Ranged (before u k bs f) =
-      λ k bs some fits. before-range n u q low k bs f some fits wf in
+      let ranged : (x : ℤ) → Within (2 ^ 56) x → (m : ℕ) (bs : List Bool) → 1 ≤ m → m + length bs ≤ suc n → Ranged (before u m bs x) =
+      λ x wx m bs some fits. before-range n u q low m bs x some fits wx in
       rw (before-lowest u (suc i) ts f)
       (chained s (lowest ts) (u i) (u (suc i)) (u j) (before u j ss e) (before u j (higher ts) f) (q .next i)
       (term-ranged i (omega arith)) (term-ranged (suc i) (omega arith)) (term-ranged j (omega arith))
-      (two j ss (omega arith) (omega arith)) (three j (higher ts) (omega arith) (omega arith))
-      (two (suc i) (true ∷ ss) (omega arith) (omega arith)) (three (suc i) (true ∷ higher ts) (omega arith) (omega arith))
+      (ranged e we j ss (omega arith) (omega arith)) (ranged f wf j (higher ts) (omega arith) (omega arith))
+      (ranged e we (suc i) (true ∷ ss) (omega arith) (omega arith)) (ranged f wf (suc i) (true ∷ higher ts) (omega arith) (omega arith))
       (ascend-from ss (higher ts) (suc i) short (omega arith)))
 
 -- ---- going up from 0 and k, along the multiples of k
-
-pub natural : (m : ℕ) → m ≤ 2 ^ 56 → Within (2 ^ 56) (pos m)
-natural m h = record { high = h; low = omega arith }
 
 module _ (n k : ℕ) (low : n ≤ 41) (small : k < 2 ^ 28) (e f : ℤ) (we : Within (2 ^ 56) e) (wf : Within (2 ^ 56) f) where
   pub ascend-multiples : (ss ts : List Bool) → length ss ≡ n → length ts ≤ n
       → Goes (ascend ss ts) (pos 0 ∷ pos k ∷ before (multiple k) 1 ss e ∷ before (multiple k) 1 ts f ∷ [])
       (multiple k n ∷ multiple k (suc n) ∷ e ∷ f ∷ [])
   ascend-multiples ss ts ls lt =
-      let zero-is : k * fib 0 ≡ 0 = ap (λ (x : ℕ). k * x) fib-zero ∙ omega arith in
-      let one-is : k * fib 1 ≡ k = ap (λ (x : ℕ). k * x) fib-one ∙ omega arith in
       let x : ℤ = before (multiple k) 1 ss e in
       let y : ℤ = before (multiple k) 1 ts f in
       subst (λ (z : List ℤ). Goes (ascend ss ts) z (multiple k n ∷ multiple k (suc n) ∷ e ∷ f ∷ []))
-      (ap₂ (λ (c d : ℕ). pos c ∷ pos d ∷ x ∷ y ∷ []) zero-is one-is)
+      (ap₂ (λ (c d : ℤ). c ∷ d ∷ x ∷ y ∷ []) (multiple-zero k) (multiple-one k))
       (ascend-from n (multiple k) (multiples n k low small) low e f we wf ss ts 0 (omega arith) (omega arith))
 
   pub chain-multiples : Goes (chain n) (pos 0 ∷ pos k ∷ e ∷ f ∷ []) (multiple k n ∷ multiple k (suc n) ∷ e ∷ f ∷ [])
@@ -113,17 +105,15 @@ ascend-sums ss ts low lt hs ht =
     let none : (bs : List Bool) → before (multiple 1) 1 bs (pos (fibsum bs)) ≡ pos 0 =
     λ bs. ap (λ (m : ℕ). before (multiple 1) 1 bs (pos m)) (omega arith) ∙ before-sum 1 1 bs in
     rw (none ss, none ts) at
-    (ascend-multiples (length ss) 1 low (omega arith) (pos (fibsum ss)) (pos (fibsum ts)) (natural (fibsum ss) (omega arith)) (natural (fibsum ts) (omega arith))
+    (ascend-multiples (length ss) 1 low (omega arith) (pos (fibsum ss)) (pos (fibsum ts)) (within-natural (fibsum ss) (omega arith)) (within-natural (fibsum ts) (omega arith))
     ss ts refl lt)
 
 -- ---- coming down
 
 pub naturals-range : (c d e f : ℕ) → c + d + e + f ≤ 2 ^ 62 → allInRange (pos c ∷ pos d ∷ pos e ∷ pos f ∷ []) ≡ true
 naturals-range c d e f h =
-    four-range (pos c) (pos d) (pos e) (pos f) (ranged c (omega arith)) (ranged d (omega arith)) (ranged e (omega arith)) (ranged f (omega arith))
-  where
-    ranged : (m : ℕ) → m ≤ 2 ^ 62 → Ranged (pos m)
-    ranged m h = record { high = h; low = omega arith }
+    four-range (pos c) (pos d) (pos e) (pos f)
+    (within-natural c (omega arith)) (within-natural d (omega arith)) (within-natural e (omega arith)) (within-natural f (omega arith))
 
 downward : (b : Bool) (u v : ℕ) → u + (v + cond b 1 0) ≤ 2 ^ 60
     → Goes (downSteps b) (pos 1 ∷ pos u ∷ pos v ∷ pos 0 ∷ []) (pos 1 ∷ pos (v + cond b 1 0) ∷ pos (u + (v + cond b 1 0)) ∷ pos 0 ∷ [])

@@ -19,7 +19,7 @@ use Rattle.fibonacci.proofs.Laws.Lengths.{multiple-shift}
 use Rattle.tape.specs.declared.Step.{Step}
 use Rattle.machine.specs.Machine.{back}
 use Rattle.machine.specs.Exponents.{shift, startExponents, staysInRange}
-use Rattle.machine.proofs.Laws.Integers.{Within}
+use Rattle.machine.proofs.Laws.Integers.{Within, within-natural}
 use Rattle.machine.proofs.Laws.Ranges.{stays-take, Goes, goes-none, goes-step, goes-append, goes-back}
 use Rattle.program.specs.Generators.{ascend, chain, descend, basic, dual, hybrid}
 use Rattle.program.specs.Named.{basicSteps, dualForm, dualSteps, hybridSteps, namedSteps}
@@ -28,21 +28,21 @@ use Rattle.program.proofs.Laws.Sound.{sound-ascend}
 use Rattle.program.proofs.Laws.Parameters.{good-modulus, order-below}
 use Rattle.program.proofs.Laws.Named.{below, inverse-is, residue-below, dual-form-length, padded-length, padded-sum, by-variant}
 use Rattle.program.proofs.Laws.Sequences.{Sequence, before, multiple, multiples, before-less, Reaching, reaching-naturals}
-use Rattle.program.proofs.Laws.Loops.{ascend-from, natural, ascend-multiples, chain-multiples, ascend-sums, naturals-range, descend-sums}
+use Rattle.program.proofs.Laws.Loops.{ascend-from, ascend-multiples, chain-multiples, ascend-sums, naturals-range, descend-sums}
 
 -- ---- each generator
 
--- the exponents that basic and hybrid end at
+-- the exponents that basic and hybrid end at, for k and a form of m
 abbrev pub target : ℕ → ℕ → List ℤ
 target k m = pos 0 ∷ pos k ∷ (pos 1 -ℤ pos (k * m)) ∷ pos 0 ∷ []
 
--- and what they come back from there
+-- the form taken back, from the multiples that it comes to
 target-back : (k : ℕ) (Ks : List Bool) → k < 2 ^ 28 → length Ks ≤ 41
     → Goes (back (ascend Ks [])) (multiple k (length Ks) ∷ multiple k (suc (length Ks)) ∷ pos 1 ∷ pos 0 ∷ []) (target k (fibsum Ks))
 target-back k Ks small low =
     rw (before-less k 1 Ks (pos 1)) at
     (goes-back (ascend Ks []) (sound-ascend Ks []) refl
-    (ascend-multiples (length Ks) k low small (pos 1) (pos 0) (natural 1 (omega arith)) (natural 0 (omega arith)) Ks [] refl (omega arith)))
+    (ascend-multiples (length Ks) k low small (pos 1) (pos 0) (within-natural 1 (omega arith)) (within-natural 0 (omega arith)) Ks [] refl (omega arith)))
 
 pub basic-goes : (k : ℕ) (ks Ks : List Bool) → fibsum ks ≡ k → k < 2 ^ 28 → length ks ≤ 41 → length Ks ≤ 41
     → Goes (basic ks Ks) startExponents (target k (fibsum Ks))
@@ -50,9 +50,9 @@ unfolding basic shift fibsumFrom
 basic-goes k ks Ks sum small low low′ =
     let n : ℕ = length ks in
     let m : ℕ = length Ks in
-    let wk : Within (2 ^ 56) (pos k) = natural k (omega arith) in
-    let w0 : Within (2 ^ 56) (pos 0) = natural 0 (omega arith) in
-    let w1 : Within (2 ^ 56) (pos 1) = natural 1 (omega arith) in
+    let wk : Within (2 ^ 56) (pos k) = within-natural k (omega arith) in
+    let w0 : Within (2 ^ 56) (pos 0) = within-natural 0 (omega arith) in
+    let w1 : Within (2 ^ 56) (pos 1) = within-natural 1 (omega arith) in
     goes-append (ascend ks []) (rw sum at (ascend-sums ks [] low (omega arith) (omega arith) (omega arith)))
     (goes-append (back (chain n))
     (goes-back (chain n) (sound-ascend (pad n []) []) refl (chain-multiples n 1 low (omega arith) (pos k) (pos 0) wk w0))
@@ -120,7 +120,7 @@ module _ (r k : ℕ) (good : badExponent k r ≡ false) (order : r < 2 ^ 28) whe
       (hybrid-goes k (zeckendorf v) Ks (omega (arith, below r k good)) (omega (arith, odd-height-28 r order))
       (rw len (multiple-shift r k (below r k good))) (rw len (zeckendorf-sum v)))
 
-  -- one of dual's forms, and the sum of it
+  -- the sums of dual's forms
   dual-sum : (x i : ℕ) → fibsum (dualForm r x i) ≡ x * fib i % r
   dual-sum x i = pad-sum (height r) 1 (zeckendorf (x * fib i % r)) ∙ zeckendorf-sum (x * fib i % r)
 

@@ -11,8 +11,8 @@ use lib.IntN.{ℤ, pos, _+ℤ_, _-ℤ_, +ℤ-invr, -ℤ-+ℤ-cancel}
 use lib.ListN.{length}
 use Rattle.fibonacci.specs.Fibonacci.{fib}
 use Rattle.fibonacci.specs.Forms.{fibsumFrom, pad}
-use Rattle.fibonacci.proofs.Laws.Fibonacci.{fib-next, fib-grows, fib-monotone}
-use Rattle.machine.proofs.Laws.Integers.{over, under, same, over-less, under-less, Within, within-less, within-more}
+use Rattle.fibonacci.proofs.Laws.Fibonacci.{fib-zero, fib-one, fib-next, fib-grows, fib-monotone}
+use Rattle.machine.proofs.Laws.Integers.{over, under, same, over-less, under-less, Within, within-natural, within-less, within-more}
 use Rattle.program.specs.Generators.{lowest, higher}
 
 -- for forms of at most 41 places: 42 terms of at most 2^56 sum to less than 2^62
@@ -55,6 +55,12 @@ before-range n u q low i bs e some h w = within-more (omega arith) (before-withi
 abbrev pub multiple : ℕ → ℕ → ℤ
 multiple k i = pos (k * fib i)
 
+pub multiple-zero : (k : ℕ) → multiple k 0 ≡ pos 0
+multiple-zero k = ap pos (ap (λ (x : ℕ). k * x) fib-zero ∙ omega arith)
+
+pub multiple-one : (k : ℕ) → multiple k 1 ≡ pos k
+multiple-one k = ap pos (ap (λ (x : ℕ). k * x) fib-one ∙ omega arith)
+
 multiple-small : (k i : ℕ) → k < 2 ^ 28 → i ≤ 42 → k * fib i ≤ 2 ^ 56
 unfolding fib
 multiple-small k i small low =
@@ -64,7 +70,7 @@ multiple-small k i small low =
 pub multiples : (n k : ℕ) → n ≤ 41 → k < 2 ^ 28 → Sequence n (multiple k)
 multiples n k low small = record {
   next = λ i. ap pos (omega (arith, ap (λ (x : ℕ). k * x) (fib-next i)));
-  small = λ i h. record { high = multiple-small k i small (omega arith); low = omega arith };
+  small = λ i h. within-natural (k * fib i) (multiple-small k i small (omega arith));
 }
 
 before-parts : (k i : ℕ) (bs : List Bool) (e : ℤ)
@@ -155,5 +161,5 @@ reaching-naturals (suc n) s t some low hs ht =
     reaching-back n (pos s) (pos t)
     (reaching n 1 (pos t -ℤ pos s) (pos s) (omega (arith, fib-monotone {m = suc (1 + n)} {n = 42} (omega arith)))
     (record { high = omega (arith, over-less (pos t) (pos s)); low = omega (arith, under-less (pos t) (pos s)) })
-    (record { high = omega arith; low = omega arith }))
-    (record { high = omega arith; low = omega arith })
+    (within-natural s (omega arith)))
+    (within-natural t (omega arith))
