@@ -5,7 +5,7 @@ use mathlib.Core.Logic.{_≢_}
 use mathlib.Core.Bool.{Bool, true, false, cond}
 use mathlib.Core.List.{List, [], _∷_, _++_, map}
 use Prim.Native.Nat.{ℕ, zero, suc, _+_, _-_, _%_, _^_, _<_}
-use native.Mathlib.Nat.{sub-add-cancel, mod-eq-of-lt, pow-zero}
+use native.Mathlib.Nat.{sub-add-cancel}
 use native.Mathlib.Omega.{arith}
 use lib.Dec.{ltb}
 use lib.IntN.{ℤ, pos, negsuc, negℤ, _+ℤ_, _-ℤ_, subℕ, +ℤ-negℤ-cancel, -ℤ-+ℤ-cancel}
@@ -17,7 +17,7 @@ use Rattle.modular.specs.Residues.{Residue, times}
 use Rattle.modular.specs.Inverses.{inverse}
 use Rattle.modular.proofs.Laws.Residues.{times-comm, times-assoc, times-one}
 use Rattle.modular.proofs.Laws.Group.{residue-inverse, inverse-times, inverse-inverse, inverse-one, inverse-product, mul-div}
-use Rattle.modular.proofs.Laws.Powers.{times-pow, pow-one, residue-pow}
+use Rattle.modular.proofs.Laws.Powers.{times-pow, power-zero, power-one, residue-pow}
 use Rattle.tape.specs.declared.Step.{Step}
 use Rattle.tape.specs.declared.Step.the-variants.{Mul, Div, Swp}
 use Rattle.tape.specs.Steps.{Sound, AllSound}
@@ -77,14 +77,6 @@ module _ (p : ℕ) (pr : Prime p) (a : ℕ) (ra : Residue p a) where
   unfolding power
   power-times m n = times-pow p pr a m n
 
-  power-zero : power 0 ≡ 1
-  unfolding power
-  power-zero = ap (λ (x : ℕ). x % p) (pow-zero a) ∙ mod-eq-of-lt (pr .least)
-
-  power-one : power 1 ≡ a
-  unfolding power
-  power-one = ap (λ (x : ℕ). x % p) (pow-one a) ∙ mod-eq-of-lt (ra .high)
-
   -- of a difference of natural numbers
   power-difference : (m n : ℕ) → powerOf p a (subℕ m n) ≡ times p (power m) (inverse p (power n))
   unfolding powerOf power
@@ -119,7 +111,7 @@ module _ (p : ℕ) (pr : Prime p) (a : ℕ) (ra : Residue p a) where
 
   powerOf-opposite : (x : ℤ) → powerOf p a (negℤ x) ≡ inverse p (powerOf p a x)
   unfolding powerOf power
-  powerOf-opposite (pos zero) = power-zero ∙ sym (ap (inverse p) power-zero ∙ inverse-one p pr)
+  powerOf-opposite (pos zero) = power-zero p pr a ∙ sym (ap (inverse p) (power-zero p pr a) ∙ inverse-one p pr)
   powerOf-opposite (pos (suc n)) = refl
   powerOf-opposite (negsuc n) = sym (inverse-inverse p pr (power (suc n)) (power-residue (suc n)))
 
@@ -162,7 +154,7 @@ module _ (p : ℕ) (pr : Prime p) (a : ℕ) (ra : Residue p a) where
 
   start-held : start a ≡ held startExponents
   unfolding powerOf power
-  start-held = sym (simp (power-zero p pr a ra, power-one p pr a ra))
+  start-held = sym (simp (power-zero p pr a, power-one p pr a ra))
 
   -- after the first n steps from (1, a, 1, 1)
   pub registers-exponents : (xs : List Step) (n : ℕ) → AllSound xs → doAll p (take n xs) (start a) ≡ map (powerOf p a) (exponentsAt xs n)

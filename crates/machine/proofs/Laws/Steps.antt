@@ -7,13 +7,14 @@ use Prim.Native.Nat.{ℕ, zero, suc, _<_}
 use native.Mathlib.Omega.{arith}
 use native.Mathlib.Decide.{ℕ-discrete}
 use lib.ListN.{length, set, length-set}
-use lib.Seq.{set-set, set-comm, set-getD, getD-set-same, getD-set-other}
+use lib.Seq.{set-set, set-getD, getD-set-same, getD-set-other}
 use Rattle.modular.specs.Primes.{Prime}
 use Rattle.modular.specs.Residues.{Residue}
 use Rattle.modular.proofs.Laws.Group.{residue-one, residue-times, residue-inverse, mul-div, div-mul}
 use Rattle.tape.specs.declared.Step.{Step}
 use Rattle.tape.specs.declared.Step.the-variants.{Mul, Div, Swp}
 use Rattle.tape.specs.Steps.{Apart, Sound, AllSound}
+use Rattle.machine.proofs.Laws.Lists.{exchange-twice}
 use Rattle.machine.specs.Machine.{reg, apply, opposite, doAll, undoAll, back, Good, start}
 
 -- ---- steps and their opposites
@@ -79,19 +80,6 @@ unfolding doAll undoAll back
 do-back p [] v = refl
 do-back p (x ∷ xs) v = doAll-append p (back xs) (opposite x ∷ []) v ∙ ap (apply p (opposite x)) (do-back p xs v)
 
--- ---- two registers exchanged twice
-
-swap-twice : (v : List ℕ) (t s a b : ℕ) → t ≢ s → reg v t ≡ a → reg v s ≡ b → set (set (set (set v t b) s a) t a) s b ≡ v
-swap-twice v t s a b ne ea eb =
-    ap (λ (l : List ℕ). set (set l t a) s b) (set-comm v t s b a ne)
-    ∙ ap (λ (l : List ℕ). set l s b) (set-set (set v s a) t b a)
-    ∙ ap (λ (l : List ℕ). set l s b) (sym (set-comm v t s a a ne))
-    ∙ set-set (set v t a) s a b
-    ∙ ap (λ (n : ℕ). set (set v t n) s b) (sym ea)
-    ∙ ap (λ (l : List ℕ). set l s b) (set-getD v t 0)
-    ∙ ap (λ (n : ℕ). set v s n) (sym eb)
-    ∙ set-getD v s 0
-
 module _ (p : ℕ) (pr : Prime p) where
   -- ---- residues stay residues
 
@@ -153,14 +141,7 @@ module _ (p : ℕ) (pr : Prime p) where
 
   undo-swp : (t s : ℕ) (v : List ℕ) → Apart t s → Good p v → apply p (Swp t s) (apply p (Swp t s) v) ≡ v
   unfolding apply
-  undo-swp t s v a g =
-      let k : t < length v = rw (g .four) (a .target-is-one) in
-      let ks : s < length (set v t (reg v s)) = rw (length-set v t (reg v s), g .four) (a .source-is-one) in
-      let ne : t ≢ s = a .differ in
-      let es : reg (set (set v t (reg v s)) s (reg v t)) s ≡ reg v t = getD-set-same (set v t (reg v s)) s (reg v t) 0 ks in
-      let et : reg (set (set v t (reg v s)) s (reg v t)) t ≡ reg v s =
-      getD-set-other (set v t (reg v s)) s t (reg v t) 0 ne ∙ getD-set-same v t (reg v s) 0 k in
-      rw (es, et) (swap-twice v t s (reg v t) (reg v s) ne refl refl)
+  undo-swp t s v a g = exchange-twice 0 v t s (rw (g .four) (a .target-is-one)) (rw (g .four) (a .source-is-one)) (a .differ)
 
   pub undo-apply : (x : Step) (v : List ℕ) → Sound x → Good p v → apply p (opposite x) (apply p x v) ≡ v
   unfolding opposite

@@ -62,6 +62,22 @@ pub pow-congruent : (p a r m n : ℕ) → a ^ r % p ≡ 1 → m % r ≡ n % r �
 pow-congruent p a r m n h e = sym (pow-order p a r m h) ∙ ap (λ (x : ℕ). a ^ x % p) e ∙ pow-order p a r n h
 
 module _ (p : ℕ) (pr : Prime p) where
+  pub power-zero : (a : ℕ) → a ^ 0 % p ≡ 1
+  power-zero a = ap (λ (x : ℕ). x % p) (pow-zero a) ∙ mod-eq-of-lt (pr .least)
+
+  pub power-one : (a : ℕ) → Residue p a → a ^ 1 % p ≡ a
+  power-one a ra = ap (λ (x : ℕ). x % p) (pow-one a) ∙ mod-eq-of-lt (ra .high)
+
+  -- a power of a base whose r-th power is 1 is another
+  pub order-power : (a r k : ℕ) → a ^ r % p ≡ 1 → (a ^ k % p) ^ r % p ≡ 1
+  order-power a r k ord =
+      pow-pow p a k r
+      ∙ ap (λ (x : ℕ). a ^ x % p) (mul-comm k r)
+      ∙ sym (pow-pow p a r k)
+      ∙ ap (λ (x : ℕ). x ^ k % p) ord
+      ∙ ap (λ (x : ℕ). x % p) (one-pow k)
+      ∙ mod-eq-of-lt (pr .least)
+
   pub times-pow : (a m n : ℕ) → times p (a ^ m % p) (a ^ n % p) ≡ a ^ (m + n) % p
   times-pow a m n = times-prime p pr (a ^ m % p) (a ^ n % p) ∙ reduced p a m n
 

@@ -1,7 +1,7 @@
 -- Products modulo m: a factor may be reduced first, since what is left out is a multiple of m.
 use mathlib.Core.Path.{_≡_, refl, sym, _∙_, ap}
 use Prim.Native.Nat.{ℕ, zero, suc, _+_, _*_, _/_, _%_, _<_}
-use native.Mathlib.Nat.{add-mul-mod-self-right, le-of-lt, lt-of-le-of-lt, mod-add-div', mod-eq-of-lt, mul-assoc, mul-comm, mul-le-mul-left, mul-lt-mul-of-pos-right, mul-one, zero-mod, zero-mul}
+use native.Mathlib.Nat.{add-mul-mod-self-right, le-of-lt, lt-of-le-of-lt, mod-add-div', mod-eq-of-lt, mul-assoc, mul-comm, mul-le-mul-left, mul-lt-mul-of-pos-right, mul-one, one-mul, zero-mod, zero-mul}
 use native.Mathlib.Omega.{arith}
 use Rattle.modular.specs.Residues.{Residue, times, remainder}
 
@@ -13,6 +13,17 @@ mul-mod-left a b m =
 pub mul-mod-right : (a b m : ℕ) → (a * (b % m)) % m ≡ a * b % m
 mul-mod-right a b m =
     ap (λ (n : ℕ). n % m) (mul-comm a (b % m)) ∙ mul-mod-left b a m ∙ ap (λ (n : ℕ). n % m) (mul-comm b a)
+
+-- where m = K n and k K = 1 modulo r, k m = n
+pub unscaled : (r k K m n : ℕ) → k * K % r ≡ 1 → m % r ≡ K * n % r → k * m % r ≡ n % r
+unscaled r k K m n inv e =
+    sym (mul-mod-right k m r)
+    ∙ ap (λ (x : ℕ). k * x % r) e
+    ∙ mul-mod-right k (K * n) r
+    ∙ ap (λ (x : ℕ). x % r) (sym (mul-assoc k K n))
+    ∙ sym (mul-mod-left (k * K) n r)
+    ∙ ap (λ (x : ℕ). x * n % r) inv
+    ∙ ap (λ (x : ℕ). x % r) (one-mul n)
 
 -- the product of two numbers below n
 pub product-below : (n : ℕ) {x y : ℕ} → x < n → y < n → x * y < n * n

@@ -5,13 +5,13 @@ use mathlib.Core.Bool.{Bool, true, false}
 use mathlib.Core.Logic.{⊎-elim}
 use mathlib.Core.List.{List, [], _∷_, map}
 use Prim.Native.Nat.{ℕ, zero, suc, _+_, _*_, _%_, _≤_, _<_, _^_}
-use native.Mathlib.Nat.{mul-assoc, one-mul, mod-lt, mod-eq-of-lt}
+use native.Mathlib.Nat.{one-mul, mod-lt, mod-eq-of-lt}
 use native.Mathlib.Decide.{decLe}
 use native.Mathlib.Omega.{arith}
 use lib.IntN.{ℤ, pos, _+ℤ_, _-ℤ_, +ℤ-invr, +ℤ-negℤ-cancel}
 use lib.ListN.{length}
 use Rattle.modular.specs.Inverses.{inverse, badExponent}
-use Rattle.modular.proofs.Laws.Residues.{mul-mod-left, mul-mod-right}
+use Rattle.modular.proofs.Laws.Residues.{unscaled}
 use Rattle.fibonacci.specs.Fibonacci.{fib}
 use Rattle.fibonacci.specs.Forms.{fibsum}
 use Rattle.fibonacci.specs.Height.{height}
@@ -81,17 +81,6 @@ module _ (r n : ℕ) (u v : ℕ → ℤ) (p : Sequence n u) (q : Sequence n v) w
   before-congruent c i (false ∷ bs) e f h a = before-congruent c (suc i) bs e f (omega arith) a
 
 -- ---- dual
-
--- where m = K n and k K = 1 modulo r, k m = n
-unscaled : (r k K m n : ℕ) → k * K % r ≡ 1 → m % r ≡ K * n % r → k * m % r ≡ n % r
-unscaled r k K m n inv e =
-    sym (mul-mod-right k m r)
-    ∙ ap (λ (x : ℕ). k * x % r) e
-    ∙ mul-mod-right k (K * n) r
-    ∙ ap (λ (x : ℕ). x % r) (sym (mul-assoc k K n))
-    ∙ sym (mul-mod-left (k * K) n r)
-    ∙ ap (λ (x : ℕ). x * n % r) inv
-    ∙ ap (λ (x : ℕ). x % r) (one-mul n)
 
 dual-ends : (r k K : ℕ) (ss ts Ss Ts : List Bool) (q : Reaching (length ss) (pos (fibsum ss)) (pos (fibsum ts)))
     → k < r → k < 2 ^ 28 → length ss ≤ 41 → k * K % r ≡ 1 → length Ss ≤ length ss → length Ts ≤ length ss

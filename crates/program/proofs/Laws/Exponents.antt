@@ -5,12 +5,12 @@ use mathlib.Core.Path.{_≡_, refl, sym, ap, ap₂, _∙_}
 use mathlib.Core.Bool.{Bool, true, false, cond}
 use mathlib.Core.List.{List, [], _∷_}
 use Prim.Native.Nat.{ℕ, zero, suc, _+_, _%_, _^_, _≤_, _<_}
-use native.Mathlib.Nat.{add-zero, zero-add, add-assoc, add-comm, mod-eq-of-lt, pow-zero}
+use native.Mathlib.Nat.{add-zero, zero-add, add-assoc, add-comm}
 use native.Mathlib.Omega.{arith}
 use lib.ListN.{length}
 use Rattle.modular.specs.Primes.{Prime}
 use Rattle.modular.specs.Residues.{Residue, times}
-use Rattle.modular.proofs.Laws.Powers.{times-pow, pow-one, residue-pow}
+use Rattle.modular.proofs.Laws.Powers.{times-pow, power-zero, power-one, residue-pow}
 use Rattle.fibonacci.specs.Fibonacci.{fib}
 use Rattle.fibonacci.specs.Forms.{fibsumFrom, fibsum}
 use Rattle.fibonacci.proofs.Laws.Fibonacci.{fib-zero, fib-one, fib-next}
@@ -110,14 +110,8 @@ descend-powers p pr a (b ∷ bs) =
 -- ---- from the registers that a program starts from
 
 module _ (p : ℕ) (pr : Prime p) where
-  pub power-zero : (a : ℕ) → a ^ 0 % p ≡ 1
-  power-zero a = ap (λ (x : ℕ). x % p) (pow-zero a) ∙ mod-eq-of-lt (pr .least)
-
-  pub power-one : (a : ℕ) → Residue p a → a ^ 1 % p ≡ a
-  power-one a ra = ap (λ (x : ℕ). x % p) (pow-one a) ∙ mod-eq-of-lt (ra .high)
-
   start-powers : (a : ℕ) → Residue p a → powers p a (fib 0) (fib 1) 0 0 ≡ start a
-  start-powers a ra = rw (fib-zero, fib-one) (simp (power-zero a, power-one a ra))
+  start-powers a ra = rw (fib-zero, fib-one) (simp (power-zero p pr a, power-one p pr a ra))
 
   pub ascend-start : (a : ℕ) (ss ts : List Bool) → Residue p a → length ts ≤ length ss
       → doAll p (ascend ss ts) (start a) ≡ powers p a (fib (length ss)) (fib (suc (length ss))) (fibsum ss) (fibsum ts)
@@ -128,7 +122,7 @@ module _ (p : ℕ) (pr : Prime p) where
 
   pub descend-start : (a : ℕ) (bs : List Bool) → Residue p a
       → doAll p (descend bs) (a ∷ 1 ∷ 1 ∷ 1 ∷ []) ≡ a ∷ (a ^ fibsumFrom 0 bs % p) ∷ (a ^ fibsum bs % p) ∷ 1 ∷ []
-  descend-start a bs ra = simp (power-zero a, power-one a ra) at (descend-powers p pr a bs)
+  descend-start a bs ra = simp (power-zero p pr a, power-one p pr a ra) at (descend-powers p pr a bs)
 
   pub good-powers : (a c d e f : ℕ) → Residue p a → Good p (powers p a c d e f)
   good-powers a c d e f ra = record { four = refl; residue = go }

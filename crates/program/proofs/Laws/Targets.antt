@@ -4,13 +4,13 @@ use mathlib.Core.Path.{_≡_, refl, sym, ap, ap₂, _∙_}
 use mathlib.Core.Bool.{Bool}
 use mathlib.Core.List.{List, [], _∷_, _++_, append-assoc}
 use Prim.Native.Nat.{ℕ, suc, _+_, _*_, _%_, _^_, _≤_}
-use native.Mathlib.Nat.{mul-assoc, mul-comm, one-mul, mod-eq-of-lt}
+use native.Mathlib.Nat.{mul-comm}
 use native.Mathlib.Omega.{arith}
 use lib.ListN.{length}
 use Rattle.modular.specs.Primes.{Prime}
 use Rattle.modular.specs.Residues.{Residue}
-use Rattle.modular.proofs.Laws.Residues.{mul-mod-left, mul-mod-right}
-use Rattle.modular.proofs.Laws.Powers.{pow-pow, pow-congruent, one-pow, residue-pow}
+use Rattle.modular.proofs.Laws.Residues.{unscaled}
+use Rattle.modular.proofs.Laws.Powers.{pow-pow, pow-congruent, power-zero, power-one, order-power, residue-pow}
 use Rattle.fibonacci.specs.Fibonacci.{fib}
 use Rattle.fibonacci.specs.Forms.{fibsumFrom, fibsum, pad}
 use Rattle.fibonacci.proofs.Laws.Fibonacci.{fib-zero, fib-one}
@@ -22,7 +22,7 @@ use Rattle.machine.specs.Machine.{apply, doAll, undoAll, back, start}
 use Rattle.machine.proofs.Laws.Steps.{back-append, back-back, doAll-append, do-back, good-start, undo-do, sound-append, sound-back}
 use Rattle.program.specs.Generators.{ascend, chain, descend, basic, dual, hybrid, Raises, Lowers}
 use Rattle.program.proofs.Laws.Sound.{sound-ascend}
-use Rattle.program.proofs.Laws.Exponents.{powers, good-powers, ascend-powers, ascend-start, descend-start, power-zero, power-one}
+use Rattle.program.proofs.Laws.Exponents.{powers, good-powers, ascend-powers, ascend-start, descend-start}
 
 -- an empty form sums to 0
 sum-none : (i : ℕ) → fibsumFrom i [] ≡ 0
@@ -53,26 +53,7 @@ module _ (p : ℕ) (pr : Prime p) where
 
   -- and b^m is a^n, where m = K n and k K = 1 modulo r
   pub unscaled-power : (a r k K m n : ℕ) → a ^ r % p ≡ 1 → k * K % r ≡ 1 → m % r ≡ K * n % r → (a ^ k % p) ^ m % p ≡ a ^ n % p
-  unscaled-power a r k K m n ord inv e =
-      let cancelled : k * m % r ≡ n % r =
-      sym (mul-mod-right k m r)
-      ∙ ap (λ (x : ℕ). k * x % r) e
-      ∙ mul-mod-right k (K * n) r
-      ∙ ap (λ (x : ℕ). x % r) (sym (mul-assoc k K n))
-      ∙ sym (mul-mod-left (k * K) n r)
-      ∙ ap (λ (x : ℕ). x * n % r) inv
-      ∙ ap (λ (x : ℕ). x % r) (one-mul n) in
-      pow-pow p a k m ∙ pow-congruent p a r (k * m) n ord cancelled
-
-  -- a power of a base whose r-th power is 1 is another
-  pub order-power : (a r k : ℕ) → a ^ r % p ≡ 1 → (a ^ k % p) ^ r % p ≡ 1
-  order-power a r k ord =
-      pow-pow p a k r
-      ∙ ap (λ (x : ℕ). a ^ x % p) (mul-comm k r)
-      ∙ sym (pow-pow p a r k)
-      ∙ ap (λ (x : ℕ). x ^ k % p) ord
-      ∙ ap (λ (x : ℕ). x % p) (one-pow k)
-      ∙ mod-eq-of-lt (pr .least)
+  unscaled-power a r k K m n ord inv e = pow-pow p a k m ∙ pow-congruent p a r (k * m) n ord (unscaled r k K m n inv e)
 
   -- ---- two halves that meet
 
@@ -92,7 +73,7 @@ module _ (p : ℕ) (pr : Prime p) where
       let inv′ : K * k % r ≡ 1 = ap (λ (x : ℕ). x % r) (mul-comm K k) ∙ inv in
       let e : a ^ k % p ≡ b = unscaled-power b r K k k 1 ord inv′ (ap (λ (x : ℕ). x % r) (omega arith)) ∙ power-one p pr b rb in
       ap (λ (x : ℕ). undoAll p xs (start x)) (sym e)
-      ∙ ap (undoAll p xs) (sym (raises a ra (order-power b r K ord)))
+      ∙ ap (undoAll p xs) (sym (raises a ra (order-power p pr b r K ord)))
       ∙ undo-do p pr xs (start a) sound (good-start p pr a ra)
 
   -- ---- basic

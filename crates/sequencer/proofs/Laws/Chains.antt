@@ -13,7 +13,7 @@ use Rattle.refusal.specs.Outcomes.{Outcome, refused, answered}
 use Rattle.modular.specs.Primes.{Prime}
 use Rattle.modular.specs.Residues.{Residue}
 use Rattle.modular.specs.Inverses.{inverse}
-use Rattle.modular.proofs.Laws.Powers.{pow-pow, pow-order, residue-pow}
+use Rattle.modular.proofs.Laws.Powers.{pow-pow, pow-order, power-one, order-power, residue-pow}
 use Rattle.tape.specs.declared.Step.{Step}
 use Rattle.tape.specs.Layout.{headerOf, stepsOf}
 use Rattle.tape.proofs.Laws.Layout.{steps-count}
@@ -21,8 +21,6 @@ use Rattle.machine.specs.Machine.{run, start}
 use Rattle.machine.proofs.Laws.Steps.{good-start}
 use Rattle.machine.proofs.Laws.Runs.{run-forward, run-backward}
 use Rattle.program.specs.Generators.{Raises, Lowers}
-use Rattle.program.proofs.Laws.Exponents.{power-one}
-use Rattle.program.proofs.Laws.Targets.{order-power}
 use Rattle.program.proofs.Laws.Checking.{AcceptedNamed, accepted-named}
 use Rattle.program.proofs.Laws.Accepting.{accepted-some, accepted-raises, accepted-lowers}
 use Rattle.sequencer.specs.Lists.{Request, answerTo, left, leftBy}
