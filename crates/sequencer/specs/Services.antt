@@ -1,14 +1,17 @@
--- Load and run: check's refusals, then their own, else the four registers.
+-- Load, run, trace and cut: check's refusals, then their own, else the four registers, their exponents, or a part of the tape.
 use mathlib.Core.Bool.{Bool, false, not, _&&_, _||_}
 use mathlib.Core.List.{List, [], _∷_, _++_}
 use Prim.Native.Nat.{ℕ, _%_, _^_}
 use lib.Dec.{leb, ltb, eqb}
-use Rattle.refusal.specs.declared.Refusal.the-variants.{Register, Position, Base}
+use lib.IntN.{ℤ}
+use lib.ListN.{take}
+use Rattle.refusal.specs.declared.Refusal.the-variants.{Register, Position, Base, Range}
 use Rattle.refusal.specs.Refusals.{numberOf}
 use Rattle.refusal.specs.Outcomes.{Outcome, Rule, refused, answered, outcome, _given-if_}
 use Rattle.tape.specs.declared.Header.{Header}
-use Rattle.tape.specs.Layout.{headerOf, stepsOf}
+use Rattle.tape.specs.Layout.{headerOf, stepWords, stepsOf}
 use Rattle.machine.specs.Machine.{valuesOf, run, start}
+use Rattle.machine.specs.Exponents.{startExponents, exponentsAt, staysInRange}
 use Rattle.program.specs.Services.{isNamed, checkRules}
 use Rattle.sequencer.specs.declared.Standing.{Standing}
 use Rattle.sequencer.specs.declared.Standing.the-variants.{At, Refused}
@@ -53,6 +56,35 @@ runRules tape v from goal =
 -- run: the registers at its goal
 unfoldable pub runOutcome : List ℕ → List ℕ → ℕ → ℕ → Outcome (List ℕ)
 runOutcome tape v from goal = outcome (runRules tape v from goal) (run (headerOf tape .modulus) (stepsOf tape) from goal v)
+
+-- trace: each register's whole exponent at a position, refused where any position up to that one leaves the range
+unfoldable pub traceOutcome : List ℕ → ℕ → Outcome (List ℤ)
+traceOutcome tape position =
+    outcome
+    (checkRules tape
+    ++ (Position given-if ltb (headerOf tape .steps) position)
+    ∷ (Range given-if not (staysInRange (take position (stepsOf tape)) startExponents))
+    ∷ [])
+    (exponentsAt (stepsOf tape) position)
+
+-- cut: the step words numbered first + 1 to last
+unfoldable pub cutOutcome : List ℕ → ℕ → ℕ → Outcome (List ℕ)
+cutOutcome tape first last =
+    let h = headerOf tape in
+    outcome
+    (checkRules tape
+    ++ (Position given-if (ltb (h .steps) first || ltb (h .steps) last || ltb last first))
+    ∷ [])
+    (stepWords tape first last)
+
+-- a refused cut is an empty part beside its number
+abbrev pub cutPart : Outcome (List ℕ) → List ℕ
+cutPart (refused n) = []
+cutPart (answered words) = words
+
+abbrev pub cutNumber : Outcome (List ℕ) → ℕ
+cutNumber (refused n) = n
+cutNumber (answered words) = 0
 
 -- the outcome that a `Standing` of the code stands for
 abbrev pub standingOf : Standing → Outcome (List ℕ)
