@@ -42,7 +42,7 @@ unfoldable pub undoAll : ℕ → List Step → List ℕ → List ℕ
 undoAll p [] v = v
 undoAll p (x ∷ xs) v = apply p (opposite x) (undoAll p xs v)
 
--- From position i to position j: the steps numbered i + 1 to j done, or those numbered j + 1 to i undone. Nothing else is running.
+-- From position i to position j: the steps numbered i + 1 to j done, or those numbered j + 1 to i undone.
 unfoldable pub run : ℕ → List Step → ℕ → ℕ → List ℕ → List ℕ
 run p xs i j v = cond (leb i j) (doAll p (slice i j xs) v) (undoAll p (slice j i xs) v)
 

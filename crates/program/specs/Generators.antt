@@ -59,6 +59,6 @@ hybrid vs Ks = Swp 0 1 ∷ (descend vs ++ Swp 0 1 ∷ Swp 1 2 ∷ back (ascend K
 abbrev pub Raises : ℕ → ℕ → ℕ → List Step → Type 0
 Raises p r k xs = (a : ℕ) → Residue p a → a ^ r % p ≡ 1 → doAll p xs (start a) ≡ start (a ^ k % p)
 
--- Undone, they lower from the K-th power: they take (1, b, 1, 1) to (1, b^K, 1, 1).
+-- Undone, they take (1, b, 1, 1) to (1, b^K, 1, 1), for every b from 1 to p - 1 with b^r = 1 modulo p.
 abbrev pub Lowers : ℕ → ℕ → ℕ → List Step → Type 0
 Lowers p r K xs = (b : ℕ) → Residue p b → b ^ r % p ≡ 1 → undoAll p xs (start b) ≡ start (b ^ K % p)

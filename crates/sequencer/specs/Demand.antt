@@ -5,19 +5,15 @@ use mathlib.Core.Bool.{true, false, cond}
 use mathlib.Core.List.{List, [], _∷_}
 use Prim.Native.Nat.{ℕ, _*_, _%_, _^_, _≤_}
 use lib.Dec.{ltb}
-use Rattle.refusal.specs.Outcomes.{Outcome, refused, answered, applies}
+use Rattle.refusal.specs.Outcomes.{refused, answered, applies}
 use Rattle.modular.specs.Inverses.{inverse}
 use Rattle.tape.specs.Layout.{headerOf, stepsOf}
 use Rattle.machine.specs.Machine.{run, Good, start}
 use Rattle.program.specs.Services.{isNamed, checkOutcome}
 use Rattle.sequencer.specs.Services.{loadOutcome, runRules}
-use Rattle.sequencer.specs.Lists.{Request, answerTo, left}
+use Rattle.sequencer.specs.Lists.{Request, answerTo, after, performed}
 
 -- ---- what is said of every run
-
--- it is refused
-abbrev pub IsRefused : Outcome (List ℕ) → Type 0
-IsRefused answer = (n : ℕ) × (answer ≡ refused n)
 
 -- what the steps between its two positions, done or undone one after another, make of the registers
 abbrev pub between : Request → List ℕ → List ℕ
@@ -26,13 +22,13 @@ between q v = run (headerOf (q .tape) .modulus) (stepsOf (q .tape)) (q .from) (q
 -- It is refused exactly where a refusal listed for run applies; otherwise it answers what the steps make of the registers.
 abbrev pub AsSaid : Request → List ℕ → Type 0
 AsSaid q v =
-    ((applies (runRules (q .tape) v (q .from) (q .goal)) ≡ true) × IsRefused (answerTo q v))
+    ((applies (runRules (q .tape) v (q .from) (q .goal)) ≡ true) × ((n : ℕ) × (answerTo q v ≡ refused n)))
     ⊎ ((applies (runRules (q .tape) v (q .from) (q .goal)) ≡ false) × (answerTo q v ≡ answered (between q v)))
 
--- so does every run of a list that starts at registers v
-unfoldable pub EachAsSaid : List ℕ → List Request → Type 0
-EachAsSaid v [] = Unit {0}
-EachAsSaid v (q ∷ qs) = AsSaid q v × EachAsSaid (left (answerTo q v) v) qs
+-- So does every run of a list from registers v. Of the code this speaks through run's contract, which gives `answerTo`.
+unfoldable pub EachAsSaid : List Request → List ℕ → Type 0
+EachAsSaid [] v = Unit {0}
+EachAsSaid (q ∷ qs) v = AsSaid q v × EachAsSaid qs (after (answerTo q v) v)
 
 -- ---- chains
 
@@ -44,68 +40,52 @@ pub record EndToEnd (p r : ℕ) (q : Request) : Type 0 where
   pub order : headerOf (q .tape) .order ≡ r
   pub ends : ((q .from ≡ 0) × (q .goal ≡ headerOf (q .tape) .steps)) ⊎ ((q .from ≡ headerOf (q .tape) .steps) × (q .goal ≡ 0))
 
--- a run of a chain: one that isn't refused goes end to end
-abbrev pub Link : ℕ → ℕ → Request → Outcome (List ℕ) → Type 0
-Link p r q (refused n) = Unit {0}
-Link p r q (answered w) = EndToEnd p r q
+unfoldable pub AllEndToEnd : ℕ → ℕ → List Request → Type 0
+AllEndToEnd p r [] = Unit {0}
+AllEndToEnd p r (q ∷ qs) = EndToEnd p r q × AllEndToEnd p r qs
 
-unfoldable pub Links : ℕ → ℕ → List ℕ → List Request → Type 0
-Links p r v [] = Unit {0}
-Links p r v (q ∷ qs) = Link p r q (answerTo q v) × Links p r (left (answerTo q v) v) qs
-
--- A chain starts from the (1, a, 1, 1) that load answered on an accepted program of that p, with a^r = 1 modulo p.
-pub record Chain (p r a : ℕ) (v : List ℕ) (qs : List Request) : Type 0 where
+-- A chain starts from the (1, a, 1, 1) that load answered on an accepted program of that p, with a^r = 1 modulo p. Each run not
+-- refused takes an accepted named program for p and r end to end.
+pub record Chain (p r a : ℕ) (qs : List Request) (v : List ℕ) : Type 0 where
   pub tape : List ℕ
   pub accepted : checkOutcome tape ≡ answered 0
   pub modulus : headerOf tape .modulus ≡ p
   pub loaded : loadOutcome tape a ≡ answered v
-  pub order : a ^ r % p ≡ 1
-  pub links : Links p r v qs
+  pub power : a ^ r % p ≡ 1
+  pub links : AllEndToEnd p r (performed qs v)
 
--- the factor of a run that isn't refused: k if forward, the inverse of k if backward
+-- the factor of a run: k if forward, the inverse of k if backward; a named program has steps, so end to end is one of the two
 abbrev pub factor : ℕ → Request → ℕ
 factor r q = let k = headerOf (q .tape) .exponent in cond (ltb (q .from) (q .goal)) k (inverse r k)
 
-abbrev pub factored : ℕ → Request → Outcome (List ℕ) → ℕ → ℕ
-factored r q (refused n) E = E
-factored r q (answered w) E = E * factor r q % r
+-- E after runs, from E before them
+unfoldable pub exponentAfter : ℕ → List Request → ℕ → ℕ
+exponentAfter r [] E = E
+exponentAfter r (q ∷ qs) E = exponentAfter r qs (E * factor r q % r)
 
--- E at the end of the list, from E at its start
-unfoldable pub exponentAfter : ℕ → List ℕ → List Request → ℕ → ℕ
-exponentAfter r v [] E = E
-exponentAfter r v (q ∷ qs) E = exponentAfter r (left (answerTo q v) v) qs (factored r q (answerTo q v) E)
-
--- DEMAND 3, CHAIN, of registers `after` at the end of a list: every run is refused or answers as said, and they are (1, a^E, 1, 1).
+-- DEMAND 3, CHAIN. If a list is a chain from registers v, every run in it is refused or answers as said, and the registers at its
+-- end, `last`, are (1, a^E, 1, 1).
 abbrev pub ChainEnds : List Request → List ℕ → List ℕ → Type 0
-ChainEnds qs v after =
-    (p r a : ℕ) → Chain p r a v qs → EachAsSaid v qs × (after ≡ start (a ^ exponentAfter r v qs 1 % p))
+ChainEnds qs v last =
+    (p r a : ℕ) → Chain p r a qs v → EachAsSaid qs v × (last ≡ start (a ^ exponentAfter r (performed qs v) 1 % p))
 
 -- ---- rewinds
 
--- a run of a rewind: one that isn't refused is of the one program and begins at the position reached
-abbrev pub GoesOn : List ℕ → ℕ → Request → Outcome (List ℕ) → Type 0
-GoesOn tape at q (refused n) = Unit {0}
-GoesOn tape at q (answered w) = (q .tape ≡ tape) × (q .from ≡ at)
+-- runs of one program, each from the position that the one before it reached, the first from `at` and the last to `home`
+unfoldable pub Returns : List ℕ → ℕ → ℕ → List Request → Type 0
+Returns tape home at [] = at ≡ home
+Returns tape home at (q ∷ qs) = (q .tape ≡ tape) × (q .from ≡ at) × Returns tape home (q .goal) qs
 
--- the position reached after a run: the goal of one that isn't refused
-abbrev pub reached : ℕ → Request → Outcome (List ℕ) → ℕ
-reached at q (refused n) = at
-reached at q (answered w) = q .goal
-
--- from position `at` each run goes on, and at the end of the list the position reached is `home`
-unfoldable pub Returns : List ℕ → ℕ → ℕ → List ℕ → List Request → Type 0
-Returns tape home at v [] = at ≡ home
-Returns tape home at v (q ∷ qs) =
-    GoesOn tape at q (answerTo q v) × Returns tape home (reached at q (answerTo q v)) (left (answerTo q v) v) qs
-
--- A rewind starts from any four registers from 1 to p - 1 and any position of one accepted program, and comes back to it.
-pub record Rewind (tape : List ℕ) (home : ℕ) (v : List ℕ) (qs : List Request) : Type 0 where
+-- A rewind starts from any four registers from 1 to p - 1 and any position of one accepted program. Each run not refused is of that
+-- program and begins at the position reached, and at the end that is the starting position again.
+pub record Rewind (tape : List ℕ) (home : ℕ) (qs : List Request) (v : List ℕ) : Type 0 where
   pub accepted : checkOutcome tape ≡ answered 0
   pub position : home ≤ headerOf tape .steps
   pub registers : Good (headerOf tape .modulus) v
-  pub returns : Returns tape home home v qs
+  pub returns : Returns tape home home (performed qs v)
 
--- DEMAND 3, REWIND, of registers `after` at the end of a list: every run is refused or answers as said, and they are as they were.
+-- DEMAND 3, REWIND. If a list is a rewind from registers v, every run in it is refused or answers as said, and the registers at its
+-- end, `last`, are as they were.
 abbrev pub RewindEnds : List Request → List ℕ → List ℕ → Type 0
-RewindEnds qs v after =
-    (tape : List ℕ) (home : ℕ) → Rewind tape home v qs → EachAsSaid v qs × (after ≡ v)
+RewindEnds qs v last =
+    (tape : List ℕ) (home : ℕ) → Rewind tape home qs v → EachAsSaid qs v × (last ≡ v)

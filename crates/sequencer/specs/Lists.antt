@@ -18,22 +18,31 @@ abbrev pub answerTo : Request → List ℕ → Outcome (List ℕ)
 answerTo q v = runOutcome (q .tape) v (q .from) (q .goal)
 
 -- the registers after an answer: a refused run leaves them as they are
-abbrev pub left : Outcome (List ℕ) → List ℕ → List ℕ
-left (refused n) v = v
-left (answered w) v = w
+abbrev pub after : Outcome (List ℕ) → List ℕ → List ℕ
+after (refused n) v = v
+after (answered w) v = w
 
 -- the registers after all runs of a list
-unfoldable pub leftBy : List Request → List ℕ → List ℕ
-leftBy [] v = v
-leftBy (q ∷ qs) v = leftBy qs (left (answerTo q v) v)
+unfoldable pub afterAll : List Request → List ℕ → List ℕ
+afterAll [] v = v
+afterAll (q ∷ qs) v = afterAll qs (after (answerTo q v) v)
+
+-- the runs of a list that aren't refused, in order
+abbrev pub unlessRefused : Outcome (List ℕ) → Request → List Request → List Request
+unlessRefused (refused n) q qs = qs
+unlessRefused (answered w) q qs = q ∷ qs
+
+unfoldable pub performed : List Request → List ℕ → List Request
+performed [] v = []
+performed (q ∷ qs) v = unlessRefused (answerTo q v) q (performed qs (after (answerTo q v) v))
 
 -- ---- requests as words
 
--- the part of a row from one index to another; outside the row, nothing
+-- the part of a row from one index up to another; where they are the wrong way round or past the row, the empty part
 unfoldable pub part : List ℕ → ℕ → ℕ → List ℕ
 part row begin end = cond (leb begin end && leb end (length row)) (take (end - begin) (drop begin row)) []
 
--- Four words make a request: where its tape begins and ends in the row, and its two positions. Fewer words than four make none.
+-- Four words make a request: where its tape begins and ends in the row, and its two positions. One to three words left over make none.
 unfoldable pub requestsOf : List ℕ → List ℕ → List Request
 requestsOf row [] = []
 requestsOf row (begin ∷ []) = []

@@ -20,7 +20,7 @@ use Rattle.sequencer.specs.declared.Standing.the-variants.{At, Refused}
 unfoldable pub badRegister : ℕ → ℕ → Bool
 badRegister p x = eqb x 0 || leb p x
 
--- and so is one of several
+-- one of several numbers is
 unfoldable pub badRegisters : ℕ → List ℕ → Bool
 badRegisters p [] = false
 badRegisters p (x ∷ v) = badRegister p x || badRegisters p v

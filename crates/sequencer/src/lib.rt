@@ -8,11 +8,11 @@ ghost use Rattle.refusal.specs.Outcomes.{answered};
 ghost use Rattle.machine.specs.Machine.{valuesOf};
 ghost use Rattle.program.specs.Services.{acceptOutcome};
 ghost use Rattle.sequencer.specs.Services.{standingOf, loadOutcome, runOutcome};
-ghost use Rattle.sequencer.specs.Lists.{leftBy, requestsOf};
+ghost use Rattle.sequencer.specs.Lists.{afterAll, requestsOf};
 ghost use Rattle.sequencer.specs.Demand.{ChainEnds, RewindEnds};
 use machine::Registers;
 use refusal::Refusal;
-use requests::left;
+use requests::after_run;
 use requests::part;
 use tape::Header;
 use tape::Reading;
@@ -51,9 +51,10 @@ pub fn run(tape: &[u32], registers: Registers, from: u32, to: u32) -> Standing
 }
 
 // A list of runs, one after another, each on the registers that those before it left. A request is four words: where its tape begins
-// and ends in the row, and its two positions. A tape outside the row is empty, so its run is refused; nothing else is.
+// and ends in the row, and its two positions. A tape past the row is the empty one, so run refuses it with 6. Nothing is refused here:
+// one to three words left over are no request.
 pub fn play(row: &[u32], requests: &[u32], registers: Registers) -> Registers
-    ensures { λ after. ⌜ valuesOf after ≡ leftBy (requestsOf (now (row .entry)) (now (requests .entry))) (valuesOf registers) ⌝ }
+    ensures { λ after. ⌜ valuesOf after ≡ afterAll (requestsOf (now (row .entry)) (now (requests .entry))) (valuesOf registers) ⌝ }
     ensures { λ after. ⌜ ChainEnds (requestsOf (now (row .entry)) (now (requests .entry))) (valuesOf registers) (valuesOf after) ⌝ }
     ensures { λ after. ⌜ RewindEnds (requestsOf (now (row .entry)) (now (requests .entry))) (valuesOf registers) (valuesOf after) ⌝ }
 {
@@ -61,7 +62,7 @@ pub fn play(row: &[u32], requests: &[u32], registers: Registers) -> Registers
     let mut i: usize = 0;
     while REQUEST_WORDS <= requests.len() - i {
         let tape = part(row, requests[i], requests[i + 1]);
-        after = left(run(tape, after, requests[i + 2], requests[i + 3]), after);
+        after = after_run(run(tape, after, requests[i + 2], requests[i + 3]), after);
         i += REQUEST_WORDS;
     }
     after

@@ -2,11 +2,11 @@
 ghost use mathlib.Core.Path.{_≡_};
 ghost use Rattle.machine.specs.Machine.{valuesOf};
 ghost use Rattle.sequencer.specs.Services.{standingOf};
-ghost use Rattle.sequencer.specs.Lists.{part, left};
+ghost use Rattle.sequencer.specs.Lists.{part, after};
 use crate::Standing;
 use machine::Registers;
 
-// The part of a row from one index to another; outside the row, the empty part.
+// The part of a row from one index up to another; where they are the wrong way round or past the row, the empty part.
 pub(crate) fn part(row: &[u32], begin: u32, end: u32) -> &[u32]
     ensures { λ r. ⌜ now r ≡ part (now (row .entry)) begin end ⌝ }
 {
@@ -22,11 +22,11 @@ pub(crate) fn part(row: &[u32], begin: u32, end: u32) -> &[u32]
 }
 
 // The registers after a run: a refused one leaves them as they are.
-pub(crate) fn left(answer: Standing, registers: Registers) -> Registers
-    ensures { λ r. ⌜ valuesOf r ≡ left (standingOf answer) (valuesOf registers) ⌝ }
+pub(crate) fn after_run(answer: Standing, registers: Registers) -> Registers
+    ensures { λ r. ⌜ valuesOf r ≡ after (standingOf answer) (valuesOf registers) ⌝ }
 {
     match answer {
-        Standing::At(after) => after,
+        Standing::At(reached) => reached,
         Standing::Refused(e) => registers,
     }
 }

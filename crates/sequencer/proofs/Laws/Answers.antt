@@ -20,7 +20,7 @@ use Rattle.program.specs.Services.{checkRules, checkOutcome}
 use Rattle.program.proofs.Laws.Checking.{accepted}
 use Rattle.program.proofs.Laws.Accepting.{accepted-prime}
 use Rattle.sequencer.specs.Services.{badRegister, loadOutcome, runRules, runOutcome}
-use Rattle.sequencer.specs.Lists.{Request, answerTo, left}
+use Rattle.sequencer.specs.Lists.{Request, answerTo, after}
 use Rattle.sequencer.specs.Demand.{AsSaid, EachAsSaid}
 
 -- a number that refusal 9 lets pass
@@ -57,7 +57,7 @@ as-said : (q : Request) (v : List ℕ) → AsSaid q v
 unfolding runOutcome
 as-said q v = refused-where (runRules (q .tape) v (q .from) (q .goal)) _
 
-pub each-as-said : (v : List ℕ) (qs : List Request) → EachAsSaid v qs
+pub each-as-said : (qs : List Request) (v : List ℕ) → EachAsSaid qs v
 unfolding EachAsSaid
-each-as-said v [] = tt
-each-as-said v (q ∷ qs) = (as-said q v, each-as-said (left (answerTo q v) v) qs)
+each-as-said [] v = tt
+each-as-said (q ∷ qs) v = (as-said q v, each-as-said qs (after (answerTo q v) v))

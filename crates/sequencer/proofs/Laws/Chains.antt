@@ -23,8 +23,8 @@ use Rattle.machine.proofs.Laws.Runs.{run-forward, run-backward}
 use Rattle.program.specs.Generators.{Raises, Lowers}
 use Rattle.program.proofs.Laws.Checking.{AcceptedNamed, accepted-named}
 use Rattle.program.proofs.Laws.Accepting.{accepted-some, accepted-raises, accepted-lowers}
-use Rattle.sequencer.specs.Lists.{Request, answerTo, left, leftBy}
-use Rattle.sequencer.specs.Demand.{EndToEnd, Link, Links, factor, factored, exponentAfter, ChainEnds}
+use Rattle.sequencer.specs.Lists.{Request, answerTo, after, afterAll, unlessRefused, performed}
+use Rattle.sequencer.specs.Demand.{EndToEnd, AllEndToEnd, factor, exponentAfter, ChainEnds}
 use Rattle.sequencer.proofs.Laws.Answers.{steps-sound, prime-of, load-answered, run-answered, each-as-said}
 
 module _ (p : ℕ) (pr : Prime p) (r a : ℕ) (ra : Residue p a) (ord : a ^ r % p ≡ 1) where
@@ -83,27 +83,30 @@ module _ (p : ℕ) (pr : Prime p) (r a : ℕ) (ra : Residue p a) (ord : a ^ r % 
         ap (λ (n : ℕ). run n xs (q .from) (q .goal) (start b)) (end .modulus)
         ∙ ⊎-elim (λ e. forward (e .0) (e .1 ∙ goal-is)) (λ e. backward (e .0 ∙ goal-is) (e .1)) (end .ends)
 
-  from-there : (qs : List Request) (E : ℕ) (v : List ℕ) → v ≡ start (a ^ E % p) → Links p r v qs
-      → leftBy qs v ≡ start (a ^ exponentAfter r v qs E % p)
-  unfolding leftBy Links exponentAfter
+  from-there : (qs : List Request) (E : ℕ) (v : List ℕ) → v ≡ start (a ^ E % p) → AllEndToEnd p r (performed qs v)
+      → afterAll qs v ≡ start (a ^ exponentAfter r (performed qs v) E % p)
+  unfolding afterAll performed AllEndToEnd exponentAfter
   from-there [] E v e h = e
-  from-there (q ∷ qs) E v e h = go (answerTo q v) refl (from-there qs) (h .0) (h .1)
+  from-there (q ∷ qs) E v e h = go (answerTo q v) refl (from-there qs) h
     where
       go : (answer : Outcome (List ℕ)) → answerTo q v ≡ answer
-          → ((E′ : ℕ) (v′ : List ℕ) → v′ ≡ start (a ^ E′ % p) → Links p r v′ qs → leftBy qs v′ ≡ start (a ^ exponentAfter r v′ qs E′ % p))
-          → Link p r q answer → Links p r (left answer v) qs
-          → leftBy qs (left answer v) ≡ start (a ^ exponentAfter r (left answer v) qs (factored r q answer E) % p)
-      go (refused n) was rest link links = rest E v e links
-      go (answered w) was rest link links =
+          → ((E′ : ℕ) (v′ : List ℕ) → v′ ≡ start (a ^ E′ % p) → AllEndToEnd p r (performed qs v′)
+          → afterAll qs v′ ≡ start (a ^ exponentAfter r (performed qs v′) E′ % p))
+          → AllEndToEnd p r (unlessRefused answer q (performed qs (after answer v)))
+          → afterAll qs (after answer v) ≡ start (a ^ exponentAfter r (unlessRefused answer q (performed qs (after answer v))) E % p)
+      go (refused n) was rest links = rest E v e links
+      go (answered w) was rest links =
           rest (E * factor r q % r) w
           (run-answered (q .tape) v (q .from) (q .goal) w was
           ∙ ap (run (headerOf (q .tape) .modulus) (stepsOf (q .tape)) (q .from) (q .goal)) e
-          ∙ linked q link E)
-          links
+          ∙ linked q (links .0) E)
+          (links .1)
 
-pub chain : (qs : List Request) (v : List ℕ) → ChainEnds qs v (leftBy qs v)
-chain qs v p r a c =
+pub chain-ends : (qs : List Request) (v : List ℕ) → ChainEnds qs v (afterAll qs v)
+chain-ends qs v p r a c =
     let pr : Prime p = subst Prime (c .modulus) (prime-of (c .tape) (c .accepted)) in
     let load = load-answered (c .tape) a v (c .loaded) in
-    let ra : Residue p a = subst (λ (n : ℕ). Residue n a) (c .modulus) (load .base) in
-    (each-as-said v qs, from-there p pr r a ra (c .order) qs 1 v (load .registers ∙ ap start (sym (power-one p pr a ra))) (c .links))
+    let ra : Residue p a = subst (λ (n : ℕ). Residue n a) (c .modulus) (load .base) in (
+      each-as-said qs v,
+      from-there p pr r a ra (c .power) qs 1 v (load .registers ∙ ap start (sym (power-one p pr a ra))) (c .links),
+    )

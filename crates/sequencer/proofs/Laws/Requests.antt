@@ -9,7 +9,7 @@ use lib.ListN.{length, getD, take, drop, length-drop}
 use lib.Seq.{drop-cons}
 use borrow.Author.Tests.{le-leb, lt-leb}
 use Rattle.sequencer.specs.Services.{runOutcome}
-use Rattle.sequencer.specs.Lists.{Request, left, leftBy, part, requestsOf}
+use Rattle.sequencer.specs.Lists.{Request, after, afterAll, part, requestsOf}
 
 -- ---- the part of a row
 
@@ -53,16 +53,16 @@ module _ (row words : List ℕ) (i : ℕ) where
       let four : i + 3 + 1 ≡ i + 4 = omega arith in
       cc (a, b, c, d, two, three, four)
 
-  -- what the list leaves is what the requests past the next make of what that one leaves
-  pub left-next : (tape v w : List ℕ) → i + 4 ≤ length words → tape ≡ part row (getD words i 0) (getD words (i + 1) 0)
-      → w ≡ left (runOutcome tape v (getD words (i + 2) 0) (getD words (i + 3) 0)) v
-      → leftBy (requestsOf row (drop (i + 4) words)) w ≡ leftBy (requestsOf row (drop i words)) v
-  unfolding leftBy requestsOf
-  left-next tape v w h is after =
-      ap (leftBy (requestsOf row (drop (i + 4) words)))
-      (after ∙ ap (λ (t : List ℕ). left (runOutcome t v (getD words (i + 2) 0) (getD words (i + 3) 0)) v) is)
-      ∙ sym (ap (λ (l : List ℕ). leftBy (requestsOf row l) v) (four-words h))
+  -- what all runs leave is what those past the next make of what that one leaves
+  pub after-next : (tape v w : List ℕ) → i + 4 ≤ length words → tape ≡ part row (getD words i 0) (getD words (i + 1) 0)
+      → w ≡ after (runOutcome tape v (getD words (i + 2) 0) (getD words (i + 3) 0)) v
+      → afterAll (requestsOf row (drop (i + 4) words)) w ≡ afterAll (requestsOf row (drop i words)) v
+  unfolding afterAll requestsOf
+  after-next tape v w h is this =
+      ap (afterAll (requestsOf row (drop (i + 4) words)))
+      (this ∙ ap (λ (t : List ℕ). after (runOutcome t v (getD words (i + 2) 0) (getD words (i + 3) 0)) v) is)
+      ∙ sym (ap (λ (l : List ℕ). afterAll (requestsOf row l) v) (four-words h))
 
-  pub left-last : (v : List ℕ) → length words - i < 4 → leftBy (requestsOf row (drop i words)) v ≡ v
-  unfolding leftBy
-  left-last v h = ap (λ (qs : List Request). leftBy qs v) (fewer row (drop i words) (omega (arith, length-drop i words)))
+  pub after-last : (v : List ℕ) → length words - i < 4 → afterAll (requestsOf row (drop i words)) v ≡ v
+  unfolding afterAll
+  after-last v h = ap (λ (qs : List Request). afterAll qs v) (fewer row (drop i words) (omega (arith, length-drop i words)))

@@ -8,20 +8,20 @@ use borrow.Author.Needs.{needs}
 use lib.ListN.{length, drop}
 use Rattle.refusal.specs.Outcomes.{Outcome}
 use Rattle.machine.specs.Machine.{valuesOf}
-use Rattle.sequencer.specs.Lists.{left, leftBy, requestsOf}
+use Rattle.sequencer.specs.Lists.{after, afterAll, requestsOf}
 use Rattle.sequencer.specs.Demand.{ChainEnds, RewindEnds}
-use Rattle.sequencer.proofs.Laws.Requests.{left-next, left-last}
-use Rattle.sequencer.proofs.Laws.Chains.{chain}
-use Rattle.sequencer.proofs.Laws.Rewinds.{rewind}
+use Rattle.sequencer.proofs.Laws.Requests.{after-next, after-last}
+use Rattle.sequencer.proofs.Laws.Chains.{chain-ends}
+use Rattle.sequencer.proofs.Laws.Rewinds.{rewind-ends}
 use Rattle.sequencer.proofs.play.Statement.{statement}
 use Rattle.sequencer.proofs.play.Tie as tie
 
 abbrev Inv-loop : tie.InvT-loop
-Inv-loop row requests after₀ i₀ after i =
-    (i ≤ length requests) × (leftBy (requestsOf row (drop i requests)) (valuesOf after) ≡ leftBy (requestsOf row requests) (valuesOf after₀))
+Inv-loop row requests after₀ i₀ now i =
+    (i ≤ length requests) × (afterAll (requestsOf row (drop i requests)) (valuesOf now) ≡ afterAll (requestsOf row requests) (valuesOf after₀))
 
 abbrev μ-loop : tie.MeasureT-loop
-μ-loop row requests after₀ i₀ after i = length requests - i
+μ-loop row requests after₀ i₀ now i = length requests - i
 
 loop-holds : tie.Need-loop-holds Inv-loop μ-loop
 loop-holds c = (omega arith, refl)
@@ -68,8 +68,8 @@ shared-slice-read-run-2 c = search needs
 run-requires : tie.Need-run-requires Inv-loop μ-loop
 run-requires c κs = search needs
 
-left-requires : tie.Need-left-requires Inv-loop μ-loop
-left-requires c κs = search needs
+after-run-requires : tie.Need-after-run-requires Inv-loop μ-loop
+after-run-requires c κs = search needs
 
 add-i : tie.Need-add-i Inv-loop μ-loop
 add-i c = search needs
@@ -83,18 +83,18 @@ loop-again c =
     let start = at .before .before .before in
     let v = valuesOf (at .loop .after) in (
       omega arith,
-      left-next (start .args .row .now) (start .args .requests .now) (at .loop .i) _ v _ (omega arith) (c .before .before .before .before .part .ensures)
-          (c .left .ensures ∙ ap (λ (o : Outcome (List ℕ)). left o v) (c .before .run .ensures))
+      after-next (start .args .row .now) (start .args .requests .now) (at .loop .i) _ v _ (omega arith) (c .before .before .before .before .part .ensures)
+          (c .after-run .ensures ∙ ap (λ (o : Outcome (List ℕ)). after o v) (c .before .run .ensures))
           ∙ at .loop .inv .1,
     )
 
 returns : tie.Need-returns Inv-loop μ-loop
 returns c =
     let start = c .before .before .before .before .args in
-    let e = sym (left-last (start .row .now) (start .requests .now) (c .before .loop .i) (valuesOf (c .before .loop .after)) (omega arith)) ∙ c .before .loop .inv .1 in
+    let e = sym (after-last (start .row .now) (start .requests .now) (c .before .loop .i) (valuesOf (c .before .loop .after)) (omega arith)) ∙ c .before .loop .inv .1 in
     let qs = requestsOf (start .row .now) (start .requests .now) in
     let v = valuesOf (start .registers) in
-    (e, (subst (ChainEnds qs v) (sym e) (chain qs v), subst (RewindEnds qs v) (sym e) (rewind qs v)))
+    (e, (subst (ChainEnds qs v) (sym e) (chain-ends qs v), subst (RewindEnds qs v) (sym e) (rewind-ends qs v)))
 
 pub play-spec : {M : Type 1} → statement M
 play-spec =
@@ -117,7 +117,7 @@ play-spec =
     mul-run-2
     shared-slice-read-run-2
     run-requires
-    left-requires
+    after-run-requires
     add-i
     loop-less
     loop-again
