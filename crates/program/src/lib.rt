@@ -1,7 +1,7 @@
 // Figures 2, 4 and 6 of the paper as document 01 corrects them: the named programs, build and check.
 mod builders;
+mod conditions;
 mod parts;
-mod tests;
 mod words;
 mod writer;
 
@@ -14,14 +14,14 @@ ghost use Rattle.program.specs.Services.{unnamed, buildOutcome, buildRow
 use builders::build_basic;
 use builders::build_dual;
 use builders::build_hybrid;
+use conditions::good_inverse;
+use conditions::is_bad_modulus;
+use conditions::is_bad_order;
+use conditions::same;
 use refusal::Answer;
 use refusal::Refusal;
 use tape::Header;
 use tape::Reading;
-use tests::good_inverse;
-use tests::is_bad_modulus;
-use tests::is_bad_order;
-use tests::same;
 
 // The variants of named programs go up to this.
 const LAST_VARIANT: u32 = 3;

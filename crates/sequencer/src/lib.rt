@@ -1,6 +1,6 @@
 // Document 01, "Services and refusals": load, run, and lists of runs.
+mod conditions;
 mod requests;
-mod tests;
 mod travel;
 
 ghost use mathlib.Core.Path.{_≡_};
@@ -10,15 +10,15 @@ ghost use Rattle.program.specs.Services.{acceptOutcome};
 ghost use Rattle.sequencer.specs.Services.{standingOf, loadOutcome, runOutcome};
 ghost use Rattle.sequencer.specs.Lists.{afterAll, requestsOf};
 ghost use Rattle.sequencer.specs.Demand.{ChainEnds, RewindEnds};
+use conditions::is_bad_base;
+use conditions::is_bad_register;
+use conditions::is_some_bad;
 use machine::Registers;
 use refusal::Refusal;
 use requests::after_run;
 use requests::part;
 use tape::Header;
 use tape::Reading;
-use tests::is_bad_base;
-use tests::is_bad_register;
-use tests::is_some_bad;
 use travel::travel;
 
 // What load and run answer: the four registers, or a refusal.

@@ -1,12 +1,12 @@
--- `tests::good_inverse` meets its contract: 0 and what is not below r are refused, and of the rest exactly those have an inverse
+-- `conditions::good_inverse` meets its contract: 0 and what is not below r are refused, and of the rest exactly those have an inverse
 -- that share no factor with r.
 use mathlib.Core.Path.{sym, _∙_}
 use native.Mathlib.Omega.{arith}
 use borrow.Author.Needs.{needs}
 use Rattle.modular.proofs.Laws.Inverses.{bad-exponent}
 use Rattle.program.proofs.Laws.Parameters.{inverse-refused, inverse-between}
-use Rattle.program.proofs.tests.good_inverse.Statement.{statement}
-use Rattle.program.proofs.tests.good_inverse.Tie as tie
+use Rattle.program.proofs.conditions.good_inverse.Statement.{statement}
+use Rattle.program.proofs.conditions.good_inverse.Tie as tie
 
 returns : tie.Need-returns
 returns c = sym (inverse-refused _ _ (bad-exponent _ _ (λ g. omega (arith, g .low))))

@@ -1,9 +1,9 @@
--- `tests::is_some_bad` meets its contract: the four registers, one after another.
+-- `conditions::is_some_bad` meets its contract: the four registers, one after another.
 use mathlib.Core.Path.{sym, _∙_}
 use Rattle.sequencer.proofs.Laws.Cases.{registers-first, registers-others, registers-last}
 use borrow.Author.Needs.{needs}
-use Rattle.sequencer.proofs.tests.is_some_bad.Statement.{statement}
-use Rattle.sequencer.proofs.tests.is_some_bad.Tie as tie
+use Rattle.sequencer.proofs.conditions.is_some_bad.Statement.{statement}
+use Rattle.sequencer.proofs.conditions.is_some_bad.Tie as tie
 
 is-bad-register-requires : tie.Need-is-bad-register-requires
 is-bad-register-requires c κs = search needs

@@ -1,11 +1,11 @@
--- `tests::is_bad_modulus` meets its contract: each return is a case of the test by p's bounds.
+-- `conditions::is_bad_modulus` meets its contract: each return is a case of the test by p's bounds.
 use mathlib.Core.Path.{sym, ap, _∙_}
 use mathlib.Core.Bool.{not}
 use native.Mathlib.Omega.{arith}
 use borrow.Author.Needs.{needs}
 use Rattle.program.proofs.Laws.Parameters.{modulus-low, modulus-high, modulus-between}
-use Rattle.program.proofs.tests.is_bad_modulus.Statement.{statement}
-use Rattle.program.proofs.tests.is_bad_modulus.Tie as tie
+use Rattle.program.proofs.conditions.is_bad_modulus.Statement.{statement}
+use Rattle.program.proofs.conditions.is_bad_modulus.Tie as tie
 
 returns : tie.Need-returns
 returns c = sym (modulus-low _ (c .if1 .taken))

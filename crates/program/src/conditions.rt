@@ -1,4 +1,4 @@
-// The tests behind the refusals of build and check.
+// The conditions of the refusals of build and check.
 ghost use mathlib.Core.Path.{_≡_};
 ghost use Prim.Native.Nat.{_≤_};
 ghost use Rattle.program.specs.Services.{badModulus, badOrder, goodInverse, sameWords};

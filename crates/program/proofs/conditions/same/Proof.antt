@@ -1,4 +1,4 @@
--- `tests::same` meets its contract: rows of one length are the same where what is left of them from each index on is.
+-- `conditions::same` meets its contract: rows of one length are the same where what is left of them from each index on is.
 use mathlib.Core.Path.{_≡_, refl, sym, _∙_}
 use Prim.Native.Nat.{_-_, _≤_}
 use native.Mathlib.Omega.{arith}
@@ -6,8 +6,8 @@ use borrow.Author.Needs.{needs}
 use lib.ListN.{length, drop}
 use Rattle.program.specs.Services.{sameWords}
 use Rattle.program.proofs.Laws.Same.{same-lengths, same-stop, same-on, same-end}
-use Rattle.program.proofs.tests.same.Statement.{statement}
-use Rattle.program.proofs.tests.same.Tie as tie
+use Rattle.program.proofs.conditions.same.Statement.{statement}
+use Rattle.program.proofs.conditions.same.Tie as tie
 
 abbrev Inv-loop : tie.InvT-loop
 Inv-loop a b i₀ i = (i ≤ length a) × (sameWords (drop i a) (drop i b) ≡ sameWords a b)

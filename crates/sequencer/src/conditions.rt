@@ -1,4 +1,4 @@
-// The tests behind the refusals of load and run.
+// The conditions of the refusals of load and run.
 ghost use mathlib.Core.Path.{_≡_};
 ghost use Prim.Native.Nat.{_≤_};
 ghost use Rattle.machine.specs.Machine.{valuesOf};

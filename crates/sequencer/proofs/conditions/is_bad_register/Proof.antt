@@ -1,8 +1,8 @@
--- `tests::is_bad_register` meets its contract: the test of 0, then the test of p.
+-- `conditions::is_bad_register` meets its contract: the test of 0, then the test of p.
 use mathlib.Core.Path.{sym}
 use Rattle.sequencer.proofs.Laws.Cases.{register-zero, register-some}
-use Rattle.sequencer.proofs.tests.is_bad_register.Statement.{statement}
-use Rattle.sequencer.proofs.tests.is_bad_register.Tie as tie
+use Rattle.sequencer.proofs.conditions.is_bad_register.Statement.{statement}
+use Rattle.sequencer.proofs.conditions.is_bad_register.Tie as tie
 
 returns : tie.Need-returns
 returns c = sym (register-zero _ _ (c .if1 .taken))

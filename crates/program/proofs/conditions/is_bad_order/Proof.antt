@@ -1,9 +1,9 @@
--- `tests::is_bad_order` meets its contract: below 2 the order is refused, and from 2 on the test is the remainder's.
+-- `conditions::is_bad_order` meets its contract: below 2 the order is refused, and from 2 on the test is the remainder's.
 use mathlib.Core.Path.{sym}
 use borrow.Author.Needs.{needs}
 use Rattle.program.proofs.Laws.Parameters.{order-low, order-divides}
-use Rattle.program.proofs.tests.is_bad_order.Statement.{statement}
-use Rattle.program.proofs.tests.is_bad_order.Tie as tie
+use Rattle.program.proofs.conditions.is_bad_order.Statement.{statement}
+use Rattle.program.proofs.conditions.is_bad_order.Tie as tie
 
 returns : tie.Need-returns
 returns c = sym (order-low _ _ (c .if1 .taken))
