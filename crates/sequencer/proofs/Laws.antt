@@ -5,3 +5,4 @@ pub mod Requests
 pub mod Answers
 pub mod Chains
 pub mod Rewinds
+pub mod Examples

@@ -80,6 +80,18 @@ unfolding doAll undoAll back
 do-back p [] v = refl
 do-back p (x ∷ xs) v = doAll-append p (back xs) (opposite x ∷ []) v ∙ ap (apply p (opposite x)) (do-back p xs v)
 
+-- ---- four residues
+
+pub good-four : (p c d e f : ℕ) → Residue p c → Residue p d → Residue p e → Residue p f → Good p (c ∷ d ∷ e ∷ f ∷ [])
+good-four p c d e f rc rd re rf = record { four = refl; residue = go }
+  where
+    go : (i : ℕ) → i < 4 → Residue p (reg (c ∷ d ∷ e ∷ f ∷ []) i)
+    go zero h = rc
+    go (suc zero) h = rd
+    go (suc (suc zero)) h = re
+    go (suc (suc (suc zero))) h = rf
+    go (suc (suc (suc (suc i)))) h = absurd (omega arith)
+
 module _ (p : ℕ) (pr : Prime p) where
   -- ---- residues stay residues
 
@@ -110,14 +122,7 @@ module _ (p : ℕ) (pr : Prime p) where
   good-undoAll (x ∷ xs) v a g = good-apply (opposite x) (undoAll p xs v) (sound-opposite x (a .0)) (good-undoAll xs v (a .1) g)
 
   pub good-start : (a : ℕ) → Residue p a → Good p (start a)
-  good-start a ra = record { four = refl; residue = go }
-    where
-      go : (j : ℕ) → j < 4 → Residue p (reg (start a) j)
-      go zero h = residue-one p pr
-      go (suc zero) h = ra
-      go (suc (suc zero)) h = residue-one p pr
-      go (suc (suc (suc zero))) h = residue-one p pr
-      go (suc (suc (suc (suc j)))) h = absurd (omega arith)
+  good-start a ra = let one = residue-one p pr in good-four p 1 a 1 1 one ra one one
 
   -- ---- doing and undoing
 

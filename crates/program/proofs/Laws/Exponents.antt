@@ -4,7 +4,7 @@
 use mathlib.Core.Path.{_≡_, refl, sym, ap, ap₂, _∙_}
 use mathlib.Core.Bool.{Bool, true, false, cond}
 use mathlib.Core.List.{List, [], _∷_}
-use Prim.Native.Nat.{ℕ, zero, suc, _+_, _%_, _^_, _≤_, _<_}
+use Prim.Native.Nat.{ℕ, suc, _+_, _%_, _^_, _≤_}
 use native.Mathlib.Nat.{add-zero, zero-add, add-assoc, add-comm}
 use native.Mathlib.Omega.{arith}
 use lib.ListN.{length}
@@ -17,8 +17,8 @@ use Rattle.fibonacci.proofs.Laws.Fibonacci.{fib-zero, fib-one, fib-next}
 use Rattle.fibonacci.proofs.Laws.Forms.{sum-next}
 use Rattle.tape.specs.declared.Step.{Step}
 use Rattle.tape.specs.declared.Step.the-variants.{Mul}
-use Rattle.machine.specs.Machine.{reg, apply, doAll, Good, start}
-use Rattle.machine.proofs.Laws.Steps.{doAll-append}
+use Rattle.machine.specs.Machine.{apply, doAll, Good, start}
+use Rattle.machine.proofs.Laws.Steps.{doAll-append, good-four}
 use Rattle.program.specs.Generators.{select, lowest, higher, ascend, downSteps, descend}
 
 -- four registers that hold powers of a
@@ -125,11 +125,5 @@ module _ (p : ℕ) (pr : Prime p) where
   descend-start a bs ra = simp (power-zero p pr a, power-one p pr a ra) at (descend-powers p pr a bs)
 
   pub good-powers : (a c d e f : ℕ) → Residue p a → Good p (powers p a c d e f)
-  good-powers a c d e f ra = record { four = refl; residue = go }
-    where
-      go : (i : ℕ) → i < 4 → Residue p (reg (powers p a c d e f) i)
-      go zero h = residue-pow p pr a c ra
-      go (suc zero) h = residue-pow p pr a d ra
-      go (suc (suc zero)) h = residue-pow p pr a e ra
-      go (suc (suc (suc zero))) h = residue-pow p pr a f ra
-      go (suc (suc (suc (suc i)))) h = absurd (omega arith)
+  good-powers a c d e f ra =
+      good-four p (a ^ c % p) (a ^ d % p) (a ^ e % p) (a ^ f % p) (residue-pow p pr a c ra) (residue-pow p pr a d ra) (residue-pow p pr a e ra) (residue-pow p pr a f ra)
