@@ -67,13 +67,16 @@ traceOutcome tape position =
     ∷ [])
     (exponentsAt (stepsOf tape) position)
 
+-- refusal 10 in a cut: a position above the step count, or first above last
+unfoldable pub badCut : ℕ → ℕ → ℕ → Bool
+badCut steps first last = ltb steps first || ltb steps last || ltb last first
+
 -- cut: the step words numbered first + 1 to last
 unfoldable pub cutOutcome : List ℕ → ℕ → ℕ → Outcome (List ℕ)
 cutOutcome tape first last =
-    let h = headerOf tape in
     outcome
     (checkRules tape
-    ++ (Position given-if (ltb (h .steps) first || ltb (h .steps) last || ltb last first))
+    ++ (Position given-if badCut (headerOf tape .steps) first last)
     ∷ [])
     (stepWords tape first last)
 

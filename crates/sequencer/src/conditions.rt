@@ -2,7 +2,7 @@
 ghost use mathlib.Core.Path.{_≡_};
 ghost use Prim.Native.Nat.{_≤_};
 ghost use Rattle.machine.specs.Machine.{valuesOf};
-ghost use Rattle.sequencer.specs.Services.{badRegister, badRegisters, badBase};
+ghost use Rattle.sequencer.specs.Services.{badRegister, badRegisters, badBase, badCut};
 use machine::Registers;
 use modular::power;
 use tape::Header;
@@ -42,4 +42,17 @@ pub(crate) fn is_bad_base(header: Header, base: u32) -> bool
         return false;
     }
     power(base, header.order, header.modulus) != 1
+}
+
+// Refusal 10 in a cut: a position above the step count, or first above last.
+pub(crate) fn is_bad_cut(steps: u32, first: u32, last: u32) -> bool
+    ensures { λ bad. ⌜ bad ≡ badCut steps first last ⌝ }
+{
+    if steps < first {
+        return true;
+    }
+    if steps < last {
+        return true;
+    }
+    last < first
 }

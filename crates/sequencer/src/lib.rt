@@ -7,10 +7,11 @@ ghost use mathlib.Core.Path.{_≡_};
 ghost use Rattle.refusal.specs.Outcomes.{answered};
 ghost use Rattle.machine.specs.Machine.{valuesOf};
 ghost use Rattle.program.specs.Services.{acceptOutcome};
-ghost use Rattle.sequencer.specs.Services.{standingOf, loadOutcome, runOutcome};
+ghost use Rattle.sequencer.specs.Services.{standingOf, loadOutcome, runOutcome, cutOutcome, cutPart, cutNumber};
 ghost use Rattle.sequencer.specs.Lists.{afterAll, requestsOf};
 ghost use Rattle.sequencer.specs.Demand.{ChainEnds, RewindEnds};
 use conditions::is_bad_base;
+use conditions::is_bad_cut;
 use conditions::is_bad_register;
 use conditions::is_some_bad;
 use machine::Registers;
@@ -19,6 +20,7 @@ use requests::after_run;
 use requests::part;
 use tape::Header;
 use tape::Reading;
+use tape::step_words;
 use travel::travel;
 
 // What load and run answer: the four registers, or a refusal.
@@ -47,6 +49,21 @@ pub fn run(tape: &[u32], registers: Registers, from: u32, to: u32) -> Standing
     match program::accept(tape) {
         Reading::Refused(e) => Standing::Refused(e),
         Reading::Laid(header) => run_accepted(tape, header, registers, from, to),
+    }
+}
+
+// The part of the tape with the step words numbered first + 1 to last, and 0 beside it; refused, the empty part beside its number:
+// check's refusals, 10.
+pub fn cut<'a>(tape: &'a [u32], first: u32, last: u32, number: &mut u32) -> &'a [u32]
+    ensures { λ part. ⌜ now part ≡ cutPart (cutOutcome (now (tape .entry)) first last) ⌝ }
+    ensures { λ _. ⌜ now (number .exit) ≡ cutNumber (cutOutcome (now (tape .entry)) first last) ⌝ }
+{
+    match program::accept(tape) {
+        Reading::Refused(e) => {
+            *number = refusal::number(e);
+            &tape[..0]
+        }
+        Reading::Laid(header) => cut_accepted(tape, header, first, last, number),
     }
 }
 
@@ -102,4 +119,24 @@ fn run_accepted(tape: &[u32], header: Header, registers: Registers, from: u32, t
         return Standing::Refused(Refusal::Position);
     }
     Standing::At(travel(tape, header.modulus, registers, from as usize, to as usize))
+}
+
+// Cut of a program that is accepted: 10.
+fn cut_accepted<'a>(
+    tape: &'a [u32],
+    header: Header,
+    first: u32,
+    last: u32,
+    number: &mut u32,
+) -> &'a [u32]
+    requires { ⌜ acceptOutcome (now tape) ≡ answered header ⌝ }
+    ensures { λ part. ⌜ now part ≡ cutPart (cutOutcome (now (tape .entry)) first last) ⌝ }
+    ensures { λ _. ⌜ now (number .exit) ≡ cutNumber (cutOutcome (now (tape .entry)) first last) ⌝ }
+{
+    if is_bad_cut(header.steps, first, last) {
+        *number = refusal::number(Refusal::Position);
+        return &tape[..0];
+    }
+    *number = 0;
+    step_words(tape, first as usize, last as usize)
 }

@@ -1,6 +1,6 @@
 -- The layout of a tape of format 1: the heading, p, r and k, the steps, the end. Whatever reads a header field, a step or the
 -- step count reads it through the definitions of this file.
-use mathlib.Core.Bool.{Bool, true, not, _&&_, _||_}
+use mathlib.Core.Bool.{Bool, true, not, _&&_, _||_, cond}
 use mathlib.Core.List.{List, [], _∷_, _++_, map}
 use Prim.Native.Nat.{ℕ, _+_, _-_}
 use lib.Dec.{leb, eqb}
@@ -38,6 +38,10 @@ stepAt tape i = getD tape (headerWords + i) 0
 -- the words of the steps numbered first + 1 to last
 abbrev pub stepWords : List ℕ → ℕ → ℕ → List ℕ
 stepWords tape first last = slice (headerWords + first) (headerWords + last) tape
+
+-- they as a part of the tape; where it hasn't so many steps, the empty part
+unfoldable pub stepPart : List ℕ → ℕ → ℕ → List ℕ
+stepPart tape first last = cond (leb first last && leb last (stepCount tape)) (stepWords tape first last) []
 
 abbrev pub endAt : List ℕ → ℕ
 endAt tape = getD tape (headerWords + stepCount tape) 0

@@ -3,7 +3,7 @@ mod layout;
 
 ghost use mathlib.Core.Path.{_≡_};
 ghost use Rattle.tape.specs.Words.{decoded, headingIn, actionIn, swapIn};
-ghost use Rattle.tape.specs.Layout.{readOutcome, readingOf, stepAt, stepOf};
+ghost use Rattle.tape.specs.Layout.{readOutcome, readingOf, stepAt, stepOf, stepPart};
 use layout::HEADER_WORDS;
 use layout::MOST_WORDS;
 use layout::OTHER_WORDS;
@@ -110,6 +110,22 @@ pub fn step_of(d: Decoded) -> Step
         Decoded::End(_) => Step::Mul(0, 1),
         Decoded::Bad => Step::Mul(0, 1),
     }
+}
+
+// The words of the steps numbered first + 1 to last, as a part of the tape; where it hasn't so many, the empty part.
+pub fn step_words(tape: &[u32], first: usize, last: usize) -> &[u32]
+    ensures { λ words. ⌜ now words ≡ stepPart (now (tape .entry)) first last ⌝ }
+{
+    if tape.len() < OTHER_WORDS {
+        return &tape[..0];
+    }
+    if tape.len() - OTHER_WORDS < last {
+        return &tape[..0];
+    }
+    if last < first {
+        return &tape[..0];
+    }
+    &tape[HEADER_WORDS + first..HEADER_WORDS + last]
 }
 
 // Reads a tape's header and tests its layout: 6, 7.

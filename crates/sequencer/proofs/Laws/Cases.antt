@@ -1,21 +1,24 @@
 -- Load and run by cases: what check refuses, they refuse, and on an accepted tape their own rules are left.
-use mathlib.Core.Path.{_≡_, sym, ap, _∙_}
+use mathlib.Core.Path.{_≡_, refl, sym, ap, _∙_}
 use mathlib.Core.Bool.{true, false, not, _||_, or-true, or-false}
 use mathlib.Core.List.{List, [], _∷_}
 use Prim.Native.Nat.{ℕ, _≤_, _<_, _%_, _^_}
+use native.Mathlib.Omega.{arith}
 use lib.Dec.{leb, ltb, eqb}
-use borrow.Author.Tests.{lt-ltb, le-ltb, eq-eqb, ne-eqb}
+use borrow.Author.Tests.{ltb-false, lt-ltb, le-ltb, eq-eqb, ne-eqb}
 use Rattle.refusal.specs.declared.Refusal.the-variants.{Register, Position, Base}
 use Rattle.refusal.specs.Refusals.{numberOf}
-use Rattle.refusal.specs.Outcomes.{Rule, refused, answered, outcome, _given-if_, gives, passes, answers}
+use Rattle.refusal.specs.Outcomes.{Outcome, Rule, refused, answered, outcome, _given-if_, gives, passes, answers}
 use Rattle.refusal.proofs.Laws.Rules.{refused-before, passed-before, answer-is}
+use Rattle.modular.proofs.Laws.Tests.{neither}
 use Rattle.tape.specs.declared.Header.{Header}
-use Rattle.tape.specs.Layout.{headerOf, stepCount, stepsOf}
+use Rattle.tape.specs.Layout.{headerOf, stepCount, stepWords, stepPart, stepsOf}
+use Rattle.tape.proofs.Laws.Rows.{part-inside}
 use Rattle.machine.specs.Machine.{run, start}
 use Rattle.program.specs.Services.{checkRules, acceptOutcome}
 use Rattle.program.proofs.Laws.Checking.{accepted}
 use Rattle.program.proofs.Laws.Parameters.{good-modulus}
-use Rattle.sequencer.specs.Services.{badRegister, badRegisters, allowed, badBase, loadOutcome, runOutcome, runRules}
+use Rattle.sequencer.specs.Services.{badRegister, badRegisters, allowed, badBase, badCut, loadOutcome, runOutcome, runRules, cutOutcome, cutPart, cutNumber}
 
 -- ---- the tests
 
@@ -51,12 +54,36 @@ module _ (h : Header) (a : ℕ) where
   unfolding badBase allowed
   base-named ne = rw (ne-eqb (h .variant) 0 ne)
 
+module _ (steps first last : ℕ) where
+  pub cut-first : steps < first → badCut steps first last ≡ true
+  unfolding badCut
+  cut-first h = rw (lt-ltb steps first h)
+
+  pub cut-last : first ≤ steps → steps < last → badCut steps first last ≡ true
+  unfolding badCut
+  cut-last low h = rw (le-ltb steps first low, lt-ltb steps last h)
+
+  pub cut-order : first ≤ steps → last ≤ steps → badCut steps first last ≡ ltb last first
+  unfolding badCut
+  cut-order low high = rw (le-ltb steps first low, le-ltb steps last high)
+
+-- what is beside a cut's part
+pub cut-refused : {o : Outcome (List ℕ)} {m n : ℕ} → o ≡ refused n → m ≡ n → ([] ≡ cutPart o) × (m ≡ cutNumber o)
+cut-refused e f = rw e (refl, f)
+
+pub cut-answered : {o : Outcome (List ℕ)} {part words : List ℕ} → o ≡ answered words → part ≡ words → (part ≡ cutPart o) × (0 ≡ cutNumber o)
+cut-answered e f = rw e (f, refl)
+
 -- ---- refused by check
 
 module _ (tape : List ℕ) (n : ℕ) (e : acceptOutcome tape ≡ refused n) where
   pub load-unaccepted : (a : ℕ) → loadOutcome tape a ≡ refused n
   unfolding loadOutcome
   load-unaccepted a = refused-before (headerOf tape) (start a) (checkRules tape) _ e
+
+  pub cut-unaccepted : (first last : ℕ) → cutOutcome tape first last ≡ refused n
+  unfolding cutOutcome
+  cut-unaccepted first last = refused-before (headerOf tape) (stepWords tape first last) (checkRules tape) _ e
 
   pub run-unaccepted : (v : List ℕ) (from goal : ℕ) → runOutcome tape v from goal ≡ refused n
   unfolding runOutcome runRules
@@ -120,3 +147,21 @@ module _ (tape : List ℕ) (h : Header) (e : acceptOutcome tape ≡ answered h) 
       pub run-there : from ≤ h .steps → goal ≤ h .steps → runOutcome tape v from goal ≡ answered (there h)
       run-there low high =
           run-rules ∙ passes _ _ _ good ∙ passes _ _ _ (rw (le-ltb (h .steps) from low, le-ltb (h .steps) goal high)) ∙ answers _
+
+  module _ (first last : ℕ) where
+    cut-rules : cutOutcome tape first last ≡ outcome ((Position given-if badCut (h .steps) first last) ∷ []) (stepWords tape first last)
+    unfolding cutOutcome
+    cut-rules =
+        passed-before (headerOf tape) (stepWords tape first last) (checkRules tape) _ e
+        ∙ ap (λ (g : Header). outcome ((Position given-if badCut (g .steps) first last) ∷ []) (stepWords tape first last)) (sym header-is)
+
+    pub cut-position : badCut (h .steps) first last ≡ true → cutOutcome tape first last ≡ refused (numberOf Position)
+    cut-position bad = cut-rules ∙ gives _ _ _ bad
+
+    pub cut-there : badCut (h .steps) first last ≡ false → cutOutcome tape first last ≡ answered (stepPart tape first last)
+    unfolding badCut
+    cut-there good =
+        let low = neither (ltb (h .steps) first || ltb (h .steps) last) (ltb last first) good in
+        let high = neither (ltb (h .steps) first) (ltb (h .steps) last) (low .0) in
+        let inside : last ≤ stepCount tape = omega (arith, steps-are, ltb-false (h .steps) last (high .1)) in
+        cut-rules ∙ passes _ _ _ good ∙ answers _ ∙ ap answered (sym (part-inside tape first last (ltb-false last first (low .1)) inside))

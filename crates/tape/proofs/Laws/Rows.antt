@@ -1,19 +1,20 @@
 -- Rows of step words: the words of sound steps pass the test and give the steps back, and words that pass it are those of
 -- their steps; and the test from one step on, as a loop over the steps makes it.
-use mathlib.Core.Path.{_≡_, refl, ap, _∙_}
-use mathlib.Core.Bool.{true, false, _&&_}
+use mathlib.Core.Path.{_≡_, refl, sym, ap, _∙_}
+use mathlib.Core.Bool.{true, false, _&&_, and-false}
 use mathlib.Core.List.{List, [], _∷_, map}
-use Prim.Native.Nat.{ℕ, suc, _+_, _≤_, _<_}
+use Prim.Native.Nat.{ℕ, zero, suc, _+_, _-_, _≤_, _<_}
+use native.Mathlib.Decide.{decLt}
 use native.Mathlib.Omega.{arith}
-use lib.Dec.{eqb}
-use lib.ListN.{length, getD, take, List·getD-eq-default, List·getD-map}
-use lib.Seq.{slice, slice-empty, slice-cons, getD-drop, getD-take}
-use borrow.Author.Tests.{eqb-true, eq-eqb, ne-eqb}
+use lib.Dec.{leb, eqb}
+use lib.ListN.{length, getD, take, drop, List·getD-eq-default, List·getD-map}
+use lib.Seq.{slice, slice-empty, slice-cons, getD-drop, getD-take, take-nil, drop-nil}
+use borrow.Author.Tests.{le-leb, lt-leb, eqb-true, eq-eqb, ne-eqb}
 use Rattle.tape.specs.declared.Step.{Step}
 use Rattle.tape.specs.declared.Decoded.the-variants.{Bad}
 use Rattle.tape.specs.Steps.{AllSound}
 use Rattle.tape.specs.Words.{decoded, stepWord, encoded}
-use Rattle.tape.specs.Layout.{stepCount, stepAt, stepWords, sortOf, stepOf, meansAt, stepsIn, stepsOf, allSteps}
+use Rattle.tape.specs.Layout.{otherWords, stepCount, stepAt, stepWords, stepPart, sortOf, stepOf, meansAt, stepsIn, stepsOf, allSteps}
 use Rattle.tape.proofs.Laws.Tests.{both}
 use Rattle.tape.proofs.Laws.Words.{decoded-step, decoded-lawful, decoded-zero, step-sound, word-again}
 
@@ -67,6 +68,44 @@ steps-at tape i inside =
     List·getD-map (λ (w : ℕ). stepOf (decoded w)) (stepWords tape 0 (stepCount tape)) i 0
     ∙ ap (λ (w : ℕ). stepOf (decoded w))
     (getD-drop 4 (take (4 + stepCount tape) tape) i 0 ∙ getD-take (4 + stepCount tape) tape (4 + i) 0 (omega arith))
+
+-- ---- the words of steps as a part of the tape
+
+module _ (tape : List ℕ) (first last : ℕ) where
+  pub part-reversed : last < first → stepPart tape first last ≡ []
+  unfolding stepPart
+  part-reversed h = rw (lt-leb first last h)
+
+  pub part-past : stepCount tape < last → stepPart tape first last ≡ []
+  unfolding stepPart
+  part-past h = rw (lt-leb last (stepCount tape) h, and-false (leb first last))
+
+  pub part-inside : first ≤ last → last ≤ stepCount tape → stepPart tape first last ≡ stepWords tape first last
+  unfolding stepPart
+  part-inside h k = rw (le-leb first last h, le-leb last (stepCount tape) k)
+
+-- a tape too short to have steps
+pub part-short : (tape : List ℕ) (first last : ℕ) → length tape < otherWords → stepPart tape first last ≡ []
+part-short tape first last short =
+    elim (decLt last first) [
+      | yes h ↦ part-reversed tape first last h
+      | no h ↦ elim (decLt (stepCount tape) last) [
+        | yes k ↦ part-past tape first last k
+        | no k ↦
+            let same : first ≡ last = omega arith in
+            part-inside tape first last (omega arith) (omega arith)
+            ∙ ap (λ (n : ℕ). stepWords tape n last) same
+            ∙ slice-empty (4 + last) tape
+      ]
+    ]
+
+-- a part from one index up to another, taken from its beginning on
+pub slice-from : (f t : ℕ) (l : List ℕ) → slice f t l ≡ take (t - f) (drop f l)
+slice-from zero t l = let all : t ≡ t - 0 = omega arith in ap (λ (n : ℕ). take n l) all
+slice-from (suc f) zero l = let none : 0 ≡ 0 - suc f = omega arith in drop-nil (suc f) ∙ ap (λ (n : ℕ). take n (drop (suc f) l)) none
+slice-from (suc f) (suc t) [] = sym (take-nil (suc t - suc f))
+slice-from (suc f) (suc t) (x ∷ l) =
+    let less : t - f ≡ suc t - suc f = omega arith in slice-from f t l ∙ ap (λ (n : ℕ). take n (drop f l)) less
 
 -- past the tape a word is 0, which means nothing
 pub means-past : (tape : List ℕ) (i : ℕ) → length tape ≤ i → meansAt tape i ≡ Bad

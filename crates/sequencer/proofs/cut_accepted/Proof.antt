@@ -1,0 +1,39 @@
+-- `cut_accepted` meets its contract: each return is a case of cut on an accepted tape.
+use mathlib.Core.Path.{sym, _∙_}
+use Rattle.sequencer.proofs.Laws.Cases.{cut-refused, cut-answered, cut-position, cut-there}
+use borrow.Author.Needs.{needs}
+use Rattle.sequencer.proofs.cut_accepted.Statement.{statement}
+use Rattle.sequencer.proofs.cut_accepted.Tie as tie
+
+is-bad-cut-requires : tie.Need-is-bad-cut-requires
+is-bad-cut-requires c κs = search needs
+
+number-requires : tie.Need-number-requires
+number-requires c κs = search needs
+
+slice-aggregate-result : tie.Need-slice-aggregate-result
+slice-aggregate-result c = search needs
+
+returns : tie.Need-returns
+returns c =
+    let test = c .before .before in
+    cut-refused (cut-position _ _ (test .before .before .before .pre) _ _ (sym (test .before .is-bad-cut .ensures) ∙ test .if1 .taken)) (c .before .number .ensures)
+
+step-words-requires : tie.Need-step-words-requires
+step-words-requires c κs = search needs
+
+returns-2 : tie.Need-returns-2
+returns-2 c =
+    let test = c .before in
+    cut-answered (cut-there _ _ (test .before .before .before .pre) _ _ (sym (test .before .is-bad-cut .ensures) ∙ test .if1 .left)) (c .step-words .ensures)
+
+pub cut-accepted-spec : {M : Type 1} → statement M
+cut-accepted-spec =
+    tie.close
+    (tie.spec
+    is-bad-cut-requires
+    number-requires
+    slice-aggregate-result
+    returns
+    step-words-requires
+    returns-2)
