@@ -186,4 +186,5 @@ CHANGES = [(4, "50000004"), (4, "50000000"), (4, "50000005"), (8, "6000000a"), (
 for i, x in CHANGES:
     t = list(CASE_A); t[i] = int(x, 16)
     out.append(f"check case A, word {i} {x}" + answer(check(t)))
-print("\n".join(out))
+if __name__ == "__main__":
+    print("\n".join(out))
