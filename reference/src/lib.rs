@@ -1,0 +1,29 @@
+//! An independent implementation of document 01, "The targeted exponentiation tape", written from
+//! that document and from source document 002 alone. It serves as the other side of comparisons and
+//! benchmarks, so where there is a choice it takes another way than the text suggests:
+//!
+//! | subject | way taken here |
+//! |---|---|
+//! | Fibonacci numbers | a table that fast doubling fills at compile time |
+//! | Zeckendorf forms | a jump to the highest place by the bit length of what is left |
+//! | Hofstadter's G | equation (1) of the paper, one fixed-point product and an exact test |
+//! | primes | Miller–Rabin with three bases that decide every 32-bit number |
+//! | inverses | Kaliski's almost inverse (shifts and subtractions) for odd moduli, carried over to even ones |
+//! | running | each register travels with its inverse, so that a division costs no inversion |
+//!
+//! Each service answers `Err(number)` with document 01's refusal number, the first that applies.
+
+pub mod refusal;
+
+mod fibonacci;
+mod listing;
+mod machine;
+mod modular;
+mod program;
+mod tape;
+
+pub use fibonacci::{fibonacci, height, hofstadter, number, places, write_places};
+pub use listing::listing;
+pub use machine::{cut, load, run, trace};
+pub use modular::inverse;
+pub use program::{build, check};

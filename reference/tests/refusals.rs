@@ -1,0 +1,419 @@
+//! Each refusal of document 01, the order in which they apply, and what a refused call leaves.
+
+mod common;
+
+use common::*;
+use reference::*;
+
+#[test]
+fn indices_and_lists() {
+    assert_eq!(fibonacci(94), Err(13));
+    assert_eq!(fibonacci(u32::MAX), Err(13));
+    let wrong: [&[u8]; 9] = [
+        &[0],
+        &[93],
+        &[255],
+        &[2, 1],
+        &[1, 3],
+        &[5, 5],
+        &[3, 1, 0],
+        &[92, 91],
+        &[4, 2, 255],
+    ];
+    for list in wrong {
+        assert_eq!(number(list), Err(13), "{list:?}");
+    }
+    assert_eq!(number(&[92, 90, 88]), Err(12));
+    // 13 comes before 12, wherever it stands in the list.
+    assert_eq!(number(&[92, 90, 88, 0]), Err(13));
+    assert_eq!(number(&places(u64::MAX, 46).unwrap()), Ok(u64::MAX));
+    // The form of 2^64, the least number that doesn't fit.
+    let mut rest = 1u128 << 64;
+    let mut list = vec![];
+    for place in (1..=92).rev() {
+        let weight = fibonacci(place + 1).unwrap() as u128;
+        if weight <= rest {
+            rest -= weight;
+            list.push(place as u8);
+        }
+    }
+    assert_eq!(rest, 0);
+    assert_eq!(number(&list), Err(12));
+}
+
+#[test]
+fn rooms() {
+    assert_eq!(places(106, 3), Err(5));
+    assert_eq!(places(106, 4), Ok(vec![10, 6, 3, 1]));
+    assert_eq!(places(1, 0), Err(5));
+    assert_eq!(
+        places(u64::MAX, usize::MAX).map(|list| list.len()),
+        places(u64::MAX, 46).map(|l| l.len())
+    );
+    let mut list = [9; 6];
+    assert_eq!(write_places(106, &mut list), Ok(4));
+    assert_eq!(list, [10, 6, 3, 1, 9, 9]);
+    let mut list = [9; 3];
+    assert_eq!(write_places(106, &mut list), Err(5));
+    assert_eq!(list, [9; 3]);
+}
+
+#[test]
+fn inverses() {
+    assert_eq!(inverse(1, 0), Err(2));
+    assert_eq!(inverse(0, 1), Err(2));
+    assert_eq!(inverse(0, 2), Err(3));
+    assert_eq!(inverse(2, 2), Err(3));
+    assert_eq!(inverse(1, 2), Ok(1));
+    assert_eq!(inverse(6, 9), Err(3));
+    assert_eq!(inverse(6, 8), Err(3));
+    assert_eq!(inverse(3, 6), Err(3));
+    assert_eq!(inverse(9, 12), Err(3));
+    assert_eq!(inverse(u32::MAX - 1, u32::MAX), Ok(u32::MAX - 1));
+    assert_eq!(inverse(u32::MAX - 2, u32::MAX - 1), Ok(u32::MAX - 2));
+}
+
+/// Build's refusals apply in the order 1, 2, 3, 4, 5: each line mends what the line before refused.
+#[test]
+fn build_order() {
+    let cases = [
+        (9, 0, 0, 0, 1),
+        (7, 0, 0, 0, 2),
+        (7, 1, 0, 0, 2),
+        (7, 4, 0, 0, 2),
+        (7, 6, 0, 0, 3),
+    ];
+    let more = [
+        (7, 6, 6, 0, 3),
+        (7, 6, 3, 0, 3),
+        (7, 6, 5, 0, 4),
+        (7, 6, 5, 4, 4),
+        (7, 6, 5, 1, 5),
+    ];
+    for (p, r, k, variant, refusal) in cases.into_iter().chain(more) {
+        let mut row = [3; 5];
+        assert_eq!(
+            build(p, r, k, variant, &mut row),
+            Err(refusal),
+            "{p} {r} {k} {variant}"
+        );
+        assert_eq!(row, [3; 5]);
+    }
+    let mut row = [3; 512];
+    for p in [
+        0,
+        1,
+        2,
+        4,
+        15,
+        268435455,
+        268435456,
+        268435459,
+        4294967291,
+        u32::MAX,
+    ] {
+        assert_eq!(build(p, 2, 1, 1, &mut row), Err(1), "{p}");
+    }
+    assert_eq!(build(7, 3, 2, u32::MAX, &mut row), Err(4));
+    // The largest prime below 2^28, the largest r, a buffer one word short.
+    let p = (3..1 << 28).rev().find(|&p| is_prime(p)).unwrap();
+    for variant in 1..=3 {
+        let count = build(p, p - 1, p - 2, variant, &mut row).unwrap();
+        let mut short = vec![5; count - 1];
+        assert_eq!(build(p, p - 1, p - 2, variant, &mut short), Err(5));
+        assert_eq!(short, vec![5; count - 1]);
+        assert_eq!(check(&row[..count]), Ok(()));
+    }
+}
+
+#[test]
+fn lengths() {
+    for words in [0, 1, 4, 513, 600] {
+        assert_eq!(check(&vec![0; words]), Err(6));
+    }
+    let full = free(7, &vec![step(MUL, 0, 1); 507]);
+    assert_eq!((full.len(), check(&full)), (512, Ok(())));
+    assert_eq!(check(&free(7, &vec![step(MUL, 0, 1); 508])), Err(6));
+    assert_eq!(check(&[0; 5]), Err(7));
+}
+
+/// A tape with one word replaced.
+fn with(tape: &[u32], place: usize, word: u32) -> Vec<u32> {
+    let mut tape = tape.to_vec();
+    tape[place] = word;
+    tape
+}
+
+#[test]
+fn words() {
+    let tape = free(7, &[step(MUL, 0, 1), step(SWP, 2, 3), step(DIV, 3, 0)]);
+    assert_eq!(check(&tape), Ok(()));
+    let headings = [
+        0x10000000, 0x10000002, 0x10001001, 0x18000001, 0x00000001, 0x20000001,
+    ];
+    let wrong_heads = headings.map(|word| (0, word)).into_iter().chain([
+        (1, 0x30000007),
+        (2, 0x20000000),
+        (3, 0x30000000),
+        (2, 0x30000002),
+        (3, 0x40000001),
+    ]);
+    for (place, word) in wrong_heads {
+        assert_eq!(check(&with(&tape, place, word)), Err(7), "{place} {word:x}");
+    }
+    for kind in [0, 1, 2, 3, 4, 8, 9, 10, 11, 12, 13, 14, 15] {
+        assert_eq!(
+            check(&with(&tape, 5, step(kind, 0, 1))),
+            Err(7),
+            "kind {kind}"
+        );
+    }
+    for (kind, registers) in [MUL, DIV, SWP]
+        .into_iter()
+        .flat_map(|kind| (0..16).map(move |t| (kind, t)))
+    {
+        let (target, source) = (registers & 3, registers >> 2);
+        let sound = if kind == SWP {
+            target < source
+        } else {
+            target != source
+        };
+        let expected = if sound { Ok(()) } else { Err(7) };
+        assert_eq!(check(&with(&tape, 5, step(kind, target, source))), expected);
+    }
+    for bit in 4..28 {
+        assert_eq!(check(&with(&tape, 4, tape[4] | 1 << bit)), Err(7));
+    }
+    for end in [0xF0000002, 0xF0000004, 0xF8000003, 0x50000001, 0xE0000003] {
+        assert_eq!(check(&with(&tape, 7, end)), Err(7), "{end:x}");
+    }
+    assert_eq!(check(&with(&tape, 5, 0xF0000003)), Err(7));
+}
+
+/// Check's refusals apply in the order 6, 7, 4, 1, 2, 3, 8.
+#[test]
+fn check_order() {
+    let tape = |variant: u32, p: u32, r: u32, k: u32| {
+        let heads = [
+            variant << 8 | 0x10000001,
+            0x20000000 | p,
+            0x30000000 | r,
+            0x40000000 | k,
+        ];
+        [&heads[..], &[0xF0000000]].concat()
+    };
+    for variant in 4..16 {
+        assert_eq!(check(&tape(variant, 9, 0, 0)), Err(4));
+        assert_eq!(check(&tape(variant, 9, 5, 5)), Err(4));
+    }
+    assert_eq!(check(&with(&tape(4, 9, 0, 0), 4, 0xF0000001)), Err(7));
+    for variant in 1..4 {
+        assert_eq!(check(&tape(variant, 9, 0, 0)), Err(1));
+        assert_eq!(check(&tape(variant, 2, 0, 0)), Err(1));
+        assert_eq!(check(&tape(variant, 7, 0, 0)), Err(2));
+        assert_eq!(check(&tape(variant, 7, 1, 0)), Err(2));
+        assert_eq!(check(&tape(variant, 7, 4, 0)), Err(2));
+        assert_eq!(check(&tape(variant, 7, 6, 0)), Err(3));
+        assert_eq!(check(&tape(variant, 7, 6, 4)), Err(3));
+        assert_eq!(check(&tape(variant, 7, 6, 5)), Err(8));
+    }
+    assert_eq!(check(&tape(0, 9, 0, 0)), Err(1));
+    assert_eq!(check(&tape(0, 9, 2, 0)), Err(7));
+    assert_eq!(check(&tape(0, 7, 0, 1)), Err(7));
+    assert_eq!(check(&tape(0, 7, 0, 0)), Ok(()));
+}
+
+/// One flipped bit in a step, or another k or variant, makes a named tape a stranger or breaks a word.
+#[test]
+fn strangers() {
+    for variant in 1..=3 {
+        let tape = built(359, 179, 76, variant);
+        for place in 4..tape.len() - 1 {
+            for bit in 0..32 {
+                let refusal = check(&with(&tape, place, tape[place] ^ 1 << bit)).unwrap_err();
+                assert!(refusal == 7 || refusal == 8);
+            }
+        }
+        assert_eq!(check(&with(&tape, 3, 0x40000000 | 77)), Err(8));
+        let other = 0x10000001 | (variant % 3 + 1) << 8;
+        assert_eq!(check(&with(&tape, 0, other)), Err(8));
+        // A swap of the same two steps in another order is a stranger too.
+        let mut swapped = tape.clone();
+        swapped.swap(4, 5);
+        assert_eq!(check(&swapped), Err(8));
+    }
+    // Padding basic's forms to h gives a stranger: case A with one chain step more each way.
+    let up = [step(MUL, 0, 1), step(SWP, 0, 1)];
+    let down = [step(SWP, 0, 1), step(DIV, 0, 1)];
+    let [first, second] = [step(MUL, 2, 1), step(DIV, 2, 1)];
+    let steps = [
+        &up[..],
+        &[first],
+        &up,
+        &down,
+        &down,
+        &[step(SWP, 1, 2)],
+        &up,
+        &up,
+        &down,
+        &[second],
+        &down,
+    ];
+    let steps = steps.concat();
+    let head = &CASE_A[..4];
+    let padded = [head, &steps, &[0xF0000000 | steps.len() as u32]].concat();
+    assert_eq!(check(&padded), Err(8));
+}
+
+#[test]
+fn registers_and_bases() {
+    let tape = built(7, 3, 2, 1);
+    for base in [0, 7, 8, u32::MAX] {
+        assert_eq!(load(&tape, base), Err(9));
+        for place in 0..4 {
+            let mut registers = [1; 4];
+            registers[place] = base;
+            assert_eq!(run(&tape, registers, 0, 19), Err(9));
+            // 9 comes before 10.
+            assert_eq!(run(&tape, registers, 0, 20), Err(9));
+        }
+    }
+    // 3 has order 6 modulo 7.
+    assert_eq!(load(&tape, 3), Err(11));
+    assert_eq!(load(&tape, 4), Ok([1, 4, 1, 1]));
+    assert_eq!(load(&free(7, &[]), 3), Ok([1, 3, 1, 1]));
+    assert_eq!(load(&tape[..4], 3), Err(6));
+    assert_eq!(load(&with(&tape, 4, 0), 0), Err(7));
+}
+
+#[test]
+fn positions() {
+    let tape = built(7, 3, 2, 1);
+    assert_eq!(run(&tape, [1; 4], 20, 0), Err(10));
+    assert_eq!(run(&tape, [1; 4], 0, 20), Err(10));
+    assert_eq!(run(&tape, [1; 4], u32::MAX, u32::MAX), Err(10));
+    assert_eq!(run(&tape, [1; 4], 19, 19), Ok([1; 4]));
+    assert_eq!(trace(&tape, 20), Err(10));
+    assert!(trace(&tape, 19).is_ok());
+    assert_eq!(cut(&tape, 0, 20), Err(10));
+    assert_eq!(cut(&tape, 20, 20), Err(10));
+    assert_eq!(cut(&tape, 3, 2), Err(10));
+    assert_eq!(cut(&tape, 0, 19), Ok(&tape[4..23]));
+    assert_eq!(cut(&tape, 5, 7), Ok(&tape[9..11]));
+    assert_eq!(cut(&tape, 19, 19), Ok(&[][..]));
+    assert_eq!(cut(&tape[..4], 0, 0), Err(6));
+    assert_eq!(trace(&with(&tape, 4, 0), 99), Err(7));
+}
+
+/// Steps that bring registers 0 and 1 from exponents (0, 1) to (high, low): Euclid's subtractions
+/// taken back. The two share no factor.
+fn climb(high: i64, low: i64) -> Vec<u32> {
+    let (mut a, mut b) = (high, low);
+    let mut steps = vec![];
+    while a != 0 && b != 0 {
+        if a >= b {
+            a -= b;
+            steps.push(step(MUL, 0, 1));
+        } else {
+            b -= a;
+            steps.push(step(MUL, 1, 0));
+        }
+    }
+    if b == 0 {
+        steps.push(step(SWP, 0, 1));
+    }
+    assert_eq!(a + b, 1);
+    steps.reverse();
+    steps
+}
+
+/// A partner near high / φ for which the climb is short.
+fn short_climb(high: i64) -> Vec<u32> {
+    let near = reference::hofstadter(high as u64 - 1) as i64;
+    let coprime = |low: &i64| {
+        let (mut a, mut b) = (high, *low);
+        while b != 0 {
+            (a, b) = (b, a % b);
+        }
+        a == 1
+    };
+    let climbs = (0..200)
+        .map(|i| near - i)
+        .filter(coprime)
+        .map(|low| climb(high, low));
+    climbs.min_by_key(|steps| steps.len()).unwrap()
+}
+
+#[test]
+fn range() {
+    let limit = 1i64 << 62;
+    let steps = short_climb(limit);
+    let at = steps.len() as u32;
+    assert!(at < 400);
+    // 2^62 and −2^62 are within.
+    let tape = free(
+        7,
+        &[&steps[..], &[step(DIV, 2, 0), step(MUL, 3, 0)]].concat(),
+    );
+    let ended = trace(&tape, at + 2).unwrap();
+    assert_eq!((ended[0], ended[2], ended[3]), (limit, -limit, limit));
+    // Twice that, either way, is outside, and stays refused after the return.
+    for (target, there, back) in [(2, DIV, MUL), (3, MUL, DIV)] {
+        let more = [
+            step(there, target, 0),
+            step(there, target, 0),
+            step(back, target, 0),
+        ];
+        let tape = free(7, &[&steps[..], &more].concat());
+        assert!(trace(&tape, at + 1).is_ok());
+        assert_eq!(trace(&tape, at + 2), Err(12));
+        assert_eq!(trace(&tape, at + 3), Err(12));
+        assert_eq!(trace(&tape, at + 4), Err(10));
+    }
+    // 2^62 + 1 is outside.
+    let steps = short_climb(limit + 1);
+    let tape = free(7, &steps);
+    assert_eq!(trace(&tape, steps.len() as u32), Err(12));
+    assert!(trace(&tape, steps.len() as u32 - 1).is_ok());
+    // The same below zero: register 3 reaches −2^62, then one less by a register that holds 1.
+    let steps = short_climb(limit);
+    let down = [step(DIV, 3, 0)];
+    let one = [step(MUL, 2, 1)];
+    let tape = free(7, &[&one[..], &steps, &down, &[step(DIV, 3, 2)]].concat());
+    let at = steps.len() as u32 + 2;
+    assert_eq!(
+        trace(&tape, at).map(|ended| (ended[2], ended[3])),
+        Ok((1, -limit))
+    );
+    assert_eq!(trace(&tape, at + 1), Err(12));
+}
+
+#[test]
+fn listings() {
+    assert_eq!(listing(&[]), b"refused 6\n");
+    assert_eq!(listing(&bytes(&CASE_A)[..63]), b"refused 6\n");
+    assert_eq!(listing(&[0; 2052]), b"refused 6\n");
+    assert_eq!(listing(&[0; 2049]), b"refused 6\n");
+    assert_eq!(listing(&[0; 2048]), b"refused 7\n");
+    assert_eq!(
+        listing(&bytes(&with(&CASE_A, 1, 0x20000009))),
+        b"refused 1\n"
+    );
+    assert_eq!(
+        listing(&bytes(&with(&CASE_A, 4, step(MUL, 0, 2)))),
+        b"refused 8\n"
+    );
+    let full = listing(&bytes(&free(268435399, &vec![step(DIV, 3, 2); 507])));
+    let lines: Vec<&str> = std::str::from_utf8(&full).unwrap().split('\n').collect();
+    assert_eq!(lines.len(), 509);
+    assert_eq!(lines[0], "free p=268435399 r=0 k=0 steps=507");
+    assert_eq!(
+        (lines[1], lines[507], lines[508]),
+        ("1 div 3 2", "507 div 3 2", "")
+    );
+    for (variant, name) in [(1, "basic"), (2, "dual"), (3, "hybrid")] {
+        let tape = built(359, 179, 76, variant);
+        let first = format!("{name} p=359 r=179 k=76 steps={}\n", tape.len() - 5);
+        assert!(listing(&bytes(&tape)).starts_with(first.as_bytes()));
+    }
+}
