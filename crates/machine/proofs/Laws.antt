@@ -5,4 +5,5 @@ pub mod Lists
 pub mod Integers
 pub mod Exponents
 pub mod Ranges
+pub mod Sums
 pub mod Congruences

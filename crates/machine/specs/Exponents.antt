@@ -1,13 +1,23 @@
 -- Document 01, "Services and refusals", trace: each register's whole exponent, unreduced, minus signs kept.
-use mathlib.Core.Bool.{Bool, true, _&&_}
+use mathlib.Core.Bool.{Bool, true, not, _&&_}
 use mathlib.Core.List.{List, [], _∷_}
 use Prim.Native.Nat.{ℕ, suc, _-_, _%_, _^_}
 use lib.IntN.{ℤ, pos, negsuc, negℤ, _+ℤ_, _-ℤ_}
 use lib.ListN.{getD, set, take}
 use lib.Signed.{leZ}
+use Rattle.refusal.specs.declared.Refusal.the-variants.{Range}
+use Rattle.refusal.specs.Refusals.{numberOf}
+use Rattle.refusal.specs.Outcomes.{Outcome, refused, answered, outcome, _given-if_}
 use Rattle.modular.specs.Inverses.{inverse}
 use Rattle.tape.specs.declared.Step.{Step}
 use Rattle.tape.specs.declared.Step.the-variants.{Mul, Div, Swp}
+use Rattle.machine.specs.declared.Exponents.{Exponents}
+use Rattle.machine.specs.declared.Trace.{Trace}
+use Rattle.machine.specs.declared.Trace.the-variants.{At, Refused}
+
+-- the four exponents of the code, by their registers' numbers
+abbrev pub exponentsOf : Exponents → List ℤ
+exponentsOf exponents = exponents .c ∷ exponents .d ∷ exponents .e ∷ exponents .f ∷ []
 
 -- the exponent of register i
 abbrev pub exponent : List ℤ → ℕ → ℤ
@@ -44,6 +54,19 @@ allInRange (e ∷ z) = inRange e && allInRange z
 unfoldable pub staysInRange : List Step → List ℤ → Bool
 staysInRange [] z = allInRange z
 staysInRange (x ∷ xs) z = allInRange z && staysInRange xs (shift x z)
+
+-- the exponents with y added to that of register i; refusal 12 where the sum leaves the range
+unfoldable pub addOutcome : List ℤ → ℕ → ℤ → Outcome (List ℤ)
+addOutcome z i y = let x = exponent z i +ℤ y in outcome ((Range given-if not (inRange x)) ∷ []) (set z i x)
+
+-- the exponents after the steps of a list; refusal 12 where one of them leaves the range at any position
+unfoldable pub shiftOutcome : List Step → List ℤ → Outcome (List ℤ)
+shiftOutcome xs z = outcome ((Range given-if not (staysInRange xs z)) ∷ []) (shiftAll xs z)
+
+-- the outcome that a `Trace` of the code stands for
+abbrev pub tracedOf : Trace → Outcome (List ℤ)
+tracedOf (At exponents) = answered (exponentsOf exponents)
+tracedOf (Refused e) = refused (numberOf e)
 
 -- a^e modulo p: for a negative exponent the inverse of the power with its sign turned
 unfoldable pub powerOf : ℕ → ℕ → ℤ → ℕ

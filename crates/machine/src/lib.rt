@@ -1,10 +1,19 @@
-// Document 01, "Machine and variants": four registers, and what a step makes of them modulo p.
+// Document 01, "Machine and variants": four registers, what a step makes of them modulo p, and of their whole exponents.
+mod whole;
+
 ghost use mathlib.Core.Path.{_≡_};
+ghost use mathlib.Core.List.{[], _∷_};
 ghost use lib.ListN.{set};
 ghost use Rattle.machine.specs.Machine.{valuesOf, reg, apply, opposite};
+ghost use Rattle.machine.specs.Exponents.{exponentsOf, shiftOutcome, tracedOf};
 use modular::inverse_or_zero;
 use modular::product;
+use refusal::Refusal;
 use tape::Step;
+use whole::add;
+use whole::are_in_range;
+use whole::exponent;
+use whole::with_exponent;
 
 // The registers 0 to 3 under the source's names.
 pub struct Registers {
@@ -12,6 +21,20 @@ pub struct Registers {
     pub d: u32,
     pub e: u32,
     pub f: u32,
+}
+
+// The registers' whole exponents, unreduced, minus signs kept.
+pub struct Exponents {
+    pub c: i64,
+    pub d: i64,
+    pub e: i64,
+    pub f: i64,
+}
+
+// What a trace comes to: the four exponents, or a refusal.
+pub enum Trace {
+    At(Exponents),
+    Refused(Refusal),
 }
 
 // A step done. It is defined for every p and every pair of numbers, as `apply` is; a tape holds only registers 0 to 3.
@@ -44,6 +67,30 @@ pub fn opposite(step: Step) -> Step
         Step::Mul(t, s) => Step::Div(t, s),
         Step::Div(t, s) => Step::Mul(t, s),
         Step::Swp(t, s) => Step::Swp(t, s),
+    }
+}
+
+// A step on whole exponents: 12 where one of them is outside the range, before the step or after it.
+pub fn shift(exponents: Exponents, step: Step) -> Trace
+    ensures { λ r. ⌜ tracedOf r ≡ shiftOutcome (step ∷ []) (exponentsOf exponents) ⌝ }
+{
+    if !are_in_range(exponents) {
+        return Trace::Refused(Refusal::Range);
+    }
+    match step {
+        Step::Mul(t, s) => {
+            let y = exponent(exponents, s);
+            add(exponents, t, y)
+        }
+        Step::Div(t, s) => {
+            let y = exponent(exponents, s);
+            add(exponents, t, -y)
+        }
+        Step::Swp(t, s) => {
+            let x = exponent(exponents, t);
+            let y = exponent(exponents, s);
+            Trace::At(with_exponent(with_exponent(exponents, t, y), s, x))
+        }
     }
 }
 

@@ -1,13 +1,15 @@
 -- Integers for `omega`: each is `over` less `under`, two natural numbers of which one is 0, and each law says what an operation or
 -- a test makes of these two, by the cases of its signs.
-use mathlib.Core.Path.{_≡_, refl, ap}
-use mathlib.Core.Bool.{true}
-use Prim.Native.Nat.{ℕ, zero, suc, _+_, _-_, _≤_}
+use mathlib.Core.Path.{_≡_, refl, sym, ap, _∙_}
+use mathlib.Core.Bool.{true, false}
+use Prim.Native.Nat.{ℕ, zero, suc, _+_, _-_, _≤_, _<_}
+use native.Mathlib.Nat.{add-zero, zero-add}
 use native.Mathlib.Decide.{decLt}
 use native.Mathlib.Omega.{arith}
+use lib.Dec.{leb, ltb, leb·suc-suc}
 use lib.IntN.{ℤ, pos, negsuc, negℤ, _+ℤ_, _-ℤ_, subℕ}
-use lib.Signed.{leZ}
-use borrow.Author.Tests.{lt-ltb, le-ltb, le-leb}
+use lib.Signed.{leZ, ltZ}
+use borrow.Author.Tests.{ltb-true, ltb-false, leb-true, lt-ltb, le-ltb, le-leb, lt-leb}
 
 abbrev pub over : ℤ → ℕ
 over (pos n) = n
@@ -62,13 +64,52 @@ over-less a b = omega (arith, over-sum a (negℤ b), over-opposite b, under-oppo
 pub under-less : (a b : ℤ) → under (a -ℤ b) ≡ under a + over b - (over a + under b)
 under-less a b = omega (arith, under-sum a (negℤ b), over-opposite b, under-opposite b)
 
--- ---- the test
+-- ---- the tests
 
-pub le-leZ : (a b : ℤ) → over a + under b ≤ over b + under a → leZ a b ≡ true
-le-leZ (pos m) (pos n) h = le-leb m n (omega arith)
-le-leZ (pos m) (negsuc n) h = absurd (omega arith)
-le-leZ (negsuc m) (pos n) h = refl
-le-leZ (negsuc m) (negsuc n) h = le-leb n m (omega arith)
+pub leZ-is : (a b : ℤ) → leZ a b ≡ leb (over a + under b) (over b + under a)
+leZ-is (pos m) (pos n) = rw (add-zero m, add-zero n)
+leZ-is (pos m) (negsuc n) = sym (lt-leb (m + suc n) 0 (omega arith))
+leZ-is (negsuc m) (pos n) = sym (le-leb 0 (n + suc m) (omega arith))
+leZ-is (negsuc m) (negsuc n) = sym (rw (zero-add (suc m), zero-add (suc n)) (leb·suc-suc n m))
+
+pub ltZ-is : (a b : ℤ) → ltZ a b ≡ ltb (over a + under b) (over b + under a)
+ltZ-is (pos m) (pos n) = rw (add-zero m, add-zero n)
+ltZ-is (pos m) (negsuc n) = sym (le-ltb (m + suc n) 0 (omega arith))
+ltZ-is (negsuc m) (pos n) = sym (lt-ltb 0 (n + suc m) (omega arith))
+ltZ-is (negsuc m) (negsuc n) = sym (rw (zero-add (suc m), zero-add (suc n)) (leb·suc-suc (suc n) m))
+
+module _ (a b : ℤ) where
+  pub le-leZ : over a + under b ≤ over b + under a → leZ a b ≡ true
+  le-leZ h = leZ-is a b ∙ le-leb _ _ h
+
+  pub lt-leZ : over b + under a < over a + under b → leZ a b ≡ false
+  lt-leZ h = leZ-is a b ∙ lt-leb _ _ h
+
+  pub leZ-true : leZ a b ≡ true → over a + under b ≤ over b + under a
+  leZ-true e = leb-true _ _ (sym (leZ-is a b) ∙ e)
+
+  pub ltZ-true : ltZ a b ≡ true → over a + under b < over b + under a
+  ltZ-true e = ltb-true _ _ (sym (ltZ-is a b) ∙ e)
+
+  pub ltZ-false : ltZ a b ≡ false → over b + under a ≤ over a + under b
+  ltZ-false e = ltb-false _ _ (sym (ltZ-is a b) ∙ e)
+
+-- a number moved from one side to the other
+same-difference : (a b c d : ℕ) → a + d ≡ c + b → leb a b ≡ leb c d
+same-difference a b c d e = elim (decLt b a) [
+  | yes l ↦ lt-leb a b l ∙ sym (lt-leb c d (omega arith))
+  | no l ↦ le-leb a b (omega arith) ∙ sym (le-leb c d (omega arith))
+]
+
+same-test : (a b c d : ℤ) → over a + under b + (over d + under c) ≡ over c + under d + (over b + under a) → leZ a b ≡ leZ c d
+same-test a b c d e = leZ-is a b ∙ same-difference _ _ _ _ e ∙ sym (leZ-is c d)
+
+module _ (a b m : ℤ) where
+  pub most-less : leZ a (m -ℤ b) ≡ leZ (a +ℤ b) m
+  most-less = same-test a (m -ℤ b) (a +ℤ b) m (omega (arith, over-less m b, under-less m b, over-sum a b, under-sum a b))
+
+  pub least-less : leZ (m -ℤ b) a ≡ leZ m (a +ℤ b)
+  least-less = same-test (m -ℤ b) a m (a +ℤ b) (omega (arith, over-less m b, under-less m b, over-sum a b, under-sum a b))
 
 -- ---- from -m to m
 

@@ -5,7 +5,8 @@ use mathlib.Core.Bool.{true, _&&_}
 use mathlib.Core.List.{List, [], _∷_, _++_}
 use Prim.Native.Nat.{ℕ, zero, suc, _^_}
 use native.Mathlib.Omega.{arith}
-use lib.IntN.{ℤ, pos, negℤ}
+use lib.IntN.{ℤ, pos, negsuc, negℤ}
+use lib.Signed.{leZ}
 use lib.ListN.{length, take}
 use lib.Seq.{take-length}
 use Rattle.modular.proofs.Laws.Tests.{both}
@@ -13,14 +14,23 @@ use Rattle.tape.specs.declared.Step.{Step}
 use Rattle.tape.specs.Steps.{AllSound}
 use Rattle.machine.specs.Machine.{back}
 use Rattle.machine.specs.Exponents.{shift, shiftAll, startExponents, exponentsAt, inRange, allInRange, staysInRange}
-use Rattle.machine.proofs.Laws.Integers.{Within, le-leZ}
+use Rattle.machine.proofs.Laws.Integers.{Within, le-leZ, leZ-true}
 use Rattle.machine.proofs.Laws.Exponents.{length-shift, shift-opposite}
 
 -- ---- the tests
 
-within-range : (e : ℤ) → Within (2 ^ 62) e → inRange e ≡ true
+pub within-range : (e : ℤ) → Within (2 ^ 62) e → inRange e ≡ true
 unfolding inRange
 within-range e w = rw (le-leZ (negℤ (pos (2 ^ 62))) e (omega arith), le-leZ e (pos (2 ^ 62)) (omega arith))
+
+pub range-within : (e : ℤ) → inRange e ≡ true → Within (2 ^ 62) e
+unfolding inRange
+range-within (pos n) r =
+    let most = leZ-true (pos n) (pos (2 ^ 62)) (both (leZ (negℤ (pos (2 ^ 62))) (pos n)) (leZ (pos n) (pos (2 ^ 62))) r .1) in
+    record { high = omega arith; low = omega arith }
+range-within (negsuc n) r =
+    let least = leZ-true (negℤ (pos (2 ^ 62))) (negsuc n) (both (leZ (negℤ (pos (2 ^ 62))) (negsuc n)) (leZ (negsuc n) (pos (2 ^ 62))) r .0) in
+    record { high = omega arith; low = omega arith }
 
 -- four exponents in range
 pub four-range : (c d e f : ℤ) → Within (2 ^ 62) c → Within (2 ^ 62) d → Within (2 ^ 62) e → Within (2 ^ 62) f
