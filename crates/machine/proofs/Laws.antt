@@ -6,4 +6,5 @@ pub mod Integers
 pub mod Exponents
 pub mod Ranges
 pub mod Sums
+pub mod Traces
 pub mod Congruences

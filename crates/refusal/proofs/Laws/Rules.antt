@@ -16,6 +16,12 @@ unfolding outcome
 passed true e rules x y a = let z : _≡_ {A = ℕ} 0 1 = cc in absurd (omega arith)
 passed false e rules x y a = (refl, a)
 
+-- a call that its only rule refuses
+pub refused-by : {A : Type 0} (t : Bool) (e : Refusal) (x : A) {n : ℕ} → outcome ((e given-if t) ∷ []) x ≡ refused n → (t ≡ true) × (numberOf e ≡ n)
+unfolding outcome
+refused-by true e x a = (refl, cc)
+refused-by false e x a = let z : _≡_ {A = ℕ} 0 1 = cc in absurd (omega arith)
+
 -- one call, and where it answers, another
 abbrev pub andThen : {A B : Type 0} → Outcome A → Outcome B → Outcome B
 andThen (refused n) o = refused n
