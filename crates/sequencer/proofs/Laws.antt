@@ -1,8 +1,9 @@
--- Load and run by cases, what their answers say, and demand 3.
+-- Load, run and trace by cases, what their answers say, and demand 3.
 pub mod Cases
 pub mod Travel
 pub mod Requests
 pub mod Answers
 pub mod Chains
 pub mod Rewinds
+pub mod Tracing
 pub mod Examples

@@ -1,4 +1,5 @@
--- Document 01, "Services and refusals": load and run, and the words of demand 3.
+-- Document 01, "Services and refusals": load, run, trace and cut, and the words of demand 3.
 pub mod Services
 pub mod Lists
 pub mod Demand
+pub mod Tracing

@@ -1,4 +1,4 @@
-// Document 01, "Services and refusals": load, run, and lists of runs.
+// Document 01, "Services and refusals": load, run, trace, cut, and lists of runs.
 mod conditions;
 mod requests;
 mod travel;
@@ -6,21 +6,25 @@ mod travel;
 ghost use mathlib.Core.Path.{_≡_};
 ghost use Rattle.refusal.specs.Outcomes.{answered};
 ghost use Rattle.machine.specs.Machine.{valuesOf};
+ghost use Rattle.machine.specs.Exponents.{tracedOf};
 ghost use Rattle.program.specs.Services.{acceptOutcome};
-ghost use Rattle.sequencer.specs.Services.{standingOf, loadOutcome, runOutcome, cutOutcome, cutPart, cutNumber};
+ghost use Rattle.sequencer.specs.Services.{standingOf, loadOutcome, runOutcome, traceOutcome, cutOutcome, cutPart, cutNumber};
 ghost use Rattle.sequencer.specs.Lists.{afterAll, requestsOf};
 ghost use Rattle.sequencer.specs.Demand.{ChainEnds, RewindEnds};
+ghost use Rattle.sequencer.specs.Tracing.{NeverOutside, MeansPowers};
 use conditions::is_bad_base;
 use conditions::is_bad_cut;
 use conditions::is_bad_register;
 use conditions::is_some_bad;
 use machine::Registers;
+use machine::Trace;
 use refusal::Refusal;
 use requests::after_run;
 use requests::part;
 use tape::Header;
 use tape::Reading;
 use tape::step_words;
+use travel::exponents_at;
 use travel::travel;
 
 // What load and run answer: the four registers, or a refusal.
@@ -85,6 +89,18 @@ pub fn play(row: &[u32], requests: &[u32], registers: Registers) -> Registers
     after
 }
 
+// Each register's whole exponent at a position: check's refusals, 10, 12; no named program gets 12.
+pub fn trace(tape: &[u32], position: u32) -> Trace
+    ensures { λ answer. ⌜ tracedOf answer ≡ traceOutcome (now (tape .entry)) position ⌝ }
+    ensures { λ answer. ⌜ NeverOutside (now (tape .entry)) (tracedOf answer) ⌝ }
+    ensures { λ answer. ⌜ MeansPowers (now (tape .entry)) position (tracedOf answer) ⌝ }
+{
+    match program::accept(tape) {
+        Reading::Refused(e) => Trace::Refused(e),
+        Reading::Laid(header) => trace_accepted(tape, header, position),
+    }
+}
+
 // Load on a program that is accepted: 9, 11.
 fn load_accepted(tape: &[u32], header: Header, base: u32) -> Standing
     requires { ⌜ acceptOutcome (now tape) ≡ answered header ⌝ }
@@ -119,6 +135,17 @@ fn run_accepted(tape: &[u32], header: Header, registers: Registers, from: u32, t
         return Standing::Refused(Refusal::Position);
     }
     Standing::At(travel(tape, header.modulus, registers, from as usize, to as usize))
+}
+
+// Trace of a program that is accepted: 10, 12.
+fn trace_accepted(tape: &[u32], header: Header, position: u32) -> Trace
+    requires { ⌜ acceptOutcome (now tape) ≡ answered header ⌝ }
+    ensures { λ answer. ⌜ tracedOf answer ≡ traceOutcome (now (tape .entry)) position ⌝ }
+{
+    if header.steps < position {
+        return Trace::Refused(Refusal::Position);
+    }
+    exponents_at(tape, position as usize)
 }
 
 // Cut of a program that is accepted: 10.

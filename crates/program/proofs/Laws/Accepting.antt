@@ -70,7 +70,7 @@ module _ (tape : List ℕ) (a : AcceptedNamed tape) where
   abbrev h : Header
   h = headerOf tape
 
-  steps-named : stepsOf tape ≡ namedSteps (h .variant) (h .order) (h .exponent)
+  pub steps-named : stepsOf tape ≡ namedSteps (h .variant) (h .order) (h .exponent)
   steps-named =
       ap stepsOf (a .words)
       ∙ program-steps _ (named-lawful (h .modulus) (h .order) (h .exponent) (h .variant) (a .modulus) (a .order) (a .exponent) (a .named))

@@ -1,12 +1,13 @@
--- Load and run by cases: what check refuses, they refuse, and on an accepted tape their own rules are left.
+-- Load, run, trace and cut by cases: what check refuses, they refuse, and on an accepted tape their own rules are left.
 use mathlib.Core.Path.{_≡_, refl, sym, ap, _∙_}
 use mathlib.Core.Bool.{true, false, not, _||_, or-true, or-false}
 use mathlib.Core.List.{List, [], _∷_}
 use Prim.Native.Nat.{ℕ, _≤_, _<_, _%_, _^_}
 use native.Mathlib.Omega.{arith}
 use lib.Dec.{leb, ltb, eqb}
+use lib.ListN.{take}
 use borrow.Author.Tests.{ltb-false, lt-ltb, le-ltb, eq-eqb, ne-eqb}
-use Rattle.refusal.specs.declared.Refusal.the-variants.{Register, Position, Base}
+use Rattle.refusal.specs.declared.Refusal.the-variants.{Register, Position, Base, Range}
 use Rattle.refusal.specs.Refusals.{numberOf}
 use Rattle.refusal.specs.Outcomes.{Outcome, Rule, refused, answered, outcome, _given-if_, gives, passes, answers}
 use Rattle.refusal.proofs.Laws.Rules.{refused-before, passed-before, answer-is}
@@ -15,10 +16,11 @@ use Rattle.tape.specs.declared.Header.{Header}
 use Rattle.tape.specs.Layout.{headerOf, stepCount, stepWords, stepPart, stepsOf}
 use Rattle.tape.proofs.Laws.Rows.{part-inside}
 use Rattle.machine.specs.Machine.{run, start}
+use Rattle.machine.specs.Exponents.{startExponents, exponentsAt, staysInRange, shiftOutcome}
 use Rattle.program.specs.Services.{checkRules, acceptOutcome}
 use Rattle.program.proofs.Laws.Checking.{accepted}
 use Rattle.program.proofs.Laws.Parameters.{good-modulus}
-use Rattle.sequencer.specs.Services.{badRegister, badRegisters, allowed, badBase, badCut, loadOutcome, runOutcome, runRules, cutOutcome, cutPart, cutNumber}
+use Rattle.sequencer.specs.Services.{badRegister, badRegisters, allowed, badBase, badCut, loadOutcome, runOutcome, runRules, traceOutcome, cutOutcome, cutPart, cutNumber}
 
 -- ---- the tests
 
@@ -89,6 +91,10 @@ module _ (tape : List ℕ) (n : ℕ) (e : acceptOutcome tape ≡ refused n) wher
   unfolding runOutcome runRules
   run-unaccepted v from goal = refused-before (headerOf tape) _ (checkRules tape) _ e
 
+  pub trace-unaccepted : (position : ℕ) → traceOutcome tape position ≡ refused n
+  unfolding traceOutcome
+  trace-unaccepted position = refused-before (headerOf tape) _ (checkRules tape) _ e
+
 -- ---- accepted
 
 module _ (tape : List ℕ) (h : Header) (e : acceptOutcome tape ≡ answered h) where
@@ -147,6 +153,29 @@ module _ (tape : List ℕ) (h : Header) (e : acceptOutcome tape ≡ answered h) 
       pub run-there : from ≤ h .steps → goal ≤ h .steps → runOutcome tape v from goal ≡ answered (there h)
       run-there low high =
           run-rules ∙ passes _ _ _ good ∙ passes _ _ _ (rw (le-ltb (h .steps) from low, le-ltb (h .steps) goal high)) ∙ answers _
+
+  module _ (position : ℕ) where
+    -- the steps up to the position, where it is one of the tape's
+    trace-rules : traceOutcome tape position
+        ≡ outcome
+        ((Position given-if ltb (h .steps) position) ∷ (Range given-if not (staysInRange (take position (stepsOf tape)) startExponents)) ∷ [])
+        (exponentsAt (stepsOf tape) position)
+    unfolding traceOutcome
+    trace-rules =
+        passed-before (headerOf tape) _ (checkRules tape) _ e
+        ∙ ap
+        (λ (g : Header).
+        outcome
+        ((Position given-if ltb (g .steps) position) ∷ (Range given-if not (staysInRange (take position (stepsOf tape)) startExponents)) ∷ [])
+        (exponentsAt (stepsOf tape) position))
+        (sym header-is)
+
+    pub trace-position : h .steps < position → traceOutcome tape position ≡ refused (numberOf Position)
+    trace-position past = trace-rules ∙ gives _ _ _ (lt-ltb (h .steps) position past)
+
+    pub trace-there : position ≤ h .steps → traceOutcome tape position ≡ shiftOutcome (take position (stepsOf tape)) startExponents
+    unfolding shiftOutcome
+    trace-there high = trace-rules ∙ passes _ _ _ (le-ltb (h .steps) position high)
 
   module _ (first last : ℕ) where
     cut-rules : cutOutcome tape first last ≡ outcome ((Position given-if badCut (h .steps) first last) ∷ []) (stepWords tape first last)
