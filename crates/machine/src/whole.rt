@@ -97,7 +97,7 @@ fn is_in_range(x: i64) -> bool
     x <= HIGHEST
 }
 
-// The sum of two numbers in the range is in it too. This is told before they are added: their sum can be 2^63, which is no i64.
+// The sum of two numbers in the range is in it too. It is told before they are added: the sum can be 2^63, which is no i64.
 fn is_sum_in_range(x: i64, y: i64) -> bool
     requires { ⌜ (inRange x ≡ true) × (inRange y ≡ true) ⌝ }
     ensures { λ r. ⌜ r ≡ inRange (x +ℤ y) ⌝ }
