@@ -66,13 +66,13 @@ under-less a b = omega (arith, under-sum a (negℤ b), over-opposite b, under-op
 
 -- ---- the tests
 
-pub leZ-is : (a b : ℤ) → leZ a b ≡ leb (over a + under b) (over b + under a)
+leZ-is : (a b : ℤ) → leZ a b ≡ leb (over a + under b) (over b + under a)
 leZ-is (pos m) (pos n) = rw (add-zero m, add-zero n)
 leZ-is (pos m) (negsuc n) = sym (lt-leb (m + suc n) 0 (omega arith))
 leZ-is (negsuc m) (pos n) = sym (le-leb 0 (n + suc m) (omega arith))
 leZ-is (negsuc m) (negsuc n) = sym (rw (zero-add (suc m), zero-add (suc n)) (leb·suc-suc n m))
 
-pub ltZ-is : (a b : ℤ) → ltZ a b ≡ ltb (over a + under b) (over b + under a)
+ltZ-is : (a b : ℤ) → ltZ a b ≡ ltb (over a + under b) (over b + under a)
 ltZ-is (pos m) (pos n) = rw (add-zero m, add-zero n)
 ltZ-is (pos m) (negsuc n) = sym (le-ltb (m + suc n) 0 (omega arith))
 ltZ-is (negsuc m) (pos n) = sym (lt-ltb 0 (n + suc m) (omega arith))

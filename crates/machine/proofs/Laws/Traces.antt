@@ -30,7 +30,7 @@ shift-none xs z i j there r =
 -- the first of several steps
 module _ (x : Step) (xs : List Step) (z : List ℤ) where
   -- it is passed
-  pub shift-goes : (w : List ℤ) → shiftOutcome (x ∷ []) z ≡ answered w → (shiftOutcome (x ∷ xs) z ≡ shiftOutcome xs w) × (allInRange w ≡ true)
+  shift-goes : (w : List ℤ) → shiftOutcome (x ∷ []) z ≡ answered w → (shiftOutcome (x ∷ xs) z ≡ shiftOutcome xs w) × (allInRange w ≡ true)
   unfolding shiftOutcome staysInRange shiftAll
   shift-goes w e =
       let there : w ≡ shift x z = answer-is _ (shift x z) e in
@@ -38,7 +38,7 @@ module _ (x : Step) (xs : List Step) (z : List ℤ) where
       (rw (there, t .0), rw there (t .1))
 
   -- or refused
-  pub shift-stops : (n : ℕ) → shiftOutcome (x ∷ []) z ≡ refused n → shiftOutcome (x ∷ xs) z ≡ refused n
+  shift-stops : (n : ℕ) → shiftOutcome (x ∷ []) z ≡ refused n → shiftOutcome (x ∷ xs) z ≡ refused n
   unfolding shiftOutcome
   shift-stops n e =
       let out = refused-by _ Range (shiftAll (x ∷ []) z) e in
