@@ -4,6 +4,7 @@ use machine::Registers;
 use refusal::Answer;
 use refusal::Refusal;
 use sequencer::Standing;
+use tape::part;
 
 const ROW_WORDS: usize = 4500;
 
@@ -428,19 +429,6 @@ fn play(row: &[u32], words: &[u32], call: [u32; 6]) {
     numbers(list);
     four(b" at ", registers);
     ends(sequencer::play(row, list, registers));
-}
-
-// The part of a row from one index to another; outside the row, the empty part.
-fn part(row: &[u32], begin: u32, end: u32) -> &[u32] {
-    let first = begin as usize;
-    let past = end as usize;
-    if past < first {
-        return &row[..0];
-    }
-    if row.len() < past {
-        return &row[..0];
-    }
-    &row[first..past]
 }
 
 fn ends(registers: Registers) {

@@ -1,11 +1,9 @@
 -- A list of runs, one after another. The list gives tapes and positions only: each run gets the registers as they stand after
 -- the runs before it, and what it makes of them is what run's own contract says.
-use mathlib.Core.Bool.{cond, _&&_}
 use mathlib.Core.List.{List, [], _∷_}
-use Prim.Native.Nat.{ℕ, _-_}
-use lib.Dec.{leb}
-use lib.ListN.{length, take, drop}
+use Prim.Native.Nat.{ℕ}
 use Rattle.refusal.specs.Outcomes.{Outcome, refused, answered}
+use Rattle.tape.specs.Layout.{part}
 use Rattle.sequencer.specs.Services.{runOutcome}
 
 pub record Request : Type 0 where
@@ -37,10 +35,6 @@ performed [] v = []
 performed (q ∷ qs) v = unlessRefused (answerTo q v) q (performed qs (after (answerTo q v) v))
 
 -- ---- requests as words
-
--- the part of a row from one index up to another; where they are the wrong way round or past the row, the empty part
-unfoldable pub part : List ℕ → ℕ → ℕ → List ℕ
-part row begin end = cond (leb begin end && leb end (length row)) (take (end - begin) (drop begin row)) []
 
 -- Four words make a request: where its tape begins and ends in the row, and its two positions. One to three words left over make none.
 unfoldable pub requestsOf : List ℕ → List ℕ → List Request

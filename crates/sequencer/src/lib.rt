@@ -20,9 +20,9 @@ use machine::Registers;
 use machine::Trace;
 use refusal::Refusal;
 use requests::after_run;
-use requests::part;
 use tape::Header;
 use tape::Reading;
+use tape::part;
 use tape::step_words;
 use travel::exponents_at;
 use travel::travel;
@@ -165,5 +165,5 @@ fn cut_accepted<'a>(
         return &tape[..0];
     }
     *number = 0;
-    step_words(tape, first as usize, last as usize)
+    step_words(tape, first, last)
 }

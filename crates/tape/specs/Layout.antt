@@ -39,9 +39,9 @@ stepAt tape i = getD tape (headerWords + i) 0
 abbrev pub stepWords : List ℕ → ℕ → ℕ → List ℕ
 stepWords tape first last = slice (headerWords + first) (headerWords + last) tape
 
--- they as a part of the tape; where it hasn't so many steps, the empty part
-unfoldable pub stepPart : List ℕ → ℕ → ℕ → List ℕ
-stepPart tape first last = cond (leb first last && leb last (stepCount tape)) (stepWords tape first last) []
+-- the part of a row from one index up to another; where they are the wrong way round or past the row, the empty part
+unfoldable pub part : List ℕ → ℕ → ℕ → List ℕ
+part row begin end = cond (leb begin end && leb end (length row)) (slice begin end row) []
 
 abbrev pub endAt : List ℕ → ℕ
 endAt tape = getD tape (headerWords + stepCount tape) 0

@@ -2,8 +2,9 @@
 mod layout;
 
 ghost use mathlib.Core.Path.{_≡_};
+ghost use Prim.Native.Nat.{_+_};
 ghost use Rattle.tape.specs.Words.{decoded, headingIn, actionIn, swapIn};
-ghost use Rattle.tape.specs.Layout.{readOutcome, readingOf, stepAt, stepOf, stepPart};
+ghost use Rattle.tape.specs.Layout.{readOutcome, readingOf, stepAt, stepOf, headerWords, part};
 use layout::HEADER_WORDS;
 use layout::MOST_WORDS;
 use layout::OTHER_WORDS;
@@ -112,20 +113,34 @@ pub fn step_of(d: Decoded) -> Step
     }
 }
 
-// The words of the steps numbered first + 1 to last, as a part of the tape; where it hasn't so many, the empty part.
-pub fn step_words(tape: &[u32], first: usize, last: usize) -> &[u32]
-    ensures { λ words. ⌜ now words ≡ stepPart (now (tape .entry)) first last ⌝ }
+// The words of the steps numbered first + 1 to last, as a part of the tape.
+pub fn step_words(tape: &[u32], first: u32, last: u32) -> &[u32]
+    ensures { λ words. ⌜ now words ≡ part (now (tape .entry)) (headerWords + first) (headerWords + last) ⌝ }
 {
-    if tape.len() < OTHER_WORDS {
-        return &tape[..0];
+    between(
+        tape,
+        HEADER_WORDS + first as usize,
+        HEADER_WORDS + last as usize,
+    )
+}
+
+// The part of a row from one index up to another; where they are the wrong way round or past the row, the empty part.
+pub fn part(row: &[u32], begin: u32, end: u32) -> &[u32]
+    ensures { λ r. ⌜ now r ≡ part (now (row .entry)) begin end ⌝ }
+{
+    between(row, begin as usize, end as usize)
+}
+
+fn between(row: &[u32], begin: usize, end: usize) -> &[u32]
+    ensures { λ r. ⌜ now r ≡ part (now (row .entry)) begin end ⌝ }
+{
+    if end < begin {
+        return &row[..0];
     }
-    if tape.len() - OTHER_WORDS < last {
-        return &tape[..0];
+    if row.len() < end {
+        return &row[..0];
     }
-    if last < first {
-        return &tape[..0];
-    }
-    &tape[HEADER_WORDS + first..HEADER_WORDS + last]
+    &row[begin..end]
 }
 
 // Reads a tape's header and tests its layout: 6, 7.

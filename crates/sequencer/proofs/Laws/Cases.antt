@@ -2,10 +2,10 @@
 use mathlib.Core.Path.{_≡_, refl, sym, ap, _∙_}
 use mathlib.Core.Bool.{true, false, not, _||_, or-true, or-false}
 use mathlib.Core.List.{List, [], _∷_}
-use Prim.Native.Nat.{ℕ, _≤_, _<_, _%_, _^_}
+use Prim.Native.Nat.{ℕ, _+_, _≤_, _<_, _%_, _^_}
 use native.Mathlib.Omega.{arith}
 use lib.Dec.{leb, ltb, eqb}
-use lib.ListN.{take}
+use lib.ListN.{length, take}
 use borrow.Author.Tests.{ltb-false, lt-ltb, le-ltb, eq-eqb, ne-eqb}
 use Rattle.refusal.specs.declared.Refusal.the-variants.{Register, Position, Base, Range}
 use Rattle.refusal.specs.Refusals.{numberOf}
@@ -13,8 +13,9 @@ use Rattle.refusal.specs.Outcomes.{Outcome, Rule, refused, answered, outcome, _
 use Rattle.refusal.proofs.Laws.Rules.{refused-before, passed-before, answer-is}
 use Rattle.modular.proofs.Laws.Tests.{neither}
 use Rattle.tape.specs.declared.Header.{Header}
-use Rattle.tape.specs.Layout.{headerOf, stepCount, stepWords, stepPart, stepsOf}
+use Rattle.tape.specs.Layout.{headerWords, headerOf, stepCount, stepWords, part, stepsOf}
 use Rattle.tape.proofs.Laws.Rows.{part-inside}
+use Rattle.tape.proofs.Laws.Layout.{laid-out-long}
 use Rattle.machine.specs.Machine.{run, start}
 use Rattle.machine.specs.Exponents.{startExponents, exponentsAt, staysInRange, shiftOutcome}
 use Rattle.program.specs.Services.{checkRules, acceptOutcome}
@@ -187,10 +188,12 @@ module _ (tape : List ℕ) (h : Header) (e : acceptOutcome tape ≡ answered h) 
     pub cut-position : badCut (h .steps) first last ≡ true → cutOutcome tape first last ≡ refused (numberOf Position)
     cut-position bad = cut-rules ∙ gives _ _ _ bad
 
-    pub cut-there : badCut (h .steps) first last ≡ false → cutOutcome tape first last ≡ answered (stepPart tape first last)
+    pub cut-there : badCut (h .steps) first last ≡ false → cutOutcome tape first last ≡ answered (part tape (headerWords + first) (headerWords + last))
     unfolding badCut
     cut-there good =
         let low = neither (ltb (h .steps) first || ltb (h .steps) last) (ltb last first) good in
         let high = neither (ltb (h .steps) first) (ltb (h .steps) last) (low .0) in
-        let inside : last ≤ stepCount tape = omega (arith, steps-are, ltb-false (h .steps) last (high .1)) in
-        cut-rules ∙ passes _ _ _ good ∙ answers _ ∙ ap answered (sym (part-inside tape first last (ltb-false last first (low .1)) inside))
+        let long = laid-out-long tape (accepted (headerOf tape) tape e .laid) in
+        let inside : 4 + last ≤ length tape = omega (arith, steps-are, ltb-false (h .steps) last (high .1)) in
+        let order : 4 + first ≤ 4 + last = omega (arith, ltb-false last first (low .1)) in
+        cut-rules ∙ passes _ _ _ good ∙ answers _ ∙ ap answered (sym (part-inside tape (4 + first) (4 + last) order inside))

@@ -1,32 +1,13 @@
 -- A list of requests as words: four words from an index on are its next request, and fewer are none.
 use mathlib.Core.Path.{_≡_, refl, sym, ap, _∙_}
-use mathlib.Core.Bool.{and-false}
 use mathlib.Core.List.{List, [], _∷_}
 use Prim.Native.Nat.{ℕ, suc, _+_, _-_, _≤_, _<_}
 use native.Mathlib.Omega.{arith}
-use lib.Dec.{leb}
-use lib.ListN.{length, getD, take, drop, length-drop}
+use lib.ListN.{length, getD, drop, length-drop}
 use lib.Seq.{drop-cons}
-use borrow.Author.Tests.{le-leb, lt-leb}
+use Rattle.tape.specs.Layout.{part}
 use Rattle.sequencer.specs.Services.{runOutcome}
-use Rattle.sequencer.specs.Lists.{Request, after, afterAll, part, requestsOf}
-
--- ---- the part of a row
-
-module _ (row : List ℕ) (begin end : ℕ) where
-  pub part-reversed : end < begin → part row begin end ≡ []
-  unfolding part
-  part-reversed h = rw (lt-leb begin end h)
-
-  pub part-past : length row < end → part row begin end ≡ []
-  unfolding part
-  part-past h = rw (lt-leb end (length row) h, and-false (leb begin end))
-
-  pub part-inside : begin ≤ end → end ≤ length row → part row begin end ≡ take (end - begin) (drop begin row)
-  unfolding part
-  part-inside h k = rw (le-leb begin end h, le-leb end (length row) k)
-
--- ---- the next request
+use Rattle.sequencer.specs.Lists.{Request, after, afterAll, requestsOf}
 
 fewer : (row words : List ℕ) → length words < 4 → requestsOf row words ≡ []
 unfolding requestsOf

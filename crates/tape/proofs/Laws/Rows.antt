@@ -4,7 +4,6 @@ use mathlib.Core.Path.{_≡_, refl, sym, ap, _∙_}
 use mathlib.Core.Bool.{true, false, _&&_, and-false}
 use mathlib.Core.List.{List, [], _∷_, map}
 use Prim.Native.Nat.{ℕ, zero, suc, _+_, _-_, _≤_, _<_}
-use native.Mathlib.Decide.{decLt}
 use native.Mathlib.Omega.{arith}
 use lib.Dec.{leb, eqb}
 use lib.ListN.{length, getD, take, drop, List·getD-eq-default, List·getD-map}
@@ -14,7 +13,7 @@ use Rattle.tape.specs.declared.Step.{Step}
 use Rattle.tape.specs.declared.Decoded.the-variants.{Bad}
 use Rattle.tape.specs.Steps.{AllSound}
 use Rattle.tape.specs.Words.{decoded, stepWord, encoded}
-use Rattle.tape.specs.Layout.{otherWords, stepCount, stepAt, stepWords, stepPart, sortOf, stepOf, meansAt, stepsIn, stepsOf, allSteps}
+use Rattle.tape.specs.Layout.{part, stepCount, stepAt, stepWords, sortOf, stepOf, meansAt, stepsIn, stepsOf, allSteps}
 use Rattle.tape.proofs.Laws.Tests.{both}
 use Rattle.tape.proofs.Laws.Words.{decoded-step, decoded-lawful, decoded-zero, step-sound, word-again}
 
@@ -69,37 +68,22 @@ steps-at tape i inside =
     ∙ ap (λ (w : ℕ). stepOf (decoded w))
     (getD-drop 4 (take (4 + stepCount tape) tape) i 0 ∙ getD-take (4 + stepCount tape) tape (4 + i) 0 (omega arith))
 
--- ---- the words of steps as a part of the tape
+-- ---- the part of a row
 
-module _ (tape : List ℕ) (first last : ℕ) where
-  pub part-reversed : last < first → stepPart tape first last ≡ []
-  unfolding stepPart
-  part-reversed h = rw (lt-leb first last h)
+module _ (row : List ℕ) (begin end : ℕ) where
+  pub part-reversed : end < begin → part row begin end ≡ []
+  unfolding part
+  part-reversed h = rw (lt-leb begin end h)
 
-  pub part-past : stepCount tape < last → stepPart tape first last ≡ []
-  unfolding stepPart
-  part-past h = rw (lt-leb last (stepCount tape) h, and-false (leb first last))
+  pub part-past : length row < end → part row begin end ≡ []
+  unfolding part
+  part-past h = rw (lt-leb end (length row) h, and-false (leb begin end))
 
-  pub part-inside : first ≤ last → last ≤ stepCount tape → stepPart tape first last ≡ stepWords tape first last
-  unfolding stepPart
-  part-inside h k = rw (le-leb first last h, le-leb last (stepCount tape) k)
+  pub part-inside : begin ≤ end → end ≤ length row → part row begin end ≡ slice begin end row
+  unfolding part
+  part-inside h k = rw (le-leb begin end h, le-leb end (length row) k)
 
--- a tape too short to have steps
-pub part-short : (tape : List ℕ) (first last : ℕ) → length tape < otherWords → stepPart tape first last ≡ []
-part-short tape first last short =
-    elim (decLt last first) [
-      | yes h ↦ part-reversed tape first last h
-      | no h ↦ elim (decLt (stepCount tape) last) [
-        | yes k ↦ part-past tape first last k
-        | no k ↦
-            let same : first ≡ last = omega arith in
-            part-inside tape first last (omega arith) (omega arith)
-            ∙ ap (λ (n : ℕ). stepWords tape n last) same
-            ∙ slice-empty (4 + last) tape
-      ]
-    ]
-
--- a part from one index up to another, taken from its beginning on
+-- a slice, taken from its beginning on
 pub slice-from : (f t : ℕ) (l : List ℕ) → slice f t l ≡ take (t - f) (drop f l)
 slice-from zero t l = let all : t ≡ t - 0 = omega arith in ap (λ (n : ℕ). take n l) all
 slice-from (suc f) zero l = let none : 0 ≡ 0 - suc f = omega arith in drop-nil (suc f) ∙ ap (λ (n : ℕ). take n (drop (suc f) l)) none

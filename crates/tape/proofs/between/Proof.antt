@@ -1,9 +1,9 @@
--- `requests::part` meets its contract: outside the row the part is empty, and inside it is the slice.
-use mathlib.Core.Path.{sym}
+-- `between` meets its contract: outside the row the part is empty, and inside it is the slice.
+use mathlib.Core.Path.{sym, _∙_}
 use borrow.Author.Needs.{needs}
-use Rattle.sequencer.proofs.Laws.Requests.{part-reversed, part-past, part-inside}
-use Rattle.sequencer.proofs.requests.part.Statement.{statement}
-use Rattle.sequencer.proofs.requests.part.Tie as tie
+use Rattle.tape.proofs.Laws.Rows.{part-reversed, part-past, part-inside, slice-from}
+use Rattle.tape.proofs.between.Statement.{statement}
+use Rattle.tape.proofs.between.Tie as tie
 
 slice-aggregate-result : tie.Need-slice-aggregate-result
 slice-aggregate-result c = search needs
@@ -27,10 +27,12 @@ part-result-end : tie.Need-part-result-end
 part-result-end c = search needs
 
 returns-3 : tie.Need-returns-3
-returns-3 c = sym (part-inside _ _ _ (c .before .before .if1 .left) (c .before .if2 .left))
+returns-3 c =
+    let a = c .before .before .before .args in
+    sym (part-inside _ _ _ (c .before .before .if1 .left) (c .before .if2 .left) ∙ slice-from (a .begin) (a .end) (a .row .now))
 
-pub part-spec : {M : Type 1} → statement M
-part-spec =
+pub between-spec : {M : Type 1} → statement M
+between-spec =
     tie.close
     (tie.spec
     slice-aggregate-result
