@@ -151,9 +151,13 @@ module _ (tape : List ℕ) (h : Header) (e : acceptOutcome tape ≡ answered h) 
       pub run-goal : h .steps < goal → runOutcome tape v from goal ≡ refused (numberOf Position)
       run-goal past = run-rules ∙ passes _ _ _ good ∙ gives _ _ _ (rw (lt-ltb (h .steps) goal past, or-true (ltb (h .steps) from)))
 
-      pub run-there : from ≤ h .steps → goal ≤ h .steps → runOutcome tape v from goal ≡ answered (there h)
-      run-there low high =
-          run-rules ∙ passes _ _ _ good ∙ passes _ _ _ (rw (le-ltb (h .steps) from low, le-ltb (h .steps) goal high)) ∙ answers _
+      pub run-there : from ≤ h .steps → goal ≤ h .steps → (w : List ℕ) → w ≡ there h → runOutcome tape v from goal ≡ answered w
+      run-there low high w e =
+          run-rules
+          ∙ passes _ _ _ good
+          ∙ passes _ _ _ (rw (le-ltb (h .steps) from low, le-ltb (h .steps) goal high))
+          ∙ answers _
+          ∙ ap answered (sym e)
 
   module _ (position : ℕ) where
     -- the steps up to the position, where it is one of the tape's

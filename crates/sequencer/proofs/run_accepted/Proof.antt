@@ -1,8 +1,7 @@
 -- `run_accepted` meets its contract: each return is a case of run on an accepted tape.
-use mathlib.Core.Path.{sym, ap, _∙_}
+use mathlib.Core.Path.{sym, _∙_}
 use native.Mathlib.Omega.{arith}
 use borrow.Author.Needs.{needs}
-use Rattle.refusal.specs.Outcomes.{answered}
 use Rattle.sequencer.proofs.Laws.Cases.{steps-are, run-register, run-from, run-goal, run-there}
 use Rattle.sequencer.proofs.run_accepted.Statement.{statement}
 use Rattle.sequencer.proofs.run_accepted.Tie as tie
@@ -31,10 +30,9 @@ travel-requires c κs =
 returns-4 : tie.Need-returns-4
 returns-4 c =
     let first = c .before .before .before .before .before in
-    ap answered (c .travel .ensures)
-    ∙ sym
+    sym
     (run-there _ _ (first .before .before .before .pre) _ _ _ (sym (first .before .is-some-bad .ensures) ∙ first .if1 .left)
-    (c .before .before .before .if2 .left) (c .before .if3 .left))
+    (c .before .before .before .if2 .left) (c .before .if3 .left) _ (c .travel .ensures))
 
 pub run-accepted-spec : {M : Type 1} → statement M
 run-accepted-spec =
