@@ -1,6 +1,4 @@
--- Figures 2, 4 and 6 of the paper as document 01 corrects them, the named programs, and build's and check's outcomes.
-pub mod Generators
-pub mod Named
+-- Build's and check's outcomes, and what the contracts of inner functions say.
 pub mod Services
 pub mod Writing
 pub mod Building

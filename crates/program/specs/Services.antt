@@ -1,33 +1,16 @@
 -- Document 01, "Services and refusals": build and check.
-use mathlib.Core.Bool.{Bool, true, false, not, _&&_, _||_, cond}
+use mathlib.Core.Bool.{Bool, true, false, not, _&&_}
 use mathlib.Core.List.{List, [], _∷_}
-use Prim.Native.Nat.{ℕ, _-_, _^_}
-use lib.Dec.{leb, ltb, eqb}
+use Prim.Native.Nat.{ℕ}
+use lib.Dec.{ltb, eqb}
 use lib.ListN.{length}
 use Rattle.refusal.specs.declared.Refusal.the-variants.{Modulus, Order, Exponent, Variant, Room, Length, Word, Mismatch}
 use Rattle.refusal.specs.Outcomes.{Outcome, Rule, outcome, _given-if_, rowAfter}
-use Rattle.modular.specs.Search.{divides}
-use Rattle.modular.specs.Primes.{isPrime}
-use Rattle.modular.specs.Inverses.{inverse, badExponent}
+use Rattle.modular.specs.Inverses.{badExponent}
 use Rattle.tape.specs.declared.Header.{Header}
 use Rattle.tape.specs.Layout.{headerOf, isLength, laidOut}
-use Rattle.program.specs.Named.{lastVariant, namedWords}
-
--- refusal 1: p isn't a prime from 3 to 268435455
-unfoldable pub badModulus : ℕ → Bool
-badModulus p = not (isPrime p && (leb 3 p && ltb p (2 ^ 28)))
-
--- refusal 2: r < 2, or r doesn't divide p - 1
-unfoldable pub badOrder : ℕ → ℕ → Bool
-badOrder p r = ltb r 2 || not (divides r (p - 1))
-
--- K, and 0 where refusal 3 applies
-unfoldable pub goodInverse : ℕ → ℕ → ℕ
-goodInverse k r = cond (badExponent k r) 0 (inverse r k)
-
--- refusal 4 in build: not 1 to 3
-unfoldable pub unnamed : ℕ → Bool
-unnamed variant = eqb variant 0 || ltb lastVariant variant
+use Rattle.named.specs.Named.{lastVariant, namedWords}
+use Rattle.named.specs.Parameters.{badModulus, badOrder, unnamed}
 
 -- refusal 5 for the words of a result, into a row of `room` words
 unfoldable pub roomOutcome : List ℕ → ℕ → Outcome ℕ

@@ -5,7 +5,7 @@ use Prim.Native.Nat.{ℕ}
 use lib.Dec.{eqb}
 use Rattle.tape.specs.Words.{stepWord}
 use Rattle.machine.specs.Machine.{back}
-use Rattle.program.specs.Generators.{ascend, descend, basic, dual, hybrid}
+use Rattle.named.specs.Generators.{ascend, descend, basic, dual, hybrid}
 
 abbrev pub isSet : ℕ → Bool
 isSet bit = eqb bit 1

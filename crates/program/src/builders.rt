@@ -3,7 +3,7 @@ ghost use mathlib.Core.Path.{_≡_};
 ghost use Prim.Native.Nat.{_≤_, _<_, _^_};
 ghost use lib.ListN.{length};
 ghost use Rattle.refusal.specs.Rows.{Wrote};
-ghost use Rattle.program.specs.Named.{namedWords};
+ghost use Rattle.named.specs.Named.{namedWords};
 ghost use Rattle.program.specs.Building.{Buildable, Built, headerWordsOf};
 use crate::parts::basic;
 use crate::parts::dual;

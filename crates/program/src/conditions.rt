@@ -1,7 +1,8 @@
 // The conditions of the refusals of build and check.
 ghost use mathlib.Core.Path.{_≡_};
 ghost use Prim.Native.Nat.{_≤_};
-ghost use Rattle.program.specs.Services.{badModulus, badOrder, goodInverse, sameWords};
+ghost use Rattle.named.specs.Parameters.{badModulus, badOrder, goodInverse};
+ghost use Rattle.program.specs.Services.{sameWords};
 
 // Refusal 1: p isn't a prime from 3 to 268435455.
 pub(crate) fn is_bad_modulus(p: u32) -> bool

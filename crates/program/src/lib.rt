@@ -1,4 +1,4 @@
-// Figures 2, 4 and 6 of the paper as document 01 corrects them: the named programs, build and check.
+// Build and check: the words of the named programs, written into a lent row and compared with a tape.
 mod builders;
 mod conditions;
 mod parts;
@@ -10,7 +10,8 @@ ghost use mathlib.Core.Bool.{false};
 ghost use lib.ListN.{length};
 ghost use Rattle.refusal.specs.Outcomes.{outcomeOf, answered};
 ghost use Rattle.tape.specs.Layout.{readOutcome, readingOf};
-ghost use Rattle.program.specs.Services.{unnamed, buildOutcome, buildRow, checkOutcome, acceptOutcome};
+ghost use Rattle.named.specs.Parameters.{unnamed};
+ghost use Rattle.program.specs.Services.{buildOutcome, buildRow, checkOutcome, acceptOutcome};
 use builders::build_basic;
 use builders::build_dual;
 use builders::build_hybrid;

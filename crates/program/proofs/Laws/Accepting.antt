@@ -16,12 +16,13 @@ use Rattle.tape.specs.declared.Header.{Header}
 use Rattle.tape.specs.Layout.{headerOf, stepsOf}
 use Rattle.tape.proofs.Laws.Reading.{ReadAs, length-good}
 use Rattle.tape.proofs.Laws.Layout.{LawfulProgram, program-length, program-laid-out, program-header, program-steps}
-use Rattle.program.specs.Generators.{Raises, Lowers}
-use Rattle.program.specs.Named.{namedSteps, namedProgram, namedWords}
-use Rattle.program.specs.Services.{badModulus, badOrder, unnamed, checkOutcome}
-use Rattle.program.proofs.Laws.Parameters.{good-modulus, good-order, named-some, named-most}
+use Rattle.named.specs.Generators.{Raises, Lowers}
+use Rattle.named.specs.Named.{namedSteps, namedProgram, namedWords}
+use Rattle.named.specs.Parameters.{badModulus, badOrder, unnamed}
+use Rattle.named.proofs.Laws.Parameters.{good-modulus, good-order, named-some, named-most}
+use Rattle.named.proofs.Laws.Named.{named-sound, named-words-short, named-steps-some, named-raises, named-lowers}
+use Rattle.program.specs.Services.{checkOutcome}
 use Rattle.program.proofs.Laws.Same.{same-itself}
-use Rattle.program.proofs.Laws.Named.{named-sound, named-words-short, named-steps-some, named-raises, named-lowers}
 use Rattle.program.proofs.Laws.Checking.{past-named, Accepted, AcceptedNamed}
 
 module _ (p r k variant : ℕ)

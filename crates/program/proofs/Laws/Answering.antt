@@ -11,10 +11,11 @@ use Rattle.refusal.specs.Outcomes.{Outcome, refused, outcomeOf, gives, passes, 
 use Rattle.modular.specs.Inverses.{badExponent}
 use Rattle.modular.proofs.Laws.Tests.{by-test}
 use Rattle.modular.proofs.Laws.Inverses.{inverse-order}
-use Rattle.program.specs.Named.{namedWords}
-use Rattle.program.specs.Services.{badModulus, badOrder, goodInverse, unnamed, roomOutcome, buildOutcome, buildRow}
+use Rattle.named.specs.Named.{namedWords}
+use Rattle.named.specs.Parameters.{badModulus, badOrder, goodInverse, unnamed}
+use Rattle.named.proofs.Laws.Parameters.{good-modulus, order-below, inverse-refused, inverse-passed}
+use Rattle.program.specs.Services.{roomOutcome, buildOutcome, buildRow}
 use Rattle.program.specs.Building.{Buildable, Built}
-use Rattle.program.proofs.Laws.Parameters.{good-modulus, order-below, inverse-refused, inverse-passed}
 
 module _ (p r k variant : ℕ) (row : List ℕ) where
   -- what build promises of its answer and of the row at exit

@@ -17,11 +17,12 @@ use Rattle.modular.specs.Inverses.{badExponent}
 use Rattle.tape.specs.declared.Header.{Header}
 use Rattle.tape.specs.Layout.{headerOf, isLength, laidOut, readOutcome}
 use Rattle.tape.proofs.Laws.Reading.{ReadAs, reading-refused, reading-passed}
-use Rattle.program.specs.Named.{lastVariant, namedWords}
-use Rattle.program.specs.Services.{badModulus, badOrder, unnamed, buildOutcome, buildRow, sameWords, isNamed, builtFor, checkRules}
-use Rattle.program.proofs.Laws.Parameters.{named, named-some, named-most}
+use Rattle.named.specs.Named.{lastVariant, namedWords}
+use Rattle.named.specs.Parameters.{badModulus, badOrder, unnamed}
+use Rattle.named.proofs.Laws.Parameters.{named, named-some, named-most}
+use Rattle.named.proofs.Laws.Named.{named-words-short}
+use Rattle.program.specs.Services.{buildOutcome, buildRow, sameWords, isNamed, builtFor, checkRules}
 use Rattle.program.proofs.Laws.Same.{same-equal}
-use Rattle.program.proofs.Laws.Named.{named-words-short}
 
 -- ---- lists of rules
 

@@ -28,11 +28,11 @@ use Rattle.tape.specs.declared.Step.{Step}
 use Rattle.tape.specs.Words.{stepWord, encoded}
 use Rattle.tape.specs.Layout.{wordsOf}
 use Rattle.tape.proofs.Laws.Layout.{program-length}
-use Rattle.program.specs.Generators.{basic, hybrid}
-use Rattle.program.specs.Named.{basicSteps, dualForm, dualSteps, hybridSteps, namedSteps, namedProgram, namedWords}
+use Rattle.named.specs.Generators.{basic, hybrid}
+use Rattle.named.specs.Named.{basicSteps, dualForm, dualSteps, hybridSteps, namedSteps, namedProgram, namedWords}
+use Rattle.named.proofs.Laws.Lengths.{basic-length, dual-length, hybrid-length}
 use Rattle.program.specs.Writing.{formIn, basicWords, dualWords, hybridWords}
 use Rattle.program.specs.Building.{Buildable, Built, headerWordsOf}
-use Rattle.program.proofs.Laws.Lengths.{basic-length, dual-length, hybrid-length}
 use Rattle.program.proofs.Laws.Building.{built-short, built-written, padded-form, own-form, form-size, Holds, count-ones, Parts, exponent-below, inverse-below, number-64}
 
 -- ---- from the parts of a named program to its words

@@ -16,7 +16,7 @@ use Rattle.tape.specs.declared.Step.the-variants.{Mul, Div, Swp}
 use Rattle.tape.specs.Words.{stepWord}
 use Rattle.machine.specs.Machine.{opposite, back}
 use Rattle.machine.proofs.Laws.Steps.{back-append}
-use Rattle.program.specs.Generators.{select, ascend, chain, descend, basic, dual, hybrid}
+use Rattle.named.specs.Generators.{select, ascend, chain, descend, basic, dual, hybrid}
 use Rattle.program.specs.Writing.{isSet, formIn, chosen, ascendWords, ascendBackWords, descendWords, upWords, backWords, downWords, halfWords, halfBackWords, basicWords, dualWords, hybridWords}
 
 -- ---- one place

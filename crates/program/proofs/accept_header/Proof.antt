@@ -3,7 +3,7 @@ use mathlib.Core.Path.{sym, ap, _∙_}
 use borrow.Author.Needs.{needs}
 use Rattle.refusal.specs.Outcomes.{answered}
 use Rattle.tape.proofs.Laws.Reading.{read-answered}
-use Rattle.program.proofs.Laws.Parameters.{named}
+use Rattle.named.proofs.Laws.Parameters.{named}
 use Rattle.program.proofs.Laws.Checking.{check-variant, check-free-modulus, check-free}
 use Rattle.program.proofs.accept_header.Statement.{statement}
 use Rattle.program.proofs.accept_header.Tie as tie

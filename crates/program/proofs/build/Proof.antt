@@ -4,9 +4,9 @@ use mathlib.Core.Bool.{false}
 use native.Mathlib.Omega.{arith}
 use borrow.Author.Needs.{needs}
 use Rattle.modular.specs.Inverses.{badExponent}
-use Rattle.program.specs.Services.{badModulus, badOrder}
+use Rattle.named.specs.Parameters.{badModulus, badOrder}
+use Rattle.named.proofs.Laws.Parameters.{good-modulus, named, unnamed-other}
 use Rattle.program.specs.Building.{Buildable}
-use Rattle.program.proofs.Laws.Parameters.{good-modulus, named, unnamed-other}
 use Rattle.program.proofs.Laws.Answering.{modulus-refused, order-refused, exponent-refused, variant-refused, left-to-room, no-inverse, some-inverse, buildable}
 use Rattle.program.proofs.build.Statement.{statement}
 use Rattle.program.proofs.build.Tie as tie

@@ -18,9 +18,9 @@ use Rattle.tape.proofs.Laws.Rows.{part-inside}
 use Rattle.tape.proofs.Laws.Layout.{laid-out-long}
 use Rattle.machine.specs.Machine.{run, start}
 use Rattle.machine.specs.Exponents.{startExponents, exponentsAt, staysInRange, shiftOutcome}
+use Rattle.named.proofs.Laws.Parameters.{good-modulus}
 use Rattle.program.specs.Services.{checkRules, acceptOutcome}
 use Rattle.program.proofs.Laws.Checking.{accepted}
-use Rattle.program.proofs.Laws.Parameters.{good-modulus}
 use Rattle.sequencer.specs.Services.{badRegister, badRegisters, allowed, badBase, badCut, loadOutcome, runOutcome, runRules, traceOutcome, cutOutcome, cutPart, cutNumber}
 
 -- ---- the tests

@@ -20,7 +20,7 @@ use Rattle.tape.proofs.Laws.Layout.{steps-count}
 use Rattle.machine.specs.Machine.{run, start}
 use Rattle.machine.proofs.Laws.Steps.{good-start}
 use Rattle.machine.proofs.Laws.Runs.{run-forward, run-backward}
-use Rattle.program.specs.Generators.{Raises, Lowers}
+use Rattle.named.specs.Generators.{Raises, Lowers}
 use Rattle.program.proofs.Laws.Checking.{AcceptedNamed, accepted-named}
 use Rattle.program.proofs.Laws.Accepting.{accepted-some, accepted-raises, accepted-lowers}
 use Rattle.sequencer.specs.Lists.{Request, answerTo, after, afterAll, unlessRefused, performed}

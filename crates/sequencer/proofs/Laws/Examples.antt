@@ -17,9 +17,10 @@ use Rattle.tape.specs.Words.{headingIn, actionIn, swapIn, decoded, stepWord, en
 use Rattle.tape.specs.Layout.{isLength, isHeader, isFreeOrNamed, allSteps, isEnd, laidOut, wordsOf}
 use Rattle.machine.specs.Machine.{apply, opposite, doAll, undoAll, run, back, start}
 use Rattle.machine.proofs.Laws.Steps.{good-four}
-use Rattle.program.specs.Generators.{ascend, basic, dual}
-use Rattle.program.specs.Named.{basicSteps, dualSteps, namedSteps, namedWords}
-use Rattle.program.specs.Services.{badModulus, badOrder, sameWords, checkRules}
+use Rattle.named.specs.Generators.{ascend, basic, dual}
+use Rattle.named.specs.Named.{basicSteps, dualSteps, namedSteps, namedWords}
+use Rattle.named.specs.Parameters.{badModulus, badOrder}
+use Rattle.program.specs.Services.{sameWords, checkRules}
 use Rattle.sequencer.specs.Services.{badRegister, badRegisters, allowed, badBase, loadOutcome, runRules, runOutcome}
 use Rattle.sequencer.specs.Lists.{Request, performed}
 use Rattle.sequencer.specs.Demand.{AllEndToEnd, Chain, Returns, Rewind}

@@ -7,7 +7,7 @@ use borrow.Author.Needs.{needs}
 use lib.ListN.{take}
 use Rattle.modular.specs.Inverses.{inverse}
 use Rattle.fibonacci.specs.Forms.{zeckendorf}
-use Rattle.program.specs.Named.{namedSteps}
+use Rattle.named.specs.Named.{namedSteps}
 use Rattle.program.specs.Writing.{basicWords}
 use Rattle.program.proofs.Laws.Building.{Parts}
 use Rattle.program.proofs.Laws.Forms.{short-row, steps-room, end-room, long-row, Padded, prefix-length, basic-parts, exponent-small, exponent-form, own-inverse-form}

@@ -7,7 +7,7 @@ use borrow.Author.Needs.{needs}
 use lib.ListN.{take}
 use Rattle.modular.specs.Inverses.{inverse}
 use Rattle.fibonacci.specs.Height.{height}
-use Rattle.program.specs.Named.{dualForm, namedSteps}
+use Rattle.named.specs.Named.{dualForm, namedSteps}
 use Rattle.program.specs.Writing.{dualWords}
 use Rattle.program.proofs.Laws.Building.{Parts}
 use Rattle.program.proofs.Laws.Forms.{short-row, steps-room, end-room, long-row, Padded, prefix-length, dual-parts, height-small, exponent-small, weight-fits, low-form, high-form}

@@ -9,7 +9,7 @@ use Rattle.modular.specs.Inverses.{inverse}
 use Rattle.fibonacci.specs.Fibonacci.{fib}
 use Rattle.fibonacci.specs.Forms.{pad, zeckendorf}
 use Rattle.fibonacci.specs.Height.{oddHeight}
-use Rattle.program.specs.Named.{namedSteps}
+use Rattle.named.specs.Named.{namedSteps}
 use Rattle.program.specs.Writing.{hybridWords}
 use Rattle.program.proofs.Laws.Building.{Parts}
 use Rattle.program.proofs.Laws.Forms.{short-row, steps-room, end-room, long-row, Padded, prefix-length, hybrid-parts, height-small, exponent-small, multiple-fits, multiple-form, inverse-form}

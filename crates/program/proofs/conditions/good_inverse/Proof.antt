@@ -4,7 +4,7 @@ use mathlib.Core.Path.{sym, _∙_}
 use native.Mathlib.Omega.{arith}
 use borrow.Author.Needs.{needs}
 use Rattle.modular.proofs.Laws.Inverses.{bad-exponent}
-use Rattle.program.proofs.Laws.Parameters.{inverse-refused, inverse-between}
+use Rattle.named.proofs.Laws.Parameters.{inverse-refused, inverse-between}
 use Rattle.program.proofs.conditions.good_inverse.Statement.{statement}
 use Rattle.program.proofs.conditions.good_inverse.Tie as tie
 

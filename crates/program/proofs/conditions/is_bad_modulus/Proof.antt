@@ -3,7 +3,7 @@ use mathlib.Core.Path.{sym, ap, _∙_}
 use mathlib.Core.Bool.{not}
 use native.Mathlib.Omega.{arith}
 use borrow.Author.Needs.{needs}
-use Rattle.program.proofs.Laws.Parameters.{modulus-low, modulus-high, modulus-between}
+use Rattle.named.proofs.Laws.Parameters.{modulus-low, modulus-high, modulus-between}
 use Rattle.program.proofs.conditions.is_bad_modulus.Statement.{statement}
 use Rattle.program.proofs.conditions.is_bad_modulus.Tie as tie
 

@@ -1,7 +1,7 @@
 -- `conditions::is_bad_order` meets its contract: below 2 the order is refused, and from 2 on the test is the remainder's.
 use mathlib.Core.Path.{sym}
 use borrow.Author.Needs.{needs}
-use Rattle.program.proofs.Laws.Parameters.{order-low, order-divides}
+use Rattle.named.proofs.Laws.Parameters.{order-low, order-divides}
 use Rattle.program.proofs.conditions.is_bad_order.Statement.{statement}
 use Rattle.program.proofs.conditions.is_bad_order.Tie as tie
 

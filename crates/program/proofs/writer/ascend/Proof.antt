@@ -6,7 +6,7 @@ use lib.ListN.{length, take}
 use lib.Seq.{take-all}
 use Rattle.refusal.specs.Rows.{Wrote}
 use Rattle.refusal.proofs.Laws.Rows.{wrote-none, wrote-room, wrote-next, wrote-length}
-use Rattle.program.specs.Generators.{ascend}
+use Rattle.named.specs.Generators.{ascend}
 use Rattle.program.specs.Writing.{ascendWords}
 use Rattle.program.proofs.Laws.Writing.{ascend-next, ascend-total}
 use Rattle.program.proofs.writer.ascend.Statement.{statement}

@@ -8,7 +8,7 @@ use lib.Seq.{drop-length}
 use Rattle.refusal.specs.Rows.{Wrote}
 use Rattle.refusal.proofs.Laws.Rows.{wrote-none, wrote-room, wrote-next, wrote-length}
 use Rattle.machine.specs.Machine.{back}
-use Rattle.program.specs.Generators.{ascend}
+use Rattle.named.specs.Generators.{ascend}
 use Rattle.program.specs.Writing.{ascendBackWords}
 use Rattle.program.proofs.Laws.Writing.{ascend-back-next, ascend-back-total}
 use Rattle.program.proofs.writer.ascend_back.Statement.{statement}

@@ -7,7 +7,7 @@ use lib.ListN.{length, drop}
 use lib.Seq.{drop-length}
 use Rattle.refusal.specs.Rows.{Wrote}
 use Rattle.refusal.proofs.Laws.Rows.{wrote-none, wrote-room, wrote-next, wrote-length}
-use Rattle.program.specs.Generators.{descend}
+use Rattle.named.specs.Generators.{descend}
 use Rattle.program.specs.Writing.{descendWords}
 use Rattle.program.proofs.Laws.Writing.{descend-next, descend-total}
 use Rattle.program.proofs.writer.descend.Statement.{statement}

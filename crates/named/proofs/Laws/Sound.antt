@@ -11,7 +11,7 @@ use Rattle.tape.specs.declared.Step.the-variants.{Mul, Swp}
 use Rattle.tape.specs.Steps.{Apart, Sound, AllSound}
 use Rattle.machine.specs.Machine.{back}
 use Rattle.machine.proofs.Laws.Steps.{sound-append, sound-back}
-use Rattle.program.specs.Generators.{select, lowest, higher, ascend, chain, downSteps, descend, basic, dual, hybrid}
+use Rattle.named.specs.Generators.{select, lowest, higher, ascend, chain, downSteps, descend, basic, dual, hybrid}
 
 apart : (t s : ℕ) → T (ltb t 4) → T (ltb s 4) → T (not (eqb t s)) → Apart t s
 apart t s ht hs ne =

@@ -20,9 +20,9 @@ use Rattle.tape.specs.declared.Step.the-variants.{Swp}
 use Rattle.tape.specs.Steps.{AllSound}
 use Rattle.machine.specs.Machine.{apply, doAll, undoAll, back, start}
 use Rattle.machine.proofs.Laws.Steps.{back-append, back-back, doAll-append, do-back, good-start, undo-do, sound-append, sound-back}
-use Rattle.program.specs.Generators.{ascend, chain, descend, basic, dual, hybrid, Raises, Lowers}
-use Rattle.program.proofs.Laws.Sound.{sound-ascend}
-use Rattle.program.proofs.Laws.Exponents.{powers, good-powers, ascend-powers, ascend-start, descend-start}
+use Rattle.named.specs.Generators.{ascend, chain, descend, basic, dual, hybrid, Raises, Lowers}
+use Rattle.named.proofs.Laws.Sound.{sound-ascend}
+use Rattle.named.proofs.Laws.Exponents.{powers, good-powers, ascend-powers, ascend-start, descend-start}
 
 -- an empty form sums to 0
 sum-none : (i : ℕ) → fibsumFrom i [] ≡ 0

@@ -21,14 +21,14 @@ use Rattle.machine.specs.Machine.{back}
 use Rattle.machine.specs.Exponents.{shift, startExponents, staysInRange}
 use Rattle.machine.proofs.Laws.Integers.{Within, within-natural}
 use Rattle.machine.proofs.Laws.Ranges.{stays-take, Goes, goes-none, goes-step, goes-append, goes-back}
-use Rattle.program.specs.Generators.{ascend, chain, descend, basic, dual, hybrid}
-use Rattle.program.specs.Named.{basicSteps, dualForm, dualSteps, hybridSteps, namedSteps}
-use Rattle.program.specs.Services.{badModulus, badOrder}
-use Rattle.program.proofs.Laws.Sound.{sound-ascend}
-use Rattle.program.proofs.Laws.Parameters.{good-modulus, order-below}
-use Rattle.program.proofs.Laws.Named.{below, inverse-is, residue-below, dual-form-length, padded-length, padded-sum, by-variant}
-use Rattle.program.proofs.Laws.Sequences.{Sequence, before, multiple, multiples, before-less, Reaching, reaching-naturals}
-use Rattle.program.proofs.Laws.Loops.{ascend-from, ascend-multiples, chain-multiples, ascend-sums, naturals-range, descend-sums}
+use Rattle.named.specs.Generators.{ascend, chain, descend, basic, dual, hybrid}
+use Rattle.named.specs.Named.{basicSteps, dualForm, dualSteps, hybridSteps, namedSteps}
+use Rattle.named.specs.Parameters.{badModulus, badOrder}
+use Rattle.named.proofs.Laws.Sound.{sound-ascend}
+use Rattle.named.proofs.Laws.Parameters.{good-modulus, order-below}
+use Rattle.named.proofs.Laws.Named.{below, inverse-is, residue-below, dual-form-length, padded-length, padded-sum, by-variant}
+use Rattle.named.proofs.Laws.Sequences.{Sequence, before, multiple, multiples, before-less, Reaching, reaching-naturals}
+use Rattle.named.proofs.Laws.Loops.{ascend-from, ascend-multiples, chain-multiples, ascend-sums, naturals-range, descend-sums}
 
 -- ---- each generator
 

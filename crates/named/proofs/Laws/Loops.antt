@@ -16,9 +16,9 @@ use Rattle.tape.specs.declared.Step.the-variants.{Mul, Swp}
 use Rattle.machine.specs.Exponents.{shift, startExponents, allInRange}
 use Rattle.machine.proofs.Laws.Integers.{Within, within-natural, within-more}
 use Rattle.machine.proofs.Laws.Ranges.{four-range, Goes, goes-none, goes-step, goes-append}
-use Rattle.program.specs.Generators.{select, lowest, higher, ascend, chain, downSteps, descend}
-use Rattle.program.proofs.Laws.Exponents.{length-higher, place-low, place-high}
-use Rattle.program.proofs.Laws.Sequences.{Sequence, before, before-lowest, before-none, before-range, multiple, multiple-zero, multiple-one, multiples, before-sum}
+use Rattle.named.specs.Generators.{select, lowest, higher, ascend, chain, downSteps, descend}
+use Rattle.named.proofs.Laws.Exponents.{length-higher, place-low, place-high}
+use Rattle.named.proofs.Laws.Sequences.{Sequence, before, before-lowest, before-none, before-range, multiple, multiple-zero, multiple-one, multiples, before-sum}
 
 -- an exponent in range
 abbrev Ranged : ℤ → Type 0

@@ -11,8 +11,8 @@ use Rattle.modular.specs.Primes.{isPrime}
 use Rattle.modular.specs.Inverses.{inverse, badExponent}
 use Rattle.modular.proofs.Laws.Tests.{by-test, both, neither}
 use Rattle.modular.proofs.Laws.Inverses.{inverse-none, exponent-good}
-use Rattle.program.specs.Named.{lastVariant}
-use Rattle.program.specs.Services.{badModulus, badOrder, goodInverse, unnamed}
+use Rattle.named.specs.Named.{lastVariant}
+use Rattle.named.specs.Parameters.{badModulus, badOrder, goodInverse, unnamed}
 
 -- ---- the modulus
 

@@ -20,12 +20,12 @@ use Rattle.tape.specs.declared.Step.{Step}
 use Rattle.machine.specs.Exponents.{startExponents, exponentsAt, residueOf}
 use Rattle.machine.proofs.Laws.Ranges.{Goes, goes-end}
 use Rattle.machine.proofs.Laws.Congruences.{Congruent, congruent-same, congruent-through, congruent-less, congruent-naturals, residue-is}
-use Rattle.program.specs.Named.{basicSteps, dualForm, dualSteps, hybridSteps, namedSteps}
-use Rattle.program.specs.Services.{badModulus, badOrder, unnamed}
-use Rattle.program.proofs.Laws.Parameters.{good-modulus, order-below}
-use Rattle.program.proofs.Laws.Named.{below, inverse-is, dual-form-length, dual-form-sum, named-is}
-use Rattle.program.proofs.Laws.Sequences.{Sequence, before, multiple, multiple-zero, multiple-one, multiples, before-sum, Reaching}
-use Rattle.program.proofs.Laws.Range.{target, dualTarget, basic-trace, hybrid-trace, dual-through, dual-trace}
+use Rattle.named.specs.Named.{basicSteps, dualForm, dualSteps, hybridSteps, namedSteps}
+use Rattle.named.specs.Parameters.{badModulus, badOrder, unnamed}
+use Rattle.named.proofs.Laws.Parameters.{good-modulus, order-below}
+use Rattle.named.proofs.Laws.Named.{below, inverse-is, dual-form-length, dual-form-sum, named-is}
+use Rattle.named.proofs.Laws.Sequences.{Sequence, before, multiple, multiple-zero, multiple-one, multiples, before-sum, Reaching}
+use Rattle.named.proofs.Laws.Range.{target, dualTarget, basic-trace, hybrid-trace, dual-through, dual-trace}
 
 -- (0, k, 0, 0) modulo r
 abbrev EndsAt : ℕ → ℕ → List ℤ → Type 0

@@ -19,7 +19,7 @@ use Rattle.tape.specs.declared.Step.{Step}
 use Rattle.tape.specs.declared.Step.the-variants.{Mul}
 use Rattle.machine.specs.Machine.{apply, doAll, Good, start}
 use Rattle.machine.proofs.Laws.Steps.{doAll-append, good-four}
-use Rattle.program.specs.Generators.{select, lowest, higher, ascend, downSteps, descend}
+use Rattle.named.specs.Generators.{select, lowest, higher, ascend, downSteps, descend}
 
 -- four registers that hold powers of a
 abbrev pub powers : ℕ → ℕ → ℕ → ℕ → ℕ → ℕ → List ℕ

@@ -10,7 +10,7 @@ use Rattle.fibonacci.proofs.Laws.Forms.{pad-length, ones-pad}
 use Rattle.tape.specs.declared.Step.{Step}
 use Rattle.tape.specs.declared.Step.the-variants.{Mul, Swp}
 use Rattle.machine.specs.Machine.{opposite, back}
-use Rattle.program.specs.Generators.{select, lowest, higher, ascend, chain, downSteps, descend, basic, dual, hybrid}
+use Rattle.named.specs.Generators.{select, lowest, higher, ascend, chain, downSteps, descend, basic, dual, hybrid}
 
 pub length-back : (xs : List Step) → length (back xs) ≡ length xs
 unfolding back

@@ -13,7 +13,7 @@ use Rattle.fibonacci.specs.Fibonacci.{fib}
 use Rattle.fibonacci.specs.Forms.{fibsumFrom, pad}
 use Rattle.fibonacci.proofs.Laws.Fibonacci.{fib-zero, fib-one, fib-next, fib-grows, fib-monotone}
 use Rattle.machine.proofs.Laws.Integers.{over, under, same, over-less, under-less, Within, within-natural, within-less, within-more}
-use Rattle.program.specs.Generators.{lowest, higher}
+use Rattle.named.specs.Generators.{lowest, higher}
 
 -- for forms of at most 41 places: 42 terms of at most 2^56 sum to less than 2^62
 pub record Sequence (n : ℕ) (u : ℕ → ℤ) : Type 0 where

@@ -9,7 +9,7 @@ use Rattle.fibonacci.specs.Forms.{pad, zeckendorf}
 use Rattle.fibonacci.specs.Height.{height, oddHeight}
 use Rattle.tape.specs.declared.Step.{Step}
 use Rattle.tape.specs.Layout.{Program, wordsOf}
-use Rattle.program.specs.Generators.{basic, dual, hybrid}
+use Rattle.named.specs.Generators.{basic, dual, hybrid}
 
 -- variant 1: the Zeckendorf forms of k and K at their own lengths
 unfoldable pub basicSteps : ℕ → ℕ → List Step

@@ -25,13 +25,13 @@ use Rattle.fibonacci.proofs.Laws.Lengths.{multiple-length, multiple-shift, ones
 use Rattle.tape.specs.declared.Step.{Step}
 use Rattle.tape.specs.Steps.{AllSound}
 use Rattle.tape.proofs.Laws.Layout.{program-length}
-use Rattle.program.specs.Generators.{dual, hybrid, Raises, Lowers}
-use Rattle.program.specs.Named.{basicSteps, dualForm, dualSteps, hybridSteps, lastVariant, namedSteps, namedProgram, namedWords}
-use Rattle.program.specs.Services.{badModulus, badOrder, unnamed}
-use Rattle.program.proofs.Laws.Parameters.{good-modulus, order-below}
-use Rattle.program.proofs.Laws.Sound.{sound-basic, sound-dual, sound-hybrid}
-use Rattle.program.proofs.Laws.Targets.{raises-lowers, basic-raises, dual-raises, hybrid-raises}
-use Rattle.program.proofs.Laws.Lengths.{basic-length, dual-length, hybrid-length}
+use Rattle.named.specs.Generators.{dual, hybrid, Raises, Lowers}
+use Rattle.named.specs.Named.{basicSteps, dualForm, dualSteps, hybridSteps, lastVariant, namedSteps, namedProgram, namedWords}
+use Rattle.named.specs.Parameters.{badModulus, badOrder, unnamed}
+use Rattle.named.proofs.Laws.Parameters.{good-modulus, order-below}
+use Rattle.named.proofs.Laws.Sound.{sound-basic, sound-dual, sound-hybrid}
+use Rattle.named.proofs.Laws.Targets.{raises-lowers, basic-raises, dual-raises, hybrid-raises}
+use Rattle.named.proofs.Laws.Lengths.{basic-length, dual-length, hybrid-length}
 
 module _ (r k : ℕ) (good : badExponent k r ≡ false) where
   pub below : k < r
