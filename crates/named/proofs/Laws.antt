@@ -9,3 +9,4 @@ pub mod Sequences
 pub mod Loops
 pub mod Range
 pub mod Ends
+pub mod Figures

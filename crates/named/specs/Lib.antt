@@ -2,3 +2,4 @@
 pub mod Generators
 pub mod Named
 pub mod Parameters
+pub mod Figures
