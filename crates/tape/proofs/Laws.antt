@@ -1,5 +1,4 @@
 -- Laws of words and tapes, in the order in which they build on each other.
-pub mod Tests
 pub mod Payloads
 pub mod Words
 pub mod Rows

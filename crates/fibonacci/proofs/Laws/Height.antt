@@ -14,7 +14,7 @@ use Rattle.fibonacci.specs.Forms.{zeckendorf}
 use Rattle.fibonacci.specs.Height.{reaches, firstFrom, height, oddHeight}
 use Rattle.fibonacci.proofs.Laws.Fibonacci.{odd-one, odd-zero, odd-next, lucas-next, lucas-grows, lucas-exceeds, lucas-positive, lucas-below-fib}
 use Rattle.fibonacci.proofs.Laws.Zeckendorf.{zeckendorf-length}
-use Rattle.fibonacci.proofs.Laws.Places.{both}
+use Rattle.refusal.proofs.Laws.Tests.{both}
 
 -- ---- the test, as facts
 

@@ -1,7 +1,7 @@
 -- Lists of places: the test and the predicate agree; the places of the form of a number are such a list, and every such list
 -- is the places of the form of its weight.
 use mathlib.Core.Path.{_≡_, refl, sym, ap, _∙_}
-use mathlib.Core.Bool.{Bool, true, false, _&&_, false≢true, and-false}
+use mathlib.Core.Bool.{Bool, true, false, _&&_, and-false}
 use mathlib.Core.List.{List, [], _∷_}
 use Prim.Native.Nat.{ℕ, zero, suc, _+_, _-_, _≤_, _<_, _^_}
 use native.Mathlib.Numerals.{one-add, add-one}
@@ -11,6 +11,7 @@ use lib.Dec.{leb}
 use lib.ListN.{length, getD, drop, drop-of-length-le}
 use lib.Seq.{drop-cons}
 use borrow.Author.Tests.{leb-true, le-leb, lt-leb}
+use Rattle.refusal.proofs.Laws.Tests.{both}
 use Rattle.fibonacci.specs.Fibonacci.{fib}
 use Rattle.fibonacci.specs.Forms.{Zeckendorf, topAt, greedy, zeckendorf, placesFrom, places, weighed, weight, Places, arePlaces}
 use Rattle.fibonacci.proofs.Laws.Fibonacci.{fib-next, fib-grows, fib-positive, fib-monotone, fib-exceeds, fib-64}
@@ -18,10 +19,6 @@ use Rattle.fibonacci.proofs.Laws.Forms.{top-length, top-places, top-zec
 use Rattle.fibonacci.proofs.Laws.Zeckendorf.{greedy-zero, greedy-take, greedy-skip, greedy-length, greedy-sum, zeckendorf-sum, zeckendorf-only, zeckendorf-by}
 
 -- ---- the test
-
-pub both : (a b : Bool) → a && b ≡ true → (a ≡ true) × (b ≡ true)
-both true b e = (refl, e)
-both false b e = absurd (false≢true e)
 
 pub test-places : (m : ℕ) (l : List ℕ) → arePlaces m l ≡ true → Places m l
 unfolding arePlaces

@@ -9,7 +9,7 @@ use lib.IntN.{ℤ, pos, negsuc, negℤ}
 use lib.Signed.{leZ}
 use lib.ListN.{length, take}
 use lib.Seq.{take-length}
-use Rattle.modular.proofs.Laws.Tests.{both}
+use Rattle.refusal.proofs.Laws.Tests.{both}
 use Rattle.tape.specs.declared.Step.{Step}
 use Rattle.tape.specs.Steps.{AllSound}
 use Rattle.machine.specs.Machine.{back}

@@ -14,7 +14,7 @@ use mir.ValLaws.{toZ-ofZ}
 use Rattle.refusal.specs.declared.Refusal.the-variants.{Range}
 use Rattle.refusal.specs.Refusals.{numberOf}
 use Rattle.refusal.specs.Outcomes.{Outcome, refused, answered, outcome, _given-if_, gives, passes, answers}
-use Rattle.modular.proofs.Laws.Tests.{both}
+use Rattle.refusal.proofs.Laws.Tests.{both}
 use Rattle.tape.specs.declared.Step.{Step}
 use Rattle.tape.specs.declared.Step.the-variants.{Mul, Div, Swp}
 use Rattle.machine.specs.Exponents.{exponent, shift, shiftAll, inRange, allInRange, staysInRange, addOutcome, shiftOutcome}

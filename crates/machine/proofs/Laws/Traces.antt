@@ -12,7 +12,7 @@ use borrow.Author.Tests.{not-true, not-false}
 use Rattle.refusal.specs.declared.Refusal.the-variants.{Range}
 use Rattle.refusal.specs.Outcomes.{refused, answered, gives, passes, answers}
 use Rattle.refusal.proofs.Laws.Rules.{passed, refused-by, answer-is}
-use Rattle.modular.proofs.Laws.Tests.{both, test-false}
+use Rattle.refusal.proofs.Laws.Tests.{both, test-false}
 use Rattle.tape.specs.declared.Step.{Step}
 use Rattle.machine.specs.Exponents.{shift, shiftAll, startExponents, inRange, allInRange, staysInRange, shiftOutcome}
 use Rattle.machine.proofs.Laws.Ranges.{stays-take}

@@ -11,7 +11,7 @@ use borrow.Author.Tests.{eqb-true, eqb-false, eq-eqb, ne-eqb, leb-false, lt-leb,
 use Rattle.modular.specs.Search.{divides}
 use Rattle.modular.specs.Residues.{Residue}
 use Rattle.modular.specs.Inverses.{Coprime, gcd, Inverse, inverse, badExponent}
-use Rattle.modular.proofs.Laws.Tests.{test-true, both, neither}
+use Rattle.refusal.proofs.Laws.Tests.{test-true, both, neither}
 use Rattle.modular.proofs.Laws.Search.{greatest-at-most, greatest-passes, greatest-most, greatest-is, greatest-same}
 use Rattle.modular.proofs.Laws.Residues.{mul-mod-left, mul-mod-right}
 use Rattle.modular.proofs.Laws.Ends.{coprime-inverse}

@@ -11,7 +11,7 @@ use lib.Dec.{leb, eqb}
 use borrow.Author.Tests.{eqb-true, eq-eqb, leb-true, le-leb}
 use Rattle.modular.specs.Search.{greatest, divides}
 use Rattle.modular.specs.Primes.{Prime, isPrime}
-use Rattle.modular.proofs.Laws.Tests.{test-false, both}
+use Rattle.refusal.proofs.Laws.Tests.{test-false, both}
 use Rattle.modular.proofs.Laws.Search.{greatest-most, greatest-is}
 
 pub prime-test : (p : ℕ) → isPrime p ≡ true → Prime p

@@ -7,7 +7,7 @@ use native.Mathlib.Nat.{eq-or-lt-of-le, eq-zero-or-pos}
 use native.Mathlib.Omega.{arith}
 use mathlib.Core.Logic.{⊎-elim}
 use Rattle.modular.specs.Search.{greatest}
-use Rattle.modular.proofs.Laws.Tests.{by-test}
+use Rattle.refusal.proofs.Laws.Tests.{by-test}
 
 found : (f : ℕ → Bool) (n : ℕ) → f (suc n) ≡ true → greatest f (suc n) ≡ suc n
 unfolding greatest

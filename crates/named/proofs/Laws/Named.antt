@@ -13,7 +13,7 @@ use lib.ListN.{length, length-append}
 use borrow.Author.Tests.{eqb-false, ltb-false}
 use Rattle.modular.specs.Primes.{Prime}
 use Rattle.modular.specs.Inverses.{Inverse, inverse, badExponent}
-use Rattle.modular.proofs.Laws.Tests.{neither}
+use Rattle.refusal.proofs.Laws.Tests.{neither}
 use Rattle.modular.proofs.Laws.Inverses.{good-exponent, inverse-order}
 use Rattle.fibonacci.specs.Fibonacci.{fib}
 use Rattle.fibonacci.specs.Forms.{pad, ones, zeckendorf, fibsum}

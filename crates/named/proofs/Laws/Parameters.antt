@@ -9,7 +9,7 @@ use borrow.Author.Tests.{leb-true, le-leb, lt-leb, ltb-true, ltb-false, lt-ltb, 
 use Rattle.modular.specs.Search.{divides}
 use Rattle.modular.specs.Primes.{isPrime}
 use Rattle.modular.specs.Inverses.{inverse, badExponent}
-use Rattle.modular.proofs.Laws.Tests.{by-test, both, neither}
+use Rattle.refusal.proofs.Laws.Tests.{by-test, both, neither}
 use Rattle.modular.proofs.Laws.Inverses.{inverse-none, exponent-good}
 use Rattle.named.specs.Named.{lastVariant}
 use Rattle.named.specs.Parameters.{badModulus, badOrder, goodInverse, unnamed}

@@ -9,7 +9,7 @@ use lib.ListN.{length}
 use Rattle.refusal.specs.declared.Answer.{Answer}
 use Rattle.refusal.specs.Outcomes.{Outcome, refused, outcomeOf, gives, passes, rowAfter, row-kept}
 use Rattle.modular.specs.Inverses.{badExponent}
-use Rattle.modular.proofs.Laws.Tests.{by-test}
+use Rattle.refusal.proofs.Laws.Tests.{by-test}
 use Rattle.modular.proofs.Laws.Inverses.{inverse-order}
 use Rattle.named.specs.Named.{namedWords}
 use Rattle.named.specs.Parameters.{badModulus, badOrder, goodInverse, unnamed}

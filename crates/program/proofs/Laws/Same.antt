@@ -10,7 +10,7 @@ use lib.Dec.{eqb}
 use lib.ListN.{length, getD, drop, drop-of-length-le}
 use lib.Seq.{drop-cons}
 use borrow.Author.Tests.{eqb-true, eq-eqb, ne-eqb}
-use Rattle.modular.proofs.Laws.Tests.{both, test-false}
+use Rattle.refusal.proofs.Laws.Tests.{both, test-false}
 use Rattle.program.specs.Services.{sameWords}
 
 pub same-itself : (ws : List ℕ) → sameWords ws ws ≡ true

@@ -11,7 +11,7 @@ use Rattle.refusal.specs.Outcomes.{answered}
 use Rattle.refusal.proofs.Laws.Rules.{passed, answered-before, answer-is, refused-where}
 use Rattle.modular.specs.Primes.{Prime}
 use Rattle.modular.specs.Residues.{Residue}
-use Rattle.modular.proofs.Laws.Tests.{neither}
+use Rattle.refusal.proofs.Laws.Tests.{neither}
 use Rattle.tape.specs.Layout.{headerOf, stepsOf, stepWords, stepCount}
 use Rattle.tape.specs.Steps.{AllSound}
 use Rattle.tape.proofs.Laws.Rows.{all-steps-sound}

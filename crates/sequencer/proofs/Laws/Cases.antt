@@ -11,7 +11,7 @@ use Rattle.refusal.specs.declared.Refusal.the-variants.{Register, Position, Bas
 use Rattle.refusal.specs.Refusals.{numberOf}
 use Rattle.refusal.specs.Outcomes.{Outcome, Rule, refused, answered, outcome, _given-if_, gives, passes, answers}
 use Rattle.refusal.proofs.Laws.Rules.{refused-before, passed-before, answer-is}
-use Rattle.modular.proofs.Laws.Tests.{neither}
+use Rattle.refusal.proofs.Laws.Tests.{neither}
 use Rattle.tape.specs.declared.Header.{Header}
 use Rattle.tape.specs.Layout.{headerWords, headerOf, stepCount, stepWords, part, stepsOf}
 use Rattle.tape.proofs.Laws.Rows.{part-inside}

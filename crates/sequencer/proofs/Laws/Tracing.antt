@@ -10,7 +10,7 @@ use lib.ListN.{length, take}
 use borrow.Author.Tests.{eqb-false, not-true, ltb-false, ltb-true}
 use Rattle.refusal.specs.Outcomes.{answered, passes, answers}
 use Rattle.refusal.proofs.Laws.Rules.{still-answered, answered-before, answer-is}
-use Rattle.modular.proofs.Laws.Tests.{by-test}
+use Rattle.refusal.proofs.Laws.Tests.{by-test}
 use Rattle.tape.specs.declared.Step.{Step}
 use Rattle.tape.specs.Layout.{headerOf, stepsOf}
 use Rattle.tape.proofs.Laws.Layout.{steps-count}

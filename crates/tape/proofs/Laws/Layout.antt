@@ -14,7 +14,7 @@ use Rattle.tape.specs.declared.Decoded.the-variants.{Heading, P, R, K, E
 use Rattle.tape.specs.Steps.{AllSound}
 use Rattle.tape.specs.Words.{decoded, encoded, stepWord}
 use Rattle.tape.specs.Layout.{otherWords, stepCount, stepWords, endAt, sortOf, valueOf, meansAt, headerOf, stepsIn, stepsOf, isHeader, isFreeOrNamed, allSteps, isEnd, laidOut, Program, wordsOf, programOf}
-use Rattle.tape.proofs.Laws.Tests.{both, and-both, implied, implies}
+use Rattle.refusal.proofs.Laws.Tests.{both, and-both, implied, implies}
 use Rattle.tape.proofs.Laws.Words.{decoded-encoded, decoded-lawful, value-small, variant-small, word-again}
 use Rattle.tape.proofs.Laws.Rows.{all-steps-sound, steps-words, words-all-steps, words-steps, means-past}
 

@@ -15,7 +15,7 @@ use Rattle.tape.specs.declared.Decoded.{Decoded}
 use Rattle.tape.specs.declared.Header.{Header}
 use Rattle.tape.specs.Words.{decoded}
 use Rattle.tape.specs.Layout.{otherWords, stepCount, stepWords, endAt, sortOf, valueOf, meansAt, headerOf, isLength, isHeader, isFreeOrNamed, allSteps, isEnd, laidOut, readOutcome}
-use Rattle.tape.proofs.Laws.Tests.{by-test}
+use Rattle.refusal.proofs.Laws.Tests.{by-test}
 
 -- ---- the rules
 

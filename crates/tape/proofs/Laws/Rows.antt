@@ -14,7 +14,7 @@ use Rattle.tape.specs.declared.Decoded.the-variants.{Bad}
 use Rattle.tape.specs.Steps.{AllSound}
 use Rattle.tape.specs.Words.{decoded, stepWord, encoded}
 use Rattle.tape.specs.Layout.{part, stepCount, stepAt, stepWords, sortOf, stepOf, meansAt, stepsIn, stepsOf, allSteps}
-use Rattle.tape.proofs.Laws.Tests.{both}
+use Rattle.refusal.proofs.Laws.Tests.{both}
 use Rattle.tape.proofs.Laws.Words.{decoded-step, decoded-lawful, decoded-zero, step-sound, word-again}
 
 -- ---- from words to steps and back

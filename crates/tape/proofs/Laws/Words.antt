@@ -13,7 +13,7 @@ use Rattle.tape.specs.declared.Decoded.the-variants.{Heading, P, R, K, A
 use Rattle.tape.specs.Steps.{Apart, Sound}
 use Rattle.tape.specs.Words.{kindOf, payloadOf, word, headingIn, actionIn, swapIn, decoded, stepWord, encoded}
 use Rattle.tape.specs.Layout.{sortOf, valueOf, stepOf}
-use Rattle.tape.proofs.Laws.Tests.{both}
+use Rattle.refusal.proofs.Laws.Tests.{both}
 use Rattle.tape.proofs.Laws.Payloads.{heading-good, action-good, swap-good}
 
 -- what a word can mean: the numbers fit their bits, and a step is sound
