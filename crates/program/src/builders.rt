@@ -1,5 +1,4 @@
 // The three builders: the length of the result first, then its header, its steps and its end, straight into the lent row.
-ghost use mathlib.Core.Path.{_≡_};
 ghost use Prim.Native.Nat.{_≤_, _<_, _^_};
 ghost use lib.ListN.{length};
 ghost use Rattle.refusal.specs.Rows.{Wrote};
