@@ -1,0 +1,3 @@
+-- Document 01, "Listing".
+pub mod Text
+pub mod Listing

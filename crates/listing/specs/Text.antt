@@ -1,0 +1,35 @@
+-- The bytes of a text, of a number and of a line.
+use mathlib.Core.Bool.{cond}
+use mathlib.Core.List.{List, [], _∷_, _++_}
+use Prim.Native.Nat.{ℕ, zero, suc, _+_, _/_, _%_}
+use Prim.Native.Char.{code}
+use Prim.Native.String.{String, len, charAt}
+use lib.Dec.{ltb}
+
+-- a text's bytes, `count` of them from one on
+abbrev pub codes : String → ℕ → ℕ → List ℕ
+codes text from zero = []
+codes text from (suc count) = code (charAt text from) ∷ codes text (suc from) count
+
+abbrev pub ascii : String → List ℕ
+ascii text = codes text 0 (len text)
+
+-- a number's decimal digits, without leading zeros and 0 as "0"; fuel above the number is enough (`decimal-again` of Laws/Decimal)
+unfoldable pub decimalWithin : ℕ → ℕ → List ℕ
+decimalWithin zero n = []
+decimalWithin (suc fuel) n = cond (ltb n 10) [] (decimalWithin fuel (n / 10)) ++ (code "0" + n % 10) ∷ []
+
+unfoldable pub decimal : ℕ → List ℕ
+decimal n = decimalWithin (suc n) n
+
+abbrev pub blank : ℕ
+blank = code " "
+
+abbrev pub newline : ℕ
+newline = 10
+
+-- words with one blank between; every line ends with byte 10
+unfoldable pub line : List (List ℕ) → List ℕ
+line [] = newline ∷ []
+line (w ∷ []) = w ++ newline ∷ []
+line (w ∷ v ∷ words) = w ++ blank ∷ [] ++ line (v ∷ words)

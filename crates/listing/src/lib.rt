@@ -1,0 +1,115 @@
+// Document 01, "Listing": what a tape holds, line by line.
+mod lines;
+mod words;
+
+ghost use mathlib.Core.Path.{_≡_};
+ghost use Prim.Native.Nat.{_≤_};
+ghost use lib.ListN.{length};
+ghost use Rattle.refusal.specs.Refusals.{numberOf};
+ghost use Rattle.refusal.specs.Outcomes.{answered};
+ghost use Rattle.refusal.specs.Rows.{Wrote};
+ghost use Rattle.tape.specs.Layout.{stepsOf};
+ghost use Rattle.program.specs.Services.{acceptOutcome};
+ghost use Rattle.listing.specs.Listing.{listingNumber, listingOf, listingAnswer, listingRow, numberIn, refusedLine, linesFor};
+use lines::first_line;
+use lines::put;
+use lines::refused_line;
+use lines::step_lines;
+use refusal::Refusal;
+use tape::Header;
+use tape::Reading;
+use words::words;
+
+// How many bytes were written, and the refusal's number, which is 0 where the tape is accepted.
+pub struct Listed {
+    pub written: usize,
+    pub number: u32,
+}
+
+// The most bytes of a listing (`listing-most`).
+const MOST_WRITTEN: usize = 6137;
+
+// The most bytes of a tape.
+const MOST_BYTES: usize = 2048;
+
+// The most words of a tape.
+const MOST_WORDS: usize = 512;
+
+// The bytes of a word.
+const WORD_BYTES: usize = 4;
+
+// Writes the listing of a tape that is given as bytes; a refusal is one line. 5 where the row is shorter than the listing.
+pub fn listing(bytes: &[u8], lines: &mut [u8]) -> Listed
+    ensures { λ r. ⌜ r ≡ listingAnswer (now (bytes .entry)) (length (now (lines .entry))) ⌝ }
+    ensures { λ _. ⌜ now (lines .exit) ≡ listingRow (now (bytes .entry)) (now (lines .entry)) ⌝ }
+{
+    let mut text = [0u8; MOST_WRITTEN];
+    let made = list_bytes(bytes, &mut text);
+    let count = made.written;
+    if lines.len() < count {
+        return Listed {
+            written: 0,
+            number: refusal::number(Refusal::Room),
+        };
+    }
+    put(lines, 0, &text[..count]);
+    made
+}
+
+// The listing of bytes, from the row's start.
+fn list_bytes(bytes: &[u8], row: &mut [u8]) -> Listed
+    requires { ⌜ length (listingOf (now bytes)) ≤ length (now row) ⌝ }
+    ensures { λ r. ⌜ Wrote (now (row .entry)) 0 (listingOf (now (bytes .entry))) (r .written) (now (row .exit)) ⌝ }
+    ensures { λ r. ⌜ r .number ≡ listingNumber (now (bytes .entry)) ⌝ }
+{
+    if MOST_BYTES < bytes.len() {
+        return list_refusal(Refusal::Length, row);
+    }
+    if bytes.len() % WORD_BYTES != 0 {
+        return list_refusal(Refusal::Length, row);
+    }
+    let mut tape = [0u32; MOST_WORDS];
+    let count = words(bytes, &mut tape);
+    list_tape(&tape[..count], row)
+}
+
+// The listing of a tape: check's refusals, else its lines.
+fn list_tape(tape: &[u32], row: &mut [u8]) -> Listed
+    requires { ⌜ length (linesFor (acceptOutcome (now tape)) (stepsOf (now tape))) ≤ length (now row) ⌝ }
+    ensures { λ r. ⌜ Wrote (now (row .entry)) 0 (linesFor (acceptOutcome (now (tape .entry))) (stepsOf (now (tape .entry)))) (r .written) (now (row .exit)) ⌝ }
+    ensures { λ r. ⌜ r .number ≡ numberIn (acceptOutcome (now (tape .entry))) ⌝ }
+{
+    match program::accept(tape) {
+        Reading::Refused(e) => list_refusal(e, row),
+        Reading::Laid(header) => list_accepted(tape, header, row),
+    }
+}
+
+// The listing of an accepted tape.
+fn list_accepted(tape: &[u32], header: Header, row: &mut [u8]) -> Listed
+    requires { ⌜ acceptOutcome (now tape) ≡ answered header ⌝ }
+    requires { ⌜ length (linesFor (answered header) (stepsOf (now tape))) ≤ length (now row) ⌝ }
+    ensures { λ r. ⌜ Wrote (now (row .entry)) 0 (linesFor (answered header) (stepsOf (now (tape .entry)))) (r .written) (now (row .exit)) ⌝ }
+    ensures { λ r. ⌜ r .number ≡ 0 ⌝ }
+{
+    let next = first_line(row, 0, header);
+    let end = step_lines(row, next, tape, header.steps);
+    Listed {
+        written: end,
+        number: 0,
+    }
+}
+
+// The listing of what is refused.
+fn list_refusal(e: Refusal, row: &mut [u8]) -> Listed
+    requires { ⌜ length (refusedLine (numberOf e)) ≤ length (now row) ⌝ }
+    ensures { λ r. ⌜ Wrote (now (row .entry)) 0 (refusedLine (numberOf e)) (r .written) (now (row .exit)) ⌝ }
+    ensures { λ r. ⌜ r .number ≡ numberOf e ⌝ }
+{
+    let number = refusal::number(e);
+    let end = refused_line(row, 0, number);
+    Listed {
+        written: end,
+        number,
+    }
+}
