@@ -1,0 +1,8 @@
+-- What is left to write, decimal numbers, the words that bytes give, lines, and a listing by cases and by its length.
+pub mod Remaining
+pub mod Decimal
+pub mod Tapes
+pub mod Lines
+pub mod Cases
+pub mod Lengths
+pub mod Examples

@@ -1,0 +1,67 @@
+-- A listing by cases: what is no tape gets 6, else check decides; and the service by its room.
+use mathlib.Core.Path.{_≡_, sym, ap, ap₂, _∙_}
+use mathlib.Core.List.{List, [], _++_}
+use Prim.Native.Nat.{ℕ, _%_, _≤_, _<_}
+use lib.ListN.{length, drop}
+use borrow.Author.Tests.{lt-ltb, le-ltb, eq-eqb, ne-eqb}
+use Rattle.refusal.specs.Outcomes.{Outcome, refused, answered, gives, passes, answers, row-kept, row-written}
+use Rattle.refusal.proofs.Laws.Rules.{answer-is}
+use Rattle.tape.specs.declared.Header.{Header}
+use Rattle.tape.specs.Layout.{headerOf, stepCount, stepsOf}
+use Rattle.program.specs.Services.{roomOutcome, checkRules, acceptOutcome}
+use Rattle.program.proofs.Laws.Checking.{accepted}
+use Rattle.listing.specs.declared.Listed.{Listed}
+use Rattle.listing.specs.Listing.{tapeOf, noTape, listingRules, listingOutcome, listingNumber, linesFor, listingOf, listedAs, listingAnswer, listingRow}
+
+module _ (bytes : List ℕ) where
+  pub too-long : 2048 < length bytes → listingOutcome bytes ≡ refused 6
+  unfolding listingRules noTape
+  too-long h = gives _ _ _ (rw (lt-ltb 2048 (length bytes) h))
+
+  module _ (most : length bytes ≤ 2048) where
+    pub no-words : ¬ (length bytes % 4 ≡ 0) → listingOutcome bytes ≡ refused 6
+    unfolding listingRules noTape
+    no-words h = gives _ _ _ (rw (le-ltb 2048 (length bytes) most, ne-eqb (length bytes % 4) 0 h))
+
+    pub some-words : length bytes % 4 ≡ 0 → listingOutcome bytes ≡ acceptOutcome (tapeOf bytes)
+    unfolding listingRules noTape
+    some-words h = passes _ _ _ (rw (le-ltb 2048 (length bytes) most, eq-eqb (length bytes % 4) 0 h))
+
+  pub listing-by : {o : Outcome Header} → listingOutcome bytes ≡ o → listingOf bytes ≡ linesFor o (stepsOf (tapeOf bytes))
+  unfolding listingOf
+  listing-by e = ap (λ (o : Outcome Header). linesFor o (stepsOf (tapeOf bytes))) e
+
+  -- ---- the service
+
+  module _ (row : List ℕ) where
+    -- what the service promises of its answer and of the row at exit
+    abbrev pub Promised : Listed → List ℕ → Type 0
+    Promised answer after = (answer ≡ listingAnswer bytes (length row)) × (after ≡ listingRow bytes row)
+
+    pub row-short : length row < length (listingOf bytes) → Promised (record { written = 0; number = 5 }) row
+    unfolding roomOutcome listingAnswer listingRow
+    row-short h =
+        let e = gives _ [] (length (listingOf bytes)) (lt-ltb (length row) (length (listingOf bytes)) h) in
+        (ap (λ (o : Outcome ℕ). listedAs o (listingNumber bytes)) (sym e), sym (row-kept (listingOf bytes) row e))
+
+    pub row-enough : length (listingOf bytes) ≤ length row
+        → Promised (record { written = length (listingOf bytes); number = listingNumber bytes }) (listingOf bytes ++ drop (length (listingOf bytes)) row)
+    unfolding roomOutcome listingAnswer listingRow
+    row-enough h =
+        let e = passes _ [] (length (listingOf bytes)) (le-ltb (length row) (length (listingOf bytes)) h) ∙ answers (length (listingOf bytes)) in
+        (ap (λ (o : Outcome ℕ). listedAs o (listingNumber bytes)) (sym e), sym (row-written (listingOf bytes) row e))
+
+pub listed-as : (l : Listed) {written number : ℕ} → l .written ≡ written → l .number ≡ number → l ≡ record { written = written; number = number }
+listed-as l e f = ap₂ (λ (w n : ℕ). record { written = w; number = n }) e f
+
+-- ---- an accepted tape
+
+module _ (tape : List ℕ) (h : Header) (e : acceptOutcome tape ≡ answered h) where
+  pub header-is : h ≡ headerOf tape
+  header-is = answer-is (checkRules tape) (headerOf tape) e
+
+  pub accepted-steps : h .steps ≡ stepCount tape
+  accepted-steps = ap (λ (g : Header). g .steps) header-is
+
+  pub accepted-variant : h .variant ≤ 3
+  accepted-variant = rw header-is (accepted (headerOf tape) tape e .variant)

@@ -1,0 +1,102 @@
+-- Decimal digits: fuel above the number doesn't matter, the fewest digits that hold a number are its decimal digits, and how many
+-- there are at most.
+use mathlib.Core.Path.{_≡_, sym, ap, _∙_}
+use mathlib.Core.List.{List, [], _∷_, _++_}
+use Prim.Native.Nat.{ℕ, zero, suc, _+_, _-_, _*_, _/_, _%_, _^_, _≤_, _<_}
+use native.Mathlib.Nat.{pow-suc}
+use native.Mathlib.Decide.{decLt}
+use native.Mathlib.Omega.{arith}
+use lib.ListN.{length, length-append}
+use borrow.Author.Tests.{lt-ltb, le-ltb}
+use Rattle.io.specs.Digits.{glyph, digits, Fewest}
+use Rattle.listing.specs.Text.{decimalWithin, decimal}
+
+-- the last digit
+abbrev last : ℕ → List ℕ
+last n = (48 + n % 10) ∷ []
+
+small : (n : ℕ) → n < 10 → n % 10 ≡ n
+small n h = omega arith
+
+module _ (fuel n : ℕ) where
+  within-one : n < 10 → decimalWithin (suc fuel) n ≡ last n
+  unfolding decimalWithin
+  within-one h = rw (lt-ltb n 10 h)
+
+  within-more : 10 ≤ n → decimalWithin (suc fuel) n ≡ decimalWithin fuel (n / 10) ++ last n
+  unfolding decimalWithin
+  within-more h = rw (le-ltb n 10 h)
+
+-- with fuel above the number, the digits don't depend on it
+within-enough : (fuel fuel′ n : ℕ) → n < fuel → n < fuel′ → decimalWithin fuel n ≡ decimalWithin fuel′ n
+within-enough zero fuel′ n h h′ = absurd (omega arith)
+within-enough (suc fuel) zero n h h′ = absurd (omega arith)
+within-enough (suc fuel) (suc fuel′) n h h′ =
+    elim (decLt n 10) [
+      | yes k ↦ within-one fuel n k ∙ sym (within-one fuel′ n k)
+      | no k ↦
+          within-more fuel n (omega arith)
+          ∙ ap (λ (l : List ℕ). l ++ last n) (within-enough fuel fuel′ (n / 10) (omega arith) (omega arith))
+          ∙ sym (within-more fuel′ n (omega arith))
+    ]
+
+-- so a number's digits are its one digit, or those of a tenth and its last
+pub decimal-one : (n : ℕ) → n < 10 → decimal n ≡ (48 + n) ∷ []
+unfolding decimal
+decimal-one n h = within-one n n h ∙ ap (λ (d : ℕ). (48 + d) ∷ []) (small n h)
+
+pub decimal-again : (n : ℕ) → 10 ≤ n → decimal n ≡ decimal (n / 10) ++ (48 + n % 10) ∷ []
+unfolding decimal
+decimal-again n h = within-more n n h ∙ ap (λ (l : List ℕ). l ++ last n) (within-enough n (suc (n / 10)) (n / 10) (omega arith) (omega arith))
+
+-- ---- the digits of `io`
+
+glyph-digit : (d : ℕ) → d < 10 → glyph d ≡ 48 + d
+glyph-digit d h = rw (lt-ltb d 10 h)
+
+digits-last : (k n : ℕ) → digits 10 (suc k) n ≡ digits 10 k (n / 10) ++ last n
+digits-last k n = ap (λ (d : ℕ). digits 10 k (n / 10) ++ d ∷ []) (glyph-digit (n % 10) (omega arith))
+
+power-some : (k : ℕ) → 1 ≤ 10 ^ k
+power-some zero = omega arith
+power-some (suc k) = omega (arith, pow-suc 10 k, power-some k)
+
+-- a tenth has a digit less
+tenth : (k n : ℕ) → Fewest 10 1 n (suc (suc k)) → (10 ≤ n) × Fewest 10 1 (n / 10) (suc k)
+tenth k n f =
+    let x = 10 ^ k in
+    let y : 10 ^ suc k ≡ x * 10 = pow-suc 10 k in
+    let z : 10 ^ suc (suc k) ≡ 10 ^ suc k * 10 = pow-suc 10 (suc k) in
+    let less : suc (suc k) - 1 ≡ suc k = omega arith in
+    let low : 10 ^ suc k ≤ n = rw less at (f .2 (omega arith)) in
+    let fewer : suc k - 1 ≡ k = omega arith in
+    let some : 1 ≤ x = power-some k in
+    (omega (arith, f .1), (omega arith, omega (arith, f .1), λ h. rw fewer (omega (arith, f .1))))
+
+pub fewest-digits : (k n : ℕ) → Fewest 10 1 n k → digits 10 k n ≡ decimal n
+fewest-digits zero n f = absurd (omega (arith, f .0))
+fewest-digits (suc zero) n f = digits-last 0 n ∙ ap (λ (d : ℕ). (48 + d) ∷ []) (small n (f .1)) ∙ sym (decimal-one n (f .1))
+fewest-digits (suc (suc k)) n f =
+    let t = tenth k n f in
+    digits-last (suc k) n
+    ∙ ap (λ (l : List ℕ). l ++ last n) (fewest-digits (suc k) (n / 10) (t .1))
+    ∙ sym (decimal-again n (t .0))
+
+-- ---- their count
+
+within-length : (fuel k n : ℕ) → n < 10 ^ suc k → length (decimalWithin fuel n) ≤ suc k
+unfolding decimalWithin
+within-length zero k n h = omega arith
+within-length (suc fuel) zero n h = rw (within-one fuel n h) (omega arith)
+within-length (suc fuel) (suc k) n h =
+    elim (decLt n 10) [
+      | yes d ↦ rw (within-one fuel n d) (omega arith)
+      | no d ↦
+          let e = pow-suc 10 (suc k) in
+          let shorter = within-length fuel k (n / 10) (omega arith) in
+          rw (within-more fuel n (omega arith)) (omega (arith, length-append (decimalWithin fuel (n / 10)) (last n)))
+    ]
+
+pub decimal-length : (k n : ℕ) → n < 10 ^ suc k → length (decimal n) ≤ suc k
+unfolding decimal
+decimal-length k n h = within-length (suc n) k n h

@@ -1,0 +1,141 @@
+-- How long a listing is at most: 53 bytes for the first line and 12 for each of at most 507 steps. So a row of 6137 bytes is never too
+-- short.
+use mathlib.Core.Path.{_≡_, refl, _∙_}
+use mathlib.Core.Bool.{true, false}
+use mathlib.Core.List.{List, [], _∷_, _++_}
+use Prim.Native.Nat.{ℕ, zero, suc, _+_, _*_, _^_, _≤_, _<_}
+use native.Mathlib.Omega.{arith}
+use lib.Dec.{leb}
+use lib.ListN.{length, getD, drop, length-append}
+use borrow.Author.Tests.{leb-true}
+use Rattle.refusal.specs.declared.Refusal.{Refusal}
+use Rattle.refusal.specs.declared.Refusal.the-variants.{Modulus, Order, Exponent, Variant, Room, Length, Word, Mismatch, Register, Position, Base, Range, Index}
+use Rattle.refusal.specs.Refusals.{numberOf}
+use Rattle.refusal.specs.Outcomes.{Outcome, Rule, refused, answered, outcome, _given-if_}
+use Rattle.refusal.proofs.Laws.Rules.{passed}
+use Rattle.tape.specs.declared.Step.{Step}
+use Rattle.tape.specs.declared.Step.the-variants.{Mul, Div, Swp}
+use Rattle.tape.specs.declared.Header.{Header}
+use Rattle.tape.specs.Steps.{Apart, Sound, AllSound}
+use Rattle.tape.specs.Layout.{otherWords, stepCount, stepWords, valueOf, meansAt, headerOf, stepsOf, isLength}
+use Rattle.tape.proofs.Laws.Tests.{both}
+use Rattle.tape.proofs.Laws.Words.{decoded-lawful, value-small}
+use Rattle.tape.proofs.Laws.Rows.{all-steps-sound}
+use Rattle.tape.proofs.Laws.Layout.{steps-count}
+use Rattle.program.specs.Services.{acceptOutcome}
+use Rattle.program.proofs.Laws.Checking.{accepted}
+use Rattle.listing.specs.Text.{ascii, decimal, blank, newline, line}
+use Rattle.listing.specs.Listing.{tapeOf, listingRules, listingOutcome, refusedLine, variantName, firstLine, namedLine, stepLine, stepLines, listingNumber, listingOf}
+use Rattle.listing.proofs.Laws.Decimal.{decimal-length}
+use Rattle.listing.proofs.Laws.Cases.{header-is, listing-by, Promised, row-enough}
+
+-- a line has each word with a byte behind it
+abbrev withBytes : List (List ℕ) → ℕ
+withBytes [] = 0
+withBytes (w ∷ words) = length w + 1 + withBytes words
+
+line-length : (w : List ℕ) (words : List (List ℕ)) → length (line (w ∷ words)) ≡ withBytes (w ∷ words)
+unfolding line
+line-length w [] = length-append w (newline ∷ []) ∙ omega arith
+line-length w (v ∷ words) =
+    length-append (w ++ blank ∷ []) (line (v ∷ words)) ∙ omega (arith, length-append w (blank ∷ []), line-length v words)
+
+-- ---- refusals
+
+number-small : (e : Refusal) → numberOf e < 100
+number-small Modulus = omega arith
+number-small Order = omega arith
+number-small Exponent = omega arith
+number-small Variant = omega arith
+number-small Room = omega arith
+number-small Length = omega arith
+number-small Word = omega arith
+number-small Mismatch = omega arith
+number-small Register = omega arith
+number-small Position = omega arith
+number-small Base = omega arith
+number-small Range = omega arith
+number-small Index = omega arith
+
+refused-small : {A : Type 0} (rules : List Rule) (x : A) (n : ℕ) → outcome rules x ≡ refused n → n < 100
+unfolding outcome
+refused-small [] x n e = let z : _≡_ {A = ℕ} 0 1 = cc in absurd (omega arith)
+refused-small ((r given-if true) ∷ rules) x n e = let same : numberOf r ≡ n = cc in rw same at (number-small r)
+refused-small ((r given-if false) ∷ rules) x n e = refused-small rules x n e
+
+refused-most : (n : ℕ) → n < 100 → length (refusedLine n) ≤ 11
+refused-most n h = omega (arith, line-length (ascii "refused") (decimal n ∷ []), decimal-length 1 n h)
+
+-- ---- the first line
+
+name-most : (variant : ℕ) → length (variantName variant) ≤ 6
+name-most zero = omega arith
+name-most (suc zero) = omega arith
+name-most (suc (suc zero)) = omega arith
+name-most (suc (suc (suc zero))) = omega arith
+name-most (suc (suc (suc (suc variant)))) = omega arith
+
+first-most : (h : Header) → h .modulus < 2 ^ 28 → h .order < 2 ^ 28 → h .exponent < 2 ^ 28 → h .steps < 1000 → length (firstLine h) ≤ 53
+first-most h p r k n =
+    let words = (ascii "p=" ++ decimal (h .modulus)) ∷ (ascii "r=" ++ decimal (h .order)) ∷ (ascii "k=" ++ decimal (h .exponent)) ∷ (ascii "steps=" ++ decimal (h .steps)) ∷ [] in
+    omega (
+      arith,
+      line-length (variantName (h .variant)) words,
+      name-most (h .variant),
+      decimal-length 8 (h .modulus) (omega arith),
+      decimal-length 8 (h .order) (omega arith),
+      decimal-length 8 (h .exponent) (omega arith),
+      decimal-length 2 (h .steps) n,
+    )
+
+-- ---- the steps' lines
+
+named-most : (n : ℕ) (name : List ℕ) (t s : ℕ) → n < 1000 → length name ≡ 3 → Apart t s → length (namedLine n name t s) ≤ 12
+named-most n name t s small three a =
+    omega
+    (arith, line-length (decimal n) (name ∷ decimal t ∷ decimal s ∷ []), decimal-length 2 n small, decimal-length 0 t (omega arith), decimal-length 0 s (omega arith))
+
+step-most : (n : ℕ) (x : Step) → n < 1000 → Sound x → length (stepLine n x) ≤ 12
+step-most n (Mul t s) small sound = named-most n (ascii "mul") t s small refl sound
+step-most n (Div t s) small sound = named-most n (ascii "div") t s small refl sound
+step-most n (Swp t s) small sound = named-most n (ascii "swp") t s small refl (sound .0)
+
+steps-most : (n : ℕ) (steps : List Step) → n + length steps ≤ 1000 → AllSound steps → length (stepLines n steps) ≤ 12 * length steps
+unfolding stepLines
+steps-most n [] h sound = omega arith
+steps-most n (x ∷ steps) h sound =
+    omega (arith, length-append (stepLine n x) (stepLines (n + 1) steps), step-most n x (omega arith) (sound .0), steps-most (n + 1) steps (omega arith) (sound .1))
+
+-- ---- the listing
+
+short : (tape : List ℕ) → isLength (length tape) ≡ true → stepCount tape ≤ 507
+unfolding isLength
+short tape e = omega (arith, leb-true (length tape) 512 (both (leb otherWords (length tape)) (leb (length tape) 512) e .1))
+
+value : (tape : List ℕ) (i : ℕ) → valueOf (meansAt tape i) < 2 ^ 28
+value tape i = value-small (meansAt tape i) (decoded-lawful (getD tape i 0))
+
+accepted-most : (tape : List ℕ) (h : Header) → acceptOutcome tape ≡ answered h → length (firstLine h ++ stepLines 1 (stepsOf tape)) ≤ 53 + 507 * 12
+accepted-most tape h e =
+    let most = short tape (accepted (headerOf tape) tape e .long) in
+    let count = steps-count tape in
+    rw (header-is tape h e)
+    (omega (
+      arith,
+      length-append (firstLine (headerOf tape)) (stepLines 1 (stepsOf tape)),
+      first-most (headerOf tape) (value tape 1) (value tape 2) (value tape 3) (omega arith),
+      steps-most 1 (stepsOf tape) (omega arith) (all-steps-sound (stepWords tape 0 (stepCount tape))),
+    ))
+
+lines-most : (bytes : List ℕ) (o : Outcome Header) → listingOutcome bytes ≡ o → length (listingOf bytes) ≤ 53 + 507 * 12
+unfolding listingRules
+lines-most bytes (refused n) e = rw (listing-by bytes e) (omega (arith, refused-most n (refused-small (listingRules bytes) (headerOf (tapeOf bytes)) n e)))
+lines-most bytes (answered h) e = rw (listing-by bytes e) (accepted-most (tapeOf bytes) h (passed _ _ _ _ _ e .1))
+
+pub listing-most : (bytes : List ℕ) → length (listingOf bytes) ≤ 6137
+listing-most bytes = lines-most bytes (listingOutcome bytes) refl
+
+-- refusal 5 is never given into a row of that length
+pub never-short : (bytes row : List ℕ) → 6137 ≤ length row
+    → Promised bytes row (record { written = length (listingOf bytes); number = listingNumber bytes }) (listingOf bytes ++ drop (length (listingOf bytes)) row)
+never-short bytes row h = row-enough bytes row (omega (arith, listing-most bytes))

@@ -1,0 +1,22 @@
+-- `list_refusal` meets its contract: the line of the refusal's number.
+use native.Mathlib.Nat.{zero-add}
+use borrow.Author.Needs.{needs}
+use Rattle.listing.proofs.list_refusal.Statement.{statement}
+use Rattle.listing.proofs.list_refusal.Tie as tie
+
+number-requires : tie.Need-number-requires
+number-requires c κs = search needs
+
+refused-line-requires : tie.Need-refused-line-requires
+refused-line-requires c κs = rw (c .before .number .ensures, zero-add) (c .before .before .before .pre)
+
+same-length : tie.Need-same-length
+same-length c = search needs
+
+returns : tie.Need-returns
+returns c =
+    let n = c .before .before .before .before .number .ensures in
+    (rw n at (c .before .before .refused-line .ensures), n)
+
+pub list-refusal-spec : {M : Type 1} → statement M
+list-refusal-spec = tie.close (tie.spec number-requires refused-line-requires same-length returns)

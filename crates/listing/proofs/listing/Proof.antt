@@ -1,0 +1,74 @@
+-- `listing` meets its contract: the listing is made in a row that holds every listing, and copied where there is room.
+use mathlib.Core.Path.{_≡_, sym, _∙_}
+use Prim.Native.Nat.{_≤_}
+use native.Mathlib.Nat.{zero-add}
+use native.Mathlib.Omega.{arith}
+use borrow.Author.Needs.{needs}
+use lib.ListN.{length, take}
+use lib.Seq.{length-take-le}
+use Rattle.refusal.proofs.Laws.Rows.{wrote-front, wrote-length}
+use Rattle.listing.specs.Listing.{listingOf}
+use Rattle.listing.proofs.Laws.Remaining.{wrote-taken}
+use Rattle.listing.proofs.Laws.Cases.{row-short, row-enough, listed-as}
+use Rattle.listing.proofs.Laws.Lengths.{listing-most}
+use Rattle.listing.proofs.listing.Statement.{statement}
+use Rattle.listing.proofs.listing.Tie as tie
+
+slice-aggregate-list-bytes : tie.Need-slice-aggregate-list-bytes
+slice-aggregate-list-bytes c = search needs
+
+list-bytes-requires : tie.Need-list-bytes-requires
+list-bytes-requires c κs = listing-most _
+
+number-requires : tie.Need-number-requires
+number-requires c κs = search needs
+
+-- what was made: its length, and its bytes
+count : (c : tie.After-list-bytes) → c .list-bytes .result .written ≡ length (listingOf (c .before .before .before .before .args .bytes .now))
+count c = c .list-bytes .ensures .0 .next-is ∙ zero-add _
+
+made : (c : tie.After-list-bytes) → take (c .list-bytes .result .written) (c .list-bytes .last .1 .0) ≡ listingOf (c .before .before .before .before .args .bytes .now)
+made c = wrote-taken (c .list-bytes .ensures .0) (listing-most _)
+
+fits : (c : tie.After-list-bytes) → c .list-bytes .result .written ≤ length (c .list-bytes .last .1 .0)
+fits c = omega (arith, count c, listing-most (c .before .before .before .before .args .bytes .now), wrote-length (c .list-bytes .ensures .0))
+
+returns : tie.Need-returns
+returns c = rw (c .number .ensures) (row-short _ _ (omega (arith, c .before .if1 .taken, count (c .before .before .before))))
+
+array-share-prefix-text : tie.Need-array-share-prefix-text
+array-share-prefix-text c = fits (c .before .before .before)
+
+slice-aggregate-put : tie.Need-slice-aggregate-put
+slice-aggregate-put c = sym (length-take-le _ _ (fits (c .before .before .before .before)))
+
+put-requires : tie.Need-put-requires
+put-requires c κs =
+    let list = c .before .before .before .before in
+    rw (made list) (omega (arith, c .before .before .if1 .left, count list))
+
+same-length : tie.Need-same-length
+same-length c = search needs
+
+returns-2 : tie.Need-returns-2
+returns-2 c =
+    let else = c .before .before .before .before .before in
+    let list = else .before .before in
+    let room : length (listingOf (list .before .before .before .before .args .bytes .now)) ≤ length (list .before .before .before .before .args .lines .now) =
+    omega (arith, else .if1 .left, count list) in
+    let p = row-enough _ _ room in
+    (listed-as _ (count list) (list .list-bytes .ensures .1) ∙ p .0, wrote-front (rw (made list) at (c .before .before .put .ensures)) room ∙ p .1)
+
+pub listing-spec : {M : Type 1} → statement M
+listing-spec =
+    tie.close
+    (tie.spec
+    slice-aggregate-list-bytes
+    list-bytes-requires
+    number-requires
+    returns
+    array-share-prefix-text
+    slice-aggregate-put
+    put-requires
+    same-length
+    returns-2)
