@@ -27,10 +27,10 @@ pub struct Listed {
 }
 
 // The most bytes of a listing (`listing-most`).
-const MOST_WRITTEN: usize = 6137;
+pub const MOST_WRITTEN: usize = 6137;
 
 // The most bytes of a tape.
-const MOST_BYTES: usize = 2048;
+pub const MOST_BYTES: usize = 2048;
 
 // The most words of a tape.
 const MOST_WORDS: usize = 512;

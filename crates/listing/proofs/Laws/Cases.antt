@@ -2,6 +2,8 @@
 use mathlib.Core.Path.{_≡_, sym, ap, ap₂, _∙_}
 use mathlib.Core.List.{List, [], _++_}
 use Prim.Native.Nat.{ℕ, _%_, _≤_, _<_}
+use native.Mathlib.Decide.{decLt}
+use native.Mathlib.Omega.{arith}
 use lib.ListN.{length, drop}
 use borrow.Author.Tests.{lt-ltb, le-ltb, eq-eqb, ne-eqb}
 use Rattle.refusal.specs.Outcomes.{Outcome, refused, answered, gives, passes, answers, row-kept, row-written}
@@ -33,22 +35,40 @@ module _ (bytes : List ℕ) where
 
   -- ---- the service
 
+  module _ (room : ℕ) where
+    short : room < length (listingOf bytes) → roomOutcome (listingOf bytes) room ≡ refused 5
+    unfolding roomOutcome
+    short h = gives _ [] (length (listingOf bytes)) (lt-ltb room (length (listingOf bytes)) h)
+
+    enough : length (listingOf bytes) ≤ room → roomOutcome (listingOf bytes) room ≡ answered (length (listingOf bytes))
+    unfolding roomOutcome
+    enough h = passes _ [] (length (listingOf bytes)) (le-ltb room (length (listingOf bytes)) h) ∙ answers (length (listingOf bytes))
+
+    -- what is written fits the row
+    pub written-fits : (l : Listed) → l ≡ listingAnswer bytes room → l .written ≤ room
+    unfolding listingAnswer
+    written-fits l e =
+        elim (decLt room (length (listingOf bytes))) [
+          | yes h ↦ rw (e, short h) (omega arith)
+          | no h ↦ rw (e, enough (omega arith)) (omega arith)
+        ]
+
   module _ (row : List ℕ) where
     -- what the service promises of its answer and of the row at exit
     abbrev pub Promised : Listed → List ℕ → Type 0
     Promised answer after = (answer ≡ listingAnswer bytes (length row)) × (after ≡ listingRow bytes row)
 
     pub row-short : length row < length (listingOf bytes) → Promised (record { written = 0; number = 5 }) row
-    unfolding roomOutcome listingAnswer listingRow
+    unfolding listingAnswer listingRow
     row-short h =
-        let e = gives _ [] (length (listingOf bytes)) (lt-ltb (length row) (length (listingOf bytes)) h) in
+        let e = short (length row) h in
         (ap (λ (o : Outcome ℕ). listedAs o (listingNumber bytes)) (sym e), sym (row-kept (listingOf bytes) row e))
 
     pub row-enough : length (listingOf bytes) ≤ length row
         → Promised (record { written = length (listingOf bytes); number = listingNumber bytes }) (listingOf bytes ++ drop (length (listingOf bytes)) row)
-    unfolding roomOutcome listingAnswer listingRow
+    unfolding listingAnswer listingRow
     row-enough h =
-        let e = passes _ [] (length (listingOf bytes)) (le-ltb (length row) (length (listingOf bytes)) h) ∙ answers (length (listingOf bytes)) in
+        let e = enough (length row) h in
         (ap (λ (o : Outcome ℕ). listedAs o (listingNumber bytes)) (sym e), sym (row-written (listingOf bytes) row e))
 
 pub listed-as : (l : Listed) {written number : ℕ} → l .written ≡ written → l .number ≡ number → l ≡ record { written = written; number = number }

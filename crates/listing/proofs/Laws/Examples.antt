@@ -11,9 +11,10 @@ use Rattle.fibonacci.specs.Forms.{pad, greedy, zeckendorf}
 use Rattle.tape.specs.Words.{headingIn, actionIn, swapIn, decoded, stepWord, encoded}
 use Rattle.tape.specs.Layout.{isLength, isHeader, isFreeOrNamed, allSteps, isEnd, laidOut, wordsOf}
 use Rattle.machine.specs.Machine.{opposite, back}
-use Rattle.program.specs.Generators.{ascend, basic}
-use Rattle.program.specs.Named.{basicSteps, namedSteps}
-use Rattle.program.specs.Services.{badModulus, badOrder, sameWords, checkRules}
+use Rattle.named.specs.Generators.{ascend, basic}
+use Rattle.named.specs.Named.{basicSteps, namedSteps}
+use Rattle.named.specs.Parameters.{badModulus, badOrder}
+use Rattle.program.specs.Services.{sameWords, checkRules}
 use Rattle.listing.specs.Text.{ascii, decimalWithin, decimal, line}
 use Rattle.listing.specs.Listing.{tapeOf, noTape, listingRules, stepLines, listingOf}
 

@@ -18,7 +18,7 @@ use Rattle.tape.specs.declared.Step.the-variants.{Mul, Div, Swp}
 use Rattle.tape.specs.declared.Header.{Header}
 use Rattle.tape.specs.Steps.{Apart, Sound, AllSound}
 use Rattle.tape.specs.Layout.{otherWords, stepCount, stepWords, valueOf, meansAt, headerOf, stepsOf, isLength}
-use Rattle.tape.proofs.Laws.Tests.{both}
+use Rattle.refusal.proofs.Laws.Tests.{both}
 use Rattle.tape.proofs.Laws.Words.{decoded-lawful, value-small}
 use Rattle.tape.proofs.Laws.Rows.{all-steps-sound}
 use Rattle.tape.proofs.Laws.Layout.{steps-count}
