@@ -27,11 +27,11 @@ use Rattle.program.specs.Building.{Buildable, Built}
 
 -- ---- a call whose result is these words
 
-short : (words : List ℕ) (room : ℕ) → room < length words → roomOutcome words room ≡ refused 5
+pub short : (words : List ℕ) (room : ℕ) → room < length words → roomOutcome words room ≡ refused 5
 unfolding roomOutcome
 short words room h = gives Room [] (length words) (lt-ltb room (length words) h)
 
-enough : (words : List ℕ) (room : ℕ) → length words ≤ room → roomOutcome words room ≡ answered (length words)
+pub enough : (words : List ℕ) (room : ℕ) → length words ≤ room → roomOutcome words room ≡ answered (length words)
 unfolding roomOutcome
 enough words room h = passes Room [] (length words) (le-ltb room (length words) h) ∙ answers (length words)
 
