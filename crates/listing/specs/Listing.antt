@@ -16,6 +16,14 @@ use Rattle.listing.specs.Text.{ascii, decimal, line}
 
 -- ---- a tape as bytes
 
+-- the most bytes of a tape
+abbrev pub mostBytes : ℕ
+mostBytes = 2048
+
+-- the bytes of a word
+abbrev pub wordBytes : ℕ
+wordBytes = 4
+
 -- four bytes, least significant first
 abbrev pub wordOf : ℕ → ℕ → ℕ → ℕ → ℕ
 wordOf a b c d = a + 256 * (b + 256 * (c + 256 * d))
@@ -30,7 +38,7 @@ tapeOf (a ∷ b ∷ c ∷ d ∷ bytes) = wordOf a b c d ∷ tapeOf bytes
 
 -- above 2048 bytes, or not a multiple of 4
 unfoldable pub noTape : List ℕ → Bool
-noTape bytes = ltb 2048 (length bytes) || not (eqb (length bytes % 4) 0)
+noTape bytes = ltb mostBytes (length bytes) || not (eqb (length bytes % wordBytes) 0)
 
 -- which is treated as refusal 6; then check's refusals
 unfoldable pub listingRules : List ℕ → List Rule
@@ -54,6 +62,7 @@ listingNumber bytes = numberIn (listingOutcome bytes)
 abbrev pub refusedLine : ℕ → List ℕ
 refusedLine n = line (ascii "refused" ∷ decimal n ∷ [])
 
+-- free, basic, dual or hybrid, by the variant's number
 abbrev pub variantName : ℕ → List ℕ
 variantName variant = getD (ascii "free" ∷ ascii "basic" ∷ ascii "dual" ∷ ascii "hybrid" ∷ []) variant []
 
@@ -89,6 +98,10 @@ linesFor (answered h) steps = firstLine h ++ stepLines 1 steps
 -- the bytes of the listing
 unfoldable pub listingOf : List ℕ → List ℕ
 listingOf bytes = linesFor (listingOutcome bytes) (stepsOf (tapeOf bytes))
+
+-- no listing is longer (`listing-most` of Laws/Lengths): 53 bytes for the first line, 12 for each of at most 507 steps
+abbrev pub mostWritten : ℕ
+mostWritten = 53 + 507 * 12
 
 -- ---- the service, into a row that is lent
 

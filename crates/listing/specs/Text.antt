@@ -6,7 +6,7 @@ use Prim.Native.Char.{code}
 use Prim.Native.String.{String, len, charAt}
 use lib.Dec.{ltb}
 
--- a text's bytes, `count` of them from one on
+-- the bytes of a text of ASCII characters: `count` of them from an index on, and all
 abbrev pub codes : String → ℕ → ℕ → List ℕ
 codes text from zero = []
 codes text from (suc count) = code (charAt text from) ∷ codes text (suc from) count

@@ -1,16 +1,17 @@
 -- A listing by cases: what is no tape gets 6, else check decides; and the service by its room.
-use mathlib.Core.Path.{_≡_, sym, ap, ap₂, _∙_}
-use mathlib.Core.List.{List, [], _++_}
+use mathlib.Core.Path.{_≡_, sym, ap, ap₂}
+use mathlib.Core.List.{List, _++_}
 use Prim.Native.Nat.{ℕ, _%_, _≤_, _<_}
 use native.Mathlib.Decide.{decLt}
 use native.Mathlib.Omega.{arith}
 use lib.ListN.{length, drop}
 use borrow.Author.Tests.{lt-ltb, le-ltb, eq-eqb, ne-eqb}
-use Rattle.refusal.specs.Outcomes.{Outcome, refused, answered, gives, passes, answers, row-kept, row-written}
+use Rattle.refusal.specs.Outcomes.{Outcome, refused, answered, gives, passes, row-kept, row-written}
 use Rattle.refusal.proofs.Laws.Rules.{answer-is}
 use Rattle.tape.specs.declared.Header.{Header}
 use Rattle.tape.specs.Layout.{headerOf, stepCount, stepsOf}
-use Rattle.program.specs.Services.{roomOutcome, checkRules, acceptOutcome}
+use Rattle.program.specs.Services.{checkRules, acceptOutcome}
+use Rattle.program.proofs.Laws.Building.{short, enough}
 use Rattle.program.proofs.Laws.Checking.{accepted}
 use Rattle.listing.specs.declared.Listed.{Listed}
 use Rattle.listing.specs.Listing.{tapeOf, noTape, listingRules, listingOutcome, listingNumber, linesFor, listingOf, listedAs, listingAnswer, listingRow}
@@ -36,21 +37,13 @@ module _ (bytes : List ℕ) where
   -- ---- the service
 
   module _ (room : ℕ) where
-    short : room < length (listingOf bytes) → roomOutcome (listingOf bytes) room ≡ refused 5
-    unfolding roomOutcome
-    short h = gives _ [] (length (listingOf bytes)) (lt-ltb room (length (listingOf bytes)) h)
-
-    enough : length (listingOf bytes) ≤ room → roomOutcome (listingOf bytes) room ≡ answered (length (listingOf bytes))
-    unfolding roomOutcome
-    enough h = passes _ [] (length (listingOf bytes)) (le-ltb room (length (listingOf bytes)) h) ∙ answers (length (listingOf bytes))
-
     -- what is written fits the row
     pub written-fits : (l : Listed) → l ≡ listingAnswer bytes room → l .written ≤ room
     unfolding listingAnswer
     written-fits l e =
         elim (decLt room (length (listingOf bytes))) [
-          | yes h ↦ rw (e, short h) (omega arith)
-          | no h ↦ rw (e, enough (omega arith)) (omega arith)
+          | yes h ↦ rw (e, short (listingOf bytes) room h) (omega arith)
+          | no h ↦ rw (e, enough (listingOf bytes) room (omega arith)) (omega arith)
         ]
 
   module _ (row : List ℕ) where
@@ -61,14 +54,14 @@ module _ (bytes : List ℕ) where
     pub row-short : length row < length (listingOf bytes) → Promised (record { written = 0; number = 5 }) row
     unfolding listingAnswer listingRow
     row-short h =
-        let e = short (length row) h in
+        let e = short (listingOf bytes) (length row) h in
         (ap (λ (o : Outcome ℕ). listedAs o (listingNumber bytes)) (sym e), sym (row-kept (listingOf bytes) row e))
 
     pub row-enough : length (listingOf bytes) ≤ length row
         → Promised (record { written = length (listingOf bytes); number = listingNumber bytes }) (listingOf bytes ++ drop (length (listingOf bytes)) row)
     unfolding listingAnswer listingRow
     row-enough h =
-        let e = enough (length row) h in
+        let e = enough (listingOf bytes) (length row) h in
         (ap (λ (o : Outcome ℕ). listedAs o (listingNumber bytes)) (sym e), sym (row-written (listingOf bytes) row e))
 
 pub listed-as : (l : Listed) {written number : ℕ} → l .written ≡ written → l .number ≡ number → l ≡ record { written = written; number = number }

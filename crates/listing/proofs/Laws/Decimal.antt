@@ -3,6 +3,7 @@
 use mathlib.Core.Path.{_≡_, sym, ap, _∙_}
 use mathlib.Core.List.{List, [], _∷_, _++_}
 use Prim.Native.Nat.{ℕ, zero, suc, _+_, _-_, _*_, _/_, _%_, _^_, _≤_, _<_}
+use Prim.Native.Char.{code}
 use native.Mathlib.Nat.{pow-suc}
 use native.Mathlib.Decide.{decLt}
 use native.Mathlib.Omega.{arith}
@@ -13,7 +14,7 @@ use Rattle.listing.specs.Text.{decimalWithin, decimal}
 
 -- the last digit
 abbrev last : ℕ → List ℕ
-last n = (48 + n % 10) ∷ []
+last n = (code "0" + n % 10) ∷ []
 
 small : (n : ℕ) → n < 10 → n % 10 ≡ n
 small n h = omega arith
@@ -41,17 +42,17 @@ within-enough (suc fuel) (suc fuel′) n h h′ =
     ]
 
 -- so a number's digits are its one digit, or those of a tenth and its last
-pub decimal-one : (n : ℕ) → n < 10 → decimal n ≡ (48 + n) ∷ []
+pub decimal-one : (n : ℕ) → n < 10 → decimal n ≡ (code "0" + n) ∷ []
 unfolding decimal
-decimal-one n h = within-one n n h ∙ ap (λ (d : ℕ). (48 + d) ∷ []) (small n h)
+decimal-one n h = within-one n n h ∙ ap (λ (d : ℕ). (code "0" + d) ∷ []) (small n h)
 
-pub decimal-again : (n : ℕ) → 10 ≤ n → decimal n ≡ decimal (n / 10) ++ (48 + n % 10) ∷ []
+pub decimal-again : (n : ℕ) → 10 ≤ n → decimal n ≡ decimal (n / 10) ++ (code "0" + n % 10) ∷ []
 unfolding decimal
 decimal-again n h = within-more n n h ∙ ap (λ (l : List ℕ). l ++ last n) (within-enough n (suc (n / 10)) (n / 10) (omega arith) (omega arith))
 
 -- ---- the digits of `io`
 
-glyph-digit : (d : ℕ) → d < 10 → glyph d ≡ 48 + d
+glyph-digit : (d : ℕ) → d < 10 → glyph d ≡ code "0" + d
 glyph-digit d h = rw (lt-ltb d 10 h)
 
 digits-last : (k n : ℕ) → digits 10 (suc k) n ≡ digits 10 k (n / 10) ++ last n
@@ -75,7 +76,7 @@ tenth k n f =
 
 pub fewest-digits : (k n : ℕ) → Fewest 10 1 n k → digits 10 k n ≡ decimal n
 fewest-digits zero n f = absurd (omega (arith, f .0))
-fewest-digits (suc zero) n f = digits-last 0 n ∙ ap (λ (d : ℕ). (48 + d) ∷ []) (small n (f .1)) ∙ sym (decimal-one n (f .1))
+fewest-digits (suc zero) n f = digits-last 0 n ∙ ap (λ (d : ℕ). (code "0" + d) ∷ []) (small n (f .1)) ∙ sym (decimal-one n (f .1))
 fewest-digits (suc (suc k)) n f =
     let t = tenth k n f in
     digits-last (suc k) n

@@ -1,5 +1,5 @@
--- How long a listing is at most: 53 bytes for the first line and 12 for each of at most 507 steps. So a row of 6137 bytes is never too
--- short.
+-- How long a listing is at most: 53 bytes for the first line and 12 for each of at most 507 steps. So a row of that length is never
+-- too short.
 use mathlib.Core.Path.{_≡_, refl, _∙_}
 use mathlib.Core.Bool.{true, false}
 use mathlib.Core.List.{List, [], _∷_, _++_}
@@ -25,7 +25,7 @@ use Rattle.tape.proofs.Laws.Layout.{steps-count}
 use Rattle.program.specs.Services.{acceptOutcome}
 use Rattle.program.proofs.Laws.Checking.{accepted}
 use Rattle.listing.specs.Text.{ascii, decimal, blank, newline, line}
-use Rattle.listing.specs.Listing.{tapeOf, listingRules, listingOutcome, refusedLine, variantName, firstLine, namedLine, stepLine, stepLines, listingNumber, listingOf}
+use Rattle.listing.specs.Listing.{tapeOf, listingRules, listingOutcome, refusedLine, variantName, firstLine, namedLine, stepLine, stepLines, listingNumber, listingOf, mostWritten}
 use Rattle.listing.proofs.Laws.Decimal.{decimal-length}
 use Rattle.listing.proofs.Laws.Cases.{header-is, listing-by, Promised, row-enough}
 
@@ -115,7 +115,7 @@ short tape e = omega (arith, leb-true (length tape) 512 (both (leb otherWords (l
 value : (tape : List ℕ) (i : ℕ) → valueOf (meansAt tape i) < 2 ^ 28
 value tape i = value-small (meansAt tape i) (decoded-lawful (getD tape i 0))
 
-accepted-most : (tape : List ℕ) (h : Header) → acceptOutcome tape ≡ answered h → length (firstLine h ++ stepLines 1 (stepsOf tape)) ≤ 53 + 507 * 12
+accepted-most : (tape : List ℕ) (h : Header) → acceptOutcome tape ≡ answered h → length (firstLine h ++ stepLines 1 (stepsOf tape)) ≤ mostWritten
 accepted-most tape h e =
     let most = short tape (accepted (headerOf tape) tape e .long) in
     let count = steps-count tape in
@@ -127,15 +127,15 @@ accepted-most tape h e =
       steps-most 1 (stepsOf tape) (omega arith) (all-steps-sound (stepWords tape 0 (stepCount tape))),
     ))
 
-lines-most : (bytes : List ℕ) (o : Outcome Header) → listingOutcome bytes ≡ o → length (listingOf bytes) ≤ 53 + 507 * 12
+lines-most : (bytes : List ℕ) (o : Outcome Header) → listingOutcome bytes ≡ o → length (listingOf bytes) ≤ mostWritten
 unfolding listingRules
 lines-most bytes (refused n) e = rw (listing-by bytes e) (omega (arith, refused-most n (refused-small (listingRules bytes) (headerOf (tapeOf bytes)) n e)))
 lines-most bytes (answered h) e = rw (listing-by bytes e) (accepted-most (tapeOf bytes) h (passed _ _ _ _ _ e .1))
 
-pub listing-most : (bytes : List ℕ) → length (listingOf bytes) ≤ 6137
+pub listing-most : (bytes : List ℕ) → length (listingOf bytes) ≤ mostWritten
 listing-most bytes = lines-most bytes (listingOutcome bytes) refl
 
 -- refusal 5 is never given into a row of that length
-pub never-short : (bytes row : List ℕ) → 6137 ≤ length row
+pub never-short : (bytes row : List ℕ) → mostWritten ≤ length row
     → Promised bytes row (record { written = length (listingOf bytes); number = listingNumber bytes }) (listingOf bytes ++ drop (length (listingOf bytes)) row)
 never-short bytes row h = row-enough bytes row (omega (arith, listing-most bytes))
