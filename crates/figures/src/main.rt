@@ -1,0 +1,9 @@
+// Works through the figures of document 01: each is computed by the services and printed beside what the document says, in words or by a
+// rule, with the verdict of their comparison behind it. A star before a line marks a figure that document 01 marks with one.
+mod numbers;
+mod verdict;
+
+fn main() {
+    numbers::numbers();
+    numbers::forms();
+}
