@@ -1,9 +1,16 @@
 // Works through the figures of document 01: each is computed by the services and printed beside what the document says, in words or by a
 // rule, with the verdict of their comparison behind it. A star before a line marks a figure that document 01 marks with one.
+mod case_a;
 mod numbers;
+mod programs;
 mod verdict;
 
 fn main() {
     numbers::numbers();
     numbers::forms();
+    programs::builds();
+    programs::named();
+    programs::free();
+    case_a::words();
+    case_a::strangers();
 }
