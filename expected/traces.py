@@ -79,7 +79,7 @@ def trace(t, first, last=None, want=0):
 def cut(t, first, last, want=0):
     e, words = cut_of(part(t), first, last)
     assert e == want, (t, first, last, e, want)
-    out.append(f"cut {many(t)} from {first} to {last}: number {e}, count {len(words)}:" + hexes(words))
+    out.append(f"cut {many(t)} {first} {last}: number {e}, count {len(words)}" + hexes(words))
 
 # ---- the named programs
 SEVEN = built(7, 3, 2, 1, 0)

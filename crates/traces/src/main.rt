@@ -365,16 +365,12 @@ fn cuts(row: &[u32]) {
 }
 
 fn cut(row: &[u32], call: [u32; 4]) {
+    io::write_all(1, b"cut");
+    numbers(call);
     let mut number = UNSET;
     let taken = sequencer::cut(part(row, call[0], call[1]), call[2], call[3], &mut number);
-    io::write_all(1, b"cut");
-    tell(b" ", call[0]);
-    tell(b" ", call[1]);
-    tell(b" from ", call[2]);
-    tell(b" to ", call[3]);
     tell(b": number ", number);
     show(b", count ", taken.len() as u64);
-    io::write_all(1, b":");
     words(taken);
 }
 
