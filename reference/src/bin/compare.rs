@@ -14,6 +14,10 @@ const LONGEST: usize = 512;
 const MOST_STEPS: u32 = 507;
 const FORM_BYTES: usize = 64;
 
+/// The steps of an edge tape, the first at bit 0: after them an exponent is 2^62 or −2^62.
+const EDGE: u128 = 0x2_AAAA_AAA7_D58D_13BC_556D_22A7;
+const EDGE_STEPS: u32 = 98;
+
 const GENERATOR_MODULUS: u64 = 2_147_483_647;
 const CHECKSUM_MODULUS: u64 = 4_294_967_291;
 const PAYLOADS: u32 = 1 << 28;
@@ -210,25 +214,26 @@ impl Tape {
 
     /// A tape with a header of variant, p, r, k and drawn steps.
     fn write(&mut self, header: [u32; 4], d: &Draws) {
-        let steps = match d[11] % 4 {
-            0 => MOST_STEPS,
-            1 => d[12] % 30,
+        let kinds = d[14] % 4;
+        let steps = match (kinds, d[11] % 4) {
+            (3, _) => EDGE_STEPS - 1 + d[12] % 3,
+            (_, 0) => MOST_STEPS,
+            (_, 1) => d[12] % 30,
             _ => d[12] % (MOST_STEPS + 1),
-        };
-        let kinds = match d[14] % 3 {
-            0 => 12,
-            1 => 24,
-            _ => 30,
         };
         self.length = steps as usize + 5;
         for (place, payload) in header.into_iter().enumerate() {
             self.row[place] = header_word(place as u32, payload);
         }
-        let drawn = stream(d[13]).map(|x| step(x % kinds));
-        self.row[4..self.length - 1]
-            .iter_mut()
-            .zip(drawn)
-            .for_each(|(word, drawn)| *word = drawn);
+        let words = self.row[4..self.length - 1].iter_mut();
+        for ((number, word), x) in words.enumerate().zip(stream(d[13])) {
+            *word = match kinds {
+                0 => step(x % 12),
+                1 => step(x % 24),
+                2 => step(x % 30),
+                _ => edge_step(number, d[13]),
+            };
+        }
         self.end();
     }
 
@@ -242,7 +247,9 @@ impl Tape {
         match d[0] % 32 {
             0 => self.row[place] = full(d[2], d[3]),
             1 | 2 => self.row[place] ^= 1 << (d[2] % 32),
-            3 | 4 if steps > 0 => self.row[4 + d[1] as usize % steps] = step(d[2] % 30),
+            3 | 4 if steps > 0 => {
+                self.row[4 + d[1] as usize % steps] = (5 + d[2] % 3) * PAYLOADS + d[3] % 20;
+            }
             5 | 6 => self.change_header(d),
             7 => self.length -= 1,
             8 => self.length += 1,
@@ -267,6 +274,13 @@ impl Tape {
         };
         self.row[place as usize] = header_word(place, payload);
     }
+}
+
+/// Mul 0 1 where a bit is set, else mul 1 0; or both with div, so that the exponent is negative.
+fn edge_step(number: usize, way: u32) -> u32 {
+    let kind = if way.is_multiple_of(2) { 5 } else { 6 };
+    let pair = if EDGE >> number & 1 == 1 { 4 } else { 1 };
+    kind * PAYLOADS + pair
 }
 
 fn header_word(place: u32, payload: u32) -> u32 {
