@@ -1,0 +1,51 @@
+-- `byte_sum` is safe and ends: the index stays below the row's length.
+use Prim.Native.Nat.{_-_, _≤_}
+use borrow.Author.Needs.{needs}
+use lib.ListN.{length}
+use Rattle.compare.proofs.draws.byte_sum.Statement.{statement}
+use Rattle.compare.proofs.draws.byte_sum.Tie as tie
+
+abbrev Inv-loop : tie.InvT-loop
+Inv-loop row total₀ i₀ total i = i ≤ length row
+
+abbrev μ-loop : tie.MeasureT-loop
+μ-loop row total₀ i₀ total i = length row - i
+
+loop-holds : tie.Need-loop-holds Inv-loop μ-loop
+loop-holds c = search needs
+
+shared-slice-read-word : tie.Need-shared-slice-read-word Inv-loop μ-loop
+shared-slice-read-word c = search needs
+
+word-requires : tie.Need-word-requires Inv-loop μ-loop
+word-requires c κs = search needs
+
+mixed-requires : tie.Need-mixed-requires Inv-loop μ-loop
+mixed-requires c κs = search needs
+
+add-i : tie.Need-add-i Inv-loop μ-loop
+add-i c = search needs
+
+loop-less : tie.Need-loop-less Inv-loop μ-loop
+loop-less c = search needs
+
+loop-again : tie.Need-loop-again Inv-loop μ-loop
+loop-again c = search needs
+
+returns : tie.Need-returns Inv-loop μ-loop
+returns c = search needs
+
+pub byte-sum-spec : {M : Type 1} → statement M
+byte-sum-spec =
+    tie.close
+    (tie.spec
+    Inv-loop
+    μ-loop
+    loop-holds
+    shared-slice-read-word
+    word-requires
+    mixed-requires
+    add-i
+    loop-less
+    loop-again
+    returns)
