@@ -132,7 +132,7 @@ fn cut(tape: &[u32], first: u32, last: u32) {
     end();
 }
 
-// The steps that a tape of this length has.
+// The steps that a tape of this length would have; no row has more than 513 words.
 fn steps(tape: &[u32]) -> u32
     ensures { λ n. ⌜ n ≤ 508 ⌝ }
 {

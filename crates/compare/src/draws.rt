@@ -18,10 +18,6 @@ pub(crate) fn draws(before: u32) -> [u32; 16] {
     block
 }
 
-fn next(x: u32) -> u32 {
-    ((x as u64) * 48271 % MODULUS) as u32
-}
-
 // The next number of a stream.
 pub(crate) fn scatter(x: u32) -> u32 {
     ((x as u64) * 16807 % MODULUS) as u32
@@ -52,6 +48,10 @@ pub(crate) fn byte_sum(row: &[u8]) -> u64 {
         i += 1;
     }
     total
+}
+
+fn next(x: u32) -> u32 {
+    ((x as u64) * 48271 % MODULUS) as u32
 }
 
 fn mixed(total: u64, w: u32) -> u64 {

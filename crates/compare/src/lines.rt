@@ -21,17 +21,6 @@ pub(crate) fn show_signed(text: &[u8], n: i64) {
     io::print_decimal(1, magnitude(n));
 }
 
-fn magnitude(n: i64) -> u64 {
-    if n < 0 {
-        return (-1 - n) as u64 + 1;
-    }
-    n as u64
-}
-
-pub(crate) fn end() {
-    io::write_all(1, b"\n");
-}
-
 // An answer without the end of its line.
 pub(crate) fn told(answer: Answer) {
     match answer {
@@ -42,4 +31,15 @@ pub(crate) fn told(answer: Answer) {
 
 pub(crate) fn refused(e: Refusal) {
     show(b": refused ", refusal::number(e) as u64);
+}
+
+pub(crate) fn end() {
+    io::write_all(1, b"\n");
+}
+
+fn magnitude(n: i64) -> u64 {
+    if n < 0 {
+        return (-1 - n) as u64 + 1;
+    }
+    n as u64
 }

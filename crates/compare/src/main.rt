@@ -8,7 +8,7 @@
 // 1. tapes, `choose` and `make`: p, r, k, a variant and a row of 513 words from a stream. In three of four rounds build is called on the
 //    first words of the row. Where it answers, it is called again for a row of just that length or of a word less; where it is refused, a
 //    tape with the same p, r, k and variant is written by hand. In the other rounds a free tape is.
-// 2. tapes, `change`: in some rounds a change of the tape.
+// 2. changes, `change`: in some rounds a change of the tape.
 // 3. calls, `powers`: check, load twice, run from end to end, run between two positions and back.
 // 4. calls, `exponents`: trace twice and cut twice. The draws from 9 on are for the listing.
 // 5. values, `numbers`: fibonacci, hofstadter, places, and number on the row that places leaves.
@@ -16,19 +16,19 @@
 //
 // The comments in these modules say which draw of its block decides what.
 mod calls;
+mod changes;
 mod draws;
 mod lines;
 mod tapes;
 mod values;
+mod words;
 
 use draws::draws;
+use tapes::ROW_WORDS;
 
 const ROUNDS: u32 = 400;
 
 const SEED: u32 = 359179;
-
-// A word more than the longest tape has.
-const ROW_WORDS: usize = 513;
 
 fn main() {
     let mut x = SEED;
@@ -46,7 +46,7 @@ fn round(before: u32) -> u32 {
     let mut row = [0u32; ROW_WORDS];
     let chosen = tapes::choose(making);
     let made = tapes::make(&mut row, chosen, making);
-    let length = tapes::change(&mut row, made, changing);
+    let length = changes::change(&mut row, made, changing);
     let after = on_tape(tapes::first(&row, length), chosen, changing[15]);
     on_numbers(after)
 }
@@ -56,7 +56,7 @@ fn on_tape(tape: &[u32], chosen: tapes::Chosen, before: u32) -> u32 {
     let fourth = draws(third[15]);
     calls::powers(tape, chosen, third);
     calls::exponents(tape, fourth);
-    // The listing's line comes here.
+    // The listing's line comes here. It has the draws of `fourth` from 9 on.
     fourth[15]
 }
 

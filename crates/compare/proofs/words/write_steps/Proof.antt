@@ -3,8 +3,8 @@ use mathlib.Core.Path.{_≡_}
 use Prim.Native.Nat.{_-_, _≤_}
 use borrow.Author.Needs.{needs}
 use lib.ListN.{length}
-use Rattle.compare.proofs.tapes.write_steps.Statement.{statement}
-use Rattle.compare.proofs.tapes.write_steps.Tie as tie
+use Rattle.compare.proofs.words.write_steps.Statement.{statement}
+use Rattle.compare.proofs.words.write_steps.Tie as tie
 
 abbrev Inv-loop : tie.InvT-loop
 Inv-loop row₀ count seed kinds x₀ i₀ row x i = (i ≤ count) × (length row ≡ length row₀)
