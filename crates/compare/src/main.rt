@@ -10,7 +10,7 @@
 //    tape with the same p, r, k and variant is written by hand. In the other rounds a free tape is.
 // 2. changes, `change`: in some rounds a change of the tape.
 // 3. calls, `powers`: check, load twice, run from end to end, run between two positions and back.
-// 4. calls, `exponents`: trace twice and cut twice. The draws from 9 on are for the listing.
+// 4. calls, `exponents`: trace twice and cut twice; then text, `list`: the listing of the tape's bytes.
 // 5. values, `numbers`: fibonacci, hofstadter, places, and number on the row that places leaves.
 // 6. values, `lists`: number on a drawn list, inverse, height twice.
 //
@@ -20,6 +20,7 @@ mod changes;
 mod draws;
 mod lines;
 mod tapes;
+mod text;
 mod values;
 mod words;
 
@@ -56,7 +57,7 @@ fn on_tape(tape: &[u32], chosen: tapes::Chosen, before: u32) -> u32 {
     let fourth = draws(third[15]);
     calls::powers(tape, chosen, third);
     calls::exponents(tape, fourth);
-    // The listing's line comes here. It has the draws of `fourth` from 9 on.
+    text::list(tape, fourth);
     fourth[15]
 }
 

@@ -213,7 +213,7 @@ fn byte(b: u8) {
     show(b" ", b as u64);
 }
 
-fn fill(row: &mut [u8], seed: u32) {
+pub(crate) fn fill(row: &mut [u8], seed: u32) {
     let mut x = seed;
     let mut i: usize = 0;
     while i < row.len() {
@@ -230,7 +230,7 @@ fn put(list: &mut [u8], i: usize, b: u8) {
 }
 
 // The list's first bytes; where it hasn't so many, all of it.
-fn first(list: &[u8], length: usize) -> &[u8] {
+pub(crate) fn first(list: &[u8], length: usize) -> &[u8] {
     if list.len() < length {
         return list;
     }

@@ -79,7 +79,7 @@ fn round(out: &mut String, state: &mut u32) {
     powers(out, tape, call, &draws(state));
     let fourth = draws(state);
     exponents(out, tape, &fourth);
-    // The listing's line comes here. It has the draws of the fourth block from 9 on.
+    list(out, tape, &fourth);
     numbers(out, &draws(state));
     lists(out, &draws(state));
 }
@@ -395,6 +395,41 @@ fn cut(out: &mut String, tape: &[u32], first: u32, last: u32) {
         format_args!("cut {first} {last}"),
         format_args!("{number}, {} words {}", part.len(), sum(part)),
     );
+}
+
+/// The listing of the tape's bytes; in one of eight cases the last byte is left out.
+fn list(out: &mut String, tape: &[u32], d: &Draws) {
+    let mut bytes: Vec<u8> = tape.iter().flat_map(|word| word.to_le_bytes()).collect();
+    if d[9].is_multiple_of(8) {
+        bytes.pop();
+    }
+    let room = match d[10] % 8 {
+        0 => d[11] % 600,
+        1 => d[11] % 6138,
+        _ => 6137,
+    } as usize;
+    let mut row: Vec<u8> = stream(d[12]).take(6137).map(|x| (x % 96) as u8).collect();
+    let text = services::listing(&bytes);
+    let (number, written) = if room < text.len() {
+        (5, 0)
+    } else {
+        row[..text.len()].copy_from_slice(&text);
+        (refusal_in(&text), text.len())
+    };
+    line(
+        out,
+        format_args!("listing {} into {room}", bytes.len()),
+        format_args!("{number}, {written} bytes, row {}", byte_sum(&row)),
+    );
+}
+
+/// The number in a listing's line "refused N", and 0 in any other.
+fn refusal_in(text: &[u8]) -> u32 {
+    std::str::from_utf8(text)
+        .ok()
+        .and_then(|line| line.strip_prefix("refused "))
+        .and_then(|number| number.trim_end().parse().ok())
+        .unwrap_or(0)
 }
 
 fn count(tape: &[u32]) -> u32 {
