@@ -27,7 +27,7 @@ const CASE_A: [[u32; 4]; 16] = [
 ];
 
 // Kinds 0 and 8 to 14; then another format, bits without a meaning, a target that is the source, a swp whose target is the larger.
-const STRANGERS: [u32; 13] = [
+const MEANINGLESS: [u32; 13] = [
     0x00000004,
     0x80000004,
     0x90000004,
@@ -64,10 +64,10 @@ fn word(place: usize, computed: u32, stated: u32) {
     verdict(computed == stated);
 }
 
-pub(crate) fn strangers() {
+pub(crate) fn meaningless() {
     let mut i: usize = 0;
     while i < 13 {
-        meaning(STRANGERS[i], 0, 0, 0);
+        meaning(MEANINGLESS[i], 0, 0, 0);
         i += 1;
     }
 }

@@ -14,6 +14,6 @@ fn main() {
     programs::named();
     programs::free();
     case_a::words();
-    case_a::strangers();
+    case_a::meaningless();
     figure7::rows();
 }

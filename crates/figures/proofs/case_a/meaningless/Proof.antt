@@ -1,8 +1,8 @@
--- `case_a::strangers` is safe and ends: the index stays below the number of words.
+-- `case_a::meaningless` is safe and ends: the index stays below the number of words.
 use Prim.Native.Nat.{_-_, _≤_}
 use borrow.Author.Needs.{needs}
-use Rattle.figures.proofs.case_a.strangers.Statement.{statement}
-use Rattle.figures.proofs.case_a.strangers.Tie as tie
+use Rattle.figures.proofs.case_a.meaningless.Statement.{statement}
+use Rattle.figures.proofs.case_a.meaningless.Tie as tie
 
 abbrev Inv-loop : tie.InvT-loop
 Inv-loop i₀ i = i ≤ 13
@@ -34,8 +34,8 @@ loop-again c = search needs
 returns : tie.Need-returns Inv-loop μ-loop
 returns c = search needs
 
-pub strangers-spec : {M : Type 1} → statement M
-strangers-spec =
+pub meaningless-spec : {M : Type 1} → statement M
+meaningless-spec =
     tie.close
     (tie.spec
     Inv-loop
