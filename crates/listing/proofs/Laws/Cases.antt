@@ -7,12 +7,11 @@ use native.Mathlib.Omega.{arith}
 use lib.ListN.{length, drop}
 use borrow.Author.Tests.{lt-ltb, le-ltb, eq-eqb, ne-eqb}
 use Rattle.refusal.specs.Outcomes.{Outcome, refused, answered, gives, passes, row-kept, row-written}
-use Rattle.refusal.proofs.Laws.Rules.{answer-is}
 use Rattle.tape.specs.declared.Header.{Header}
-use Rattle.tape.specs.Layout.{headerOf, stepCount, stepsOf}
-use Rattle.program.specs.Services.{checkRules, acceptOutcome}
+use Rattle.tape.specs.Layout.{headerOf, stepsOf}
+use Rattle.program.specs.Services.{acceptOutcome}
 use Rattle.program.proofs.Laws.Building.{short, enough}
-use Rattle.program.proofs.Laws.Checking.{accepted}
+use Rattle.program.proofs.Laws.Checking.{accepted, header-is}
 use Rattle.listing.specs.declared.Listed.{Listed}
 use Rattle.listing.specs.Listing.{tapeOf, noTape, listingRules, listingOutcome, listingNumber, linesFor, listingOf, listedAs, listingAnswer, listingRow}
 
@@ -70,11 +69,5 @@ listed-as l e f = ap₂ (λ (w n : ℕ). record { written = w; number = n }) e f
 -- ---- an accepted tape
 
 module _ (tape : List ℕ) (h : Header) (e : acceptOutcome tape ≡ answered h) where
-  pub header-is : h ≡ headerOf tape
-  header-is = answer-is (checkRules tape) (headerOf tape) e
-
-  pub accepted-steps : h .steps ≡ stepCount tape
-  accepted-steps = ap (λ (g : Header). g .steps) header-is
-
   pub accepted-variant : h .variant ≤ 3
-  accepted-variant = rw header-is (accepted (headerOf tape) tape e .variant)
+  accepted-variant = rw (header-is tape h e) (accepted (headerOf tape) tape e .variant)

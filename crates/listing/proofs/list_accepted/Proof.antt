@@ -5,8 +5,9 @@ use native.Mathlib.Omega.{arith}
 use borrow.Author.Needs.{needs}
 use Rattle.tape.specs.Layout.{stepsOf}
 use Rattle.listing.specs.Listing.{firstLine, stepLines}
+use Rattle.program.proofs.Laws.Checking.{steps-are}
 use Rattle.listing.proofs.Laws.Remaining.{Remaining, all-left, room-next, after-next}
-use Rattle.listing.proofs.Laws.Cases.{accepted-variant, accepted-steps}
+use Rattle.listing.proofs.Laws.Cases.{accepted-variant}
 use Rattle.listing.proofs.list_accepted.Statement.{statement}
 use Rattle.listing.proofs.list_accepted.Tie as tie
 
@@ -32,7 +33,7 @@ first-line-requires c κs =
 
 step-lines-requires : tie.Need-step-lines-requires
 step-lines-requires c κs =
-    (accepted-steps _ _ (c .before .before .before .before .before .before .before .pre .0), first (c .before .before .before) .room)
+    (steps-are _ _ (c .before .before .before .before .before .before .before .pre .0), first (c .before .before .before) .room)
 
 same-length : tie.Need-same-length
 same-length c = search needs

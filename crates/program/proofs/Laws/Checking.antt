@@ -12,16 +12,16 @@ use borrow.Author.Tests.{ltb-false, lt-ltb, le-ltb, eq-eqb, ne-eqb, not-false}
 use Rattle.refusal.specs.declared.Refusal.the-variants.{Modulus, Order, Exponent, Variant, Room, Mismatch}
 use Rattle.refusal.specs.Refusals.{numberOf}
 use Rattle.refusal.specs.Outcomes.{Rule, refused, answered, outcome, _given-if_, gives, passes, answers, row-written}
-use Rattle.refusal.proofs.Laws.Rules.{passed, andThen}
+use Rattle.refusal.proofs.Laws.Rules.{passed, andThen, answer-is}
 use Rattle.modular.specs.Inverses.{badExponent}
 use Rattle.tape.specs.declared.Header.{Header}
-use Rattle.tape.specs.Layout.{headerOf, isLength, laidOut, readOutcome}
+use Rattle.tape.specs.Layout.{stepCount, headerOf, isLength, laidOut, readOutcome}
 use Rattle.tape.proofs.Laws.Reading.{ReadAs, reading-refused, reading-passed}
 use Rattle.named.specs.Named.{lastVariant, namedWords}
 use Rattle.named.specs.Parameters.{badModulus, badOrder, unnamed}
 use Rattle.named.proofs.Laws.Parameters.{named, named-some, named-most}
 use Rattle.named.proofs.Laws.Named.{named-words-short}
-use Rattle.program.specs.Services.{buildOutcome, buildRow, sameWords, isNamed, builtFor, checkRules}
+use Rattle.program.specs.Services.{buildOutcome, buildRow, sameWords, isNamed, builtFor, checkRules, acceptOutcome}
 use Rattle.program.proofs.Laws.Same.{same-equal}
 
 -- ---- lists of rules
@@ -174,3 +174,12 @@ accepted-named x tape e some =
       exponent = x .0;
       words = same-equal tape (builtFor (headerOf tape)) (not-false _ (s .0));
     }
+
+-- ---- the header of an accepted tape
+
+module _ (tape : List ℕ) (h : Header) (e : acceptOutcome tape ≡ answered h) where
+  pub header-is : h ≡ headerOf tape
+  header-is = answer-is (checkRules tape) (headerOf tape) e
+
+  pub steps-are : h .steps ≡ stepCount tape
+  steps-are = ap (λ (g : Header). g .steps) header-is

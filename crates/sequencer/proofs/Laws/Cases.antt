@@ -10,17 +10,17 @@ use borrow.Author.Tests.{ltb-false, lt-ltb, le-ltb, eq-eqb, ne-eqb}
 use Rattle.refusal.specs.declared.Refusal.the-variants.{Register, Position, Base, Range}
 use Rattle.refusal.specs.Refusals.{numberOf}
 use Rattle.refusal.specs.Outcomes.{Outcome, Rule, refused, answered, outcome, _given-if_, gives, passes, answers}
-use Rattle.refusal.proofs.Laws.Rules.{refused-before, passed-before, answer-is}
+use Rattle.refusal.proofs.Laws.Rules.{refused-before, passed-before}
 use Rattle.refusal.proofs.Laws.Tests.{neither}
 use Rattle.tape.specs.declared.Header.{Header}
-use Rattle.tape.specs.Layout.{headerWords, headerOf, stepCount, stepWords, part, stepsOf}
+use Rattle.tape.specs.Layout.{headerWords, headerOf, stepWords, part, stepsOf}
 use Rattle.tape.proofs.Laws.Rows.{part-inside}
 use Rattle.tape.proofs.Laws.Layout.{laid-out-long}
 use Rattle.machine.specs.Machine.{run, start}
 use Rattle.machine.specs.Exponents.{startExponents, exponentsAt, staysInRange, shiftOutcome}
 use Rattle.named.proofs.Laws.Parameters.{good-modulus}
 use Rattle.program.specs.Services.{checkRules, acceptOutcome}
-use Rattle.program.proofs.Laws.Checking.{accepted}
+use Rattle.program.proofs.Laws.Checking.{accepted, header-is, steps-are}
 use Rattle.sequencer.specs.Services.{badRegister, badRegisters, allowed, badBase, badCut, loadOutcome, runOutcome, runRules, traceOutcome, cutOutcome, cutPart, cutNumber}
 
 -- ---- the tests
@@ -99,14 +99,8 @@ module _ (tape : List ℕ) (n : ℕ) (e : acceptOutcome tape ≡ refused n) wher
 -- ---- accepted
 
 module _ (tape : List ℕ) (h : Header) (e : acceptOutcome tape ≡ answered h) where
-  pub header-is : h ≡ headerOf tape
-  header-is = answer-is (checkRules tape) (headerOf tape) e
-
-  pub steps-are : h .steps ≡ stepCount tape
-  steps-are = ap (λ (g : Header). g .steps) header-is
-
   pub modulus-some : 3 ≤ h .modulus
-  modulus-some = rw header-is (good-modulus _ (accepted (headerOf tape) tape e .modulus) .low)
+  modulus-some = rw (header-is tape h e) (good-modulus _ (accepted (headerOf tape) tape e .modulus) .low)
 
   module _ (a : ℕ) where
     load-rules : loadOutcome tape a
@@ -114,7 +108,7 @@ module _ (tape : List ℕ) (h : Header) (e : acceptOutcome tape ≡ answered h) 
     unfolding loadOutcome
     load-rules =
         passed-before (headerOf tape) (start a) (checkRules tape) _ e
-        ∙ ap (λ (g : Header). outcome ((Register given-if badRegister (g .modulus) a) ∷ (Base given-if badBase g a) ∷ []) (start a)) (sym header-is)
+        ∙ ap (λ (g : Header). outcome ((Register given-if badRegister (g .modulus) a) ∷ (Base given-if badBase g a) ∷ []) (start a)) (sym (header-is tape h e))
 
     pub load-register : badRegister (h .modulus) a ≡ true → loadOutcome tape a ≡ refused (numberOf Register)
     load-register bad = load-rules ∙ gives _ _ _ bad
@@ -139,7 +133,7 @@ module _ (tape : List ℕ) (h : Header) (e : acceptOutcome tape ≡ answered h) 
     unfolding runOutcome runRules
     run-rules =
         passed-before (headerOf tape) (there (headerOf tape)) (checkRules tape) _ e
-        ∙ ap (λ (g : Header). outcome (rules g) (there g)) (sym header-is)
+        ∙ ap (λ (g : Header). outcome (rules g) (there g)) (sym (header-is tape h e))
 
     pub run-register : badRegisters (h .modulus) v ≡ true → runOutcome tape v from goal ≡ refused (numberOf Register)
     run-register bad = run-rules ∙ gives _ _ _ bad
@@ -173,7 +167,7 @@ module _ (tape : List ℕ) (h : Header) (e : acceptOutcome tape ≡ answered h) 
         outcome
         ((Position given-if ltb (g .steps) position) ∷ (Range given-if not (staysInRange (take position (stepsOf tape)) startExponents)) ∷ [])
         (exponentsAt (stepsOf tape) position))
-        (sym header-is)
+        (sym (header-is tape h e))
 
     pub trace-position : h .steps < position → traceOutcome tape position ≡ refused (numberOf Position)
     trace-position past = trace-rules ∙ gives _ _ _ (lt-ltb (h .steps) position past)
@@ -187,7 +181,7 @@ module _ (tape : List ℕ) (h : Header) (e : acceptOutcome tape ≡ answered h) 
     unfolding cutOutcome
     cut-rules =
         passed-before (headerOf tape) (stepWords tape first last) (checkRules tape) _ e
-        ∙ ap (λ (g : Header). outcome ((Position given-if badCut (g .steps) first last) ∷ []) (stepWords tape first last)) (sym header-is)
+        ∙ ap (λ (g : Header). outcome ((Position given-if badCut (g .steps) first last) ∷ []) (stepWords tape first last)) (sym (header-is tape h e))
 
     pub cut-position : badCut (h .steps) first last ≡ true → cutOutcome tape first last ≡ refused (numberOf Position)
     cut-position bad = cut-rules ∙ gives _ _ _ bad
@@ -198,6 +192,6 @@ module _ (tape : List ℕ) (h : Header) (e : acceptOutcome tape ≡ answered h) 
         let low = neither (ltb (h .steps) first || ltb (h .steps) last) (ltb last first) good in
         let high = neither (ltb (h .steps) first) (ltb (h .steps) last) (low .0) in
         let long = laid-out-long tape (accepted (headerOf tape) tape e .laid) in
-        let inside : 4 + last ≤ length tape = omega (arith, steps-are, ltb-false (h .steps) last (high .1)) in
+        let inside : 4 + last ≤ length tape = omega (arith, steps-are tape h e, ltb-false (h .steps) last (high .1)) in
         let order : 4 + first ≤ 4 + last = omega (arith, ltb-false last first (low .1)) in
         cut-rules ∙ passes _ _ _ good ∙ answers _ ∙ ap answered (sym (part-inside tape (4 + first) (4 + last) order inside))

@@ -2,7 +2,8 @@
 use mathlib.Core.Path.{sym, _∙_}
 use native.Mathlib.Omega.{arith}
 use borrow.Author.Needs.{needs}
-use Rattle.sequencer.proofs.Laws.Cases.{steps-are, run-register, run-from, run-goal, run-there}
+use Rattle.program.proofs.Laws.Checking.{steps-are}
+use Rattle.sequencer.proofs.Laws.Cases.{run-register, run-from, run-goal, run-there}
 use Rattle.sequencer.proofs.run_accepted.Statement.{statement}
 use Rattle.sequencer.proofs.run_accepted.Tie as tie
 

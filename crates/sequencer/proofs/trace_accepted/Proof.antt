@@ -1,7 +1,8 @@
 -- `trace_accepted` meets its contract: each return is a case of trace on an accepted tape.
 use mathlib.Core.Path.{sym, _∙_}
 use native.Mathlib.Omega.{arith}
-use Rattle.sequencer.proofs.Laws.Cases.{steps-are, trace-position, trace-there}
+use Rattle.program.proofs.Laws.Checking.{steps-are}
+use Rattle.sequencer.proofs.Laws.Cases.{trace-position, trace-there}
 use Rattle.sequencer.proofs.trace_accepted.Statement.{statement}
 use Rattle.sequencer.proofs.trace_accepted.Tie as tie
 
