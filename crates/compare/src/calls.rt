@@ -38,7 +38,7 @@ pub(crate) fn powers(tape: &[u32], chosen: Chosen, d: [u32; 16]) {
     );
 }
 
-// Draws 0 and 1 decide the second trace's position, 2 to 5 the first cut's, 6 to 8 the second's, whose first isn't above its last.
+// Draws 0 and 1 decide the second trace's position, 2 to 5 the first cut's, 6 and 7 the second's last, which its first is half of.
 pub(crate) fn exponents(tape: &[u32], d: [u32; 16]) {
     let count = steps(tape);
     trace(tape, count);
@@ -49,7 +49,7 @@ pub(crate) fn exponents(tape: &[u32], d: [u32; 16]) {
         position(d[4], d[5], count),
     );
     let last = position(d[6], d[7], count);
-    cut(tape, least(d[8] % 512, last), last);
+    cut(tape, last / 2, last);
 }
 
 fn check(tape: &[u32]) {
@@ -185,13 +185,6 @@ fn register(i: u32, x: u32, fault: u32, p: u32) -> u32 {
         4..=7 => if fault % 4 == i { p } else { unit(x, p) },
         _ => unit(x, p),
     }
-}
-
-fn least(x: u32, y: u32) -> u32 {
-    if x < y {
-        return x;
-    }
-    y
 }
 
 // A text and four registers behind it.

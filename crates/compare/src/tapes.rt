@@ -154,7 +154,10 @@ fn build(row: &mut [u32], room: usize, chosen: Chosen) -> usize {
     told(answer);
     show(b", row ", sum(row));
     end();
-    words_of(answer)
+    match answer {
+        Answer::Value(n) => n as usize,
+        Answer::Refused(_) => 0,
+    }
 }
 
 fn show_call(chosen: Chosen, room: usize) {
@@ -163,13 +166,6 @@ fn show_call(chosen: Chosen, room: usize) {
     blank(chosen.k);
     blank(chosen.variant);
     show(b" into ", room as u64);
-}
-
-fn words_of(answer: Answer) -> usize {
-    match answer {
-        Answer::Value(n) => n as usize,
-        Answer::Refused(_) => 0,
-    }
 }
 
 // Build for a row that the program just fills, or that is a word short.

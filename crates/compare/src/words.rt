@@ -130,12 +130,6 @@ fn step(i: usize, x: u32, seed: u32, kinds: u32) -> u32 {
 
 // STEPS has mul 1 0 at 0 and mul 0 1 at 3, and div 1 0 and div 0 1 twelve places behind them.
 fn edge_step(i: usize, way: u32) -> u32 {
-    STEPS[(way % 2 * 12 + edge_bit(i) % 2 * 3) as usize]
-}
-
-fn edge_bit(i: usize) -> u32 {
-    if EDGE_STEPS <= i {
-        return 0;
-    }
-    EDGE[i / 32] >> ((i % 32) as u32)
+    let bit = (EDGE[i % 128 / 32] >> ((i % 32) as u32)) % 2;
+    STEPS[(way % 2 * 12 + bit * 3) as usize]
 }

@@ -350,7 +350,7 @@ fn exponents(out: &mut String, tape: &[u32], d: &Draws) {
         position(d[4], d[5], count),
     );
     let last = position(d[6], d[7], count);
-    cut(out, tape, last.min(d[8] % 512), last);
+    cut(out, tape, last / 2, last);
 }
 
 fn load(out: &mut String, tape: &[u32], base: u32) {
