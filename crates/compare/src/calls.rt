@@ -24,10 +24,10 @@ pub(crate) fn powers(tape: &[u32], chosen: Chosen, d: [u32; 16]) {
     load(tape, base(d[2], d[3], p, chosen.r));
     end_to_end(tape, a, d[4]);
     let registers = Registers {
-        c: register(0, d[5], d[9], p),
-        d: register(1, d[6], d[9], p),
-        e: register(2, d[7], d[9], p),
-        f: register(3, d[8], d[9], p),
+        c: register(d[5], p, d[9], 0, 1),
+        d: register(d[6], p, d[9], 2, 3),
+        e: register(d[7], p, d[9], 4, 5),
+        f: register(d[8], p, d[9], 6, 7),
     };
     let count = steps(tape);
     there_and_back(
@@ -178,13 +178,15 @@ fn allowed(x: u32, p: u32, r: u32) -> u32 {
     modular::power(x, (p - 1) / r, p)
 }
 
-// In one of four cases a register is 0 or p.
-fn register(i: u32, x: u32, fault: u32, p: u32) -> u32 {
-    match fault % 32 {
-        0..=3 => if fault % 4 == i { 0 } else { unit(x, p) },
-        4..=7 => if fault % 4 == i { p } else { unit(x, p) },
-        _ => unit(x, p),
+// From 1 to p - 1, but for two of 32 faults: 0 at the first, p at the second.
+fn register(x: u32, p: u32, fault: u32, first: u32, second: u32) -> u32 {
+    if fault % 32 == first {
+        return 0;
     }
+    if fault % 32 == second {
+        return p;
+    }
+    unit(x, p)
 }
 
 // A text and four registers behind it.

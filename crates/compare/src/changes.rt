@@ -13,16 +13,16 @@ use crate::words::put_step;
 
 // The changed tape's length. Draw 0 decides the change, 1 where it is, 2 and 3 what is put there.
 pub(crate) fn change(row: &mut [u32], length: usize, d: [u32; 16]) -> usize {
-    match d[0] % 32 {
+    match d[0] % 24 {
         0 => replaced(row, length, d[1], full(d[2], d[3])),
-        1 | 2 => flipped(row, length, d[1], d[2]),
-        3 | 4 => other_step(row, length, d[1], d[2], d[3]),
-        5 | 6 => other_header(row, length, d[1], d[2], d[3]),
-        7 => less(length),
-        8 => more(length),
-        9 => HEADER_WORDS,
-        10 => ROW_WORDS,
-        11 | 12 => without_last_step(row, length),
+        1 => flipped(row, length, d[1], d[2]),
+        2 => other_step(row, length, d[1], d[2], d[3]),
+        3 => other_header(row, length, d[1], d[2], d[3]),
+        4 => without_last_step(row, length),
+        5 => less(length),
+        6 => more(length),
+        7 => HEADER_WORDS,
+        8 => ROW_WORDS,
         _ => length,
     }
 }

@@ -244,21 +244,21 @@ impl Tape {
 
     fn change(&mut self, d: &Draws) {
         let (place, steps) = (d[1] as usize % self.length, self.steps());
-        match d[0] % 32 {
+        match d[0] % 24 {
             0 => self.row[place] = full(d[2], d[3]),
-            1 | 2 => self.row[place] ^= 1 << (d[2] % 32),
-            3 | 4 if steps > 0 => {
+            1 => self.row[place] ^= 1 << (d[2] % 32),
+            2 if steps > 0 => {
                 self.row[4 + d[1] as usize % steps] = (5 + d[2] % 3) * PAYLOADS + d[3] % 20;
             }
-            5 | 6 => self.change_header(d),
-            7 => self.length -= 1,
-            8 => self.length += 1,
-            9 => self.length = 4,
-            10 => self.length = ROW_WORDS,
-            11 | 12 if steps > 0 => {
+            3 => self.change_header(d),
+            4 if steps > 0 => {
                 self.length -= 1;
                 self.end();
             }
+            5 => self.length -= 1,
+            6 => self.length += 1,
+            7 => self.length = 4,
+            8 => self.length = ROW_WORDS,
             _ => {}
         }
     }
@@ -332,7 +332,7 @@ fn powers(out: &mut String, tape: &[u32], call: Call, d: &Draws) {
     let mut registers = [d[5], d[6], d[7], d[8]].map(|x| unit(x, call.p));
     let fault = (d[9] % 32) as usize;
     if fault < 8 {
-        registers[fault % 4] = if fault < 4 { 0 } else { call.p };
+        registers[fault / 2] = if fault.is_multiple_of(2) { 0 } else { call.p };
     }
     let (from, to) = (position(d[10], d[11], count), position(d[12], d[13], count));
     let after = run(out, tape, registers, from, to).unwrap_or(registers);
