@@ -1,5 +1,5 @@
 -- Chains and rewinds exist: for each a list of runs, forward, backward and refused, computed from the definitions.
-use mathlib.Core.Path.{refl}
+use mathlib.Core.Path.{_≡_, refl}
 use mathlib.Core.Logic.{inl, inr}
 use mathlib.Core.List.{List, [], _∷_}
 use Prim.Native.Nat.{ℕ, _≤_, _<_}
@@ -22,47 +22,50 @@ use Rattle.named.specs.Named.{basicSteps, dualSteps, namedSteps, namedWords}
 use Rattle.named.specs.Parameters.{badModulus, badOrder}
 use Rattle.program.specs.Services.{sameWords, checkRules}
 use Rattle.sequencer.specs.Services.{badRegister, badRegisters, allowed, badBase, loadOutcome, runRules, runOutcome}
-use Rattle.sequencer.specs.Lists.{Request, performed}
+use Rattle.sequencer.specs.Lists.{Request, afterAll, performed}
 use Rattle.sequencer.specs.Demand.{AllEndToEnd, Chain, Returns, Rewind}
 
--- ---- a chain: p = 7, r = 3, k = 2, a = 2
+-- ---- a chain: p = 11, r = 5, k = 2, a = 4; the inverse of k is 3
 
 abbrev pub figure-2 : List ℕ
-figure-2 = namedWords 7 3 2 1
+figure-2 = namedWords 11 5 2 1
 
 abbrev pub figure-4 : List ℕ
-figure-4 = namedWords 7 3 2 2
+figure-4 = namedWords 11 5 2 2
 
--- forward by Figure 2; refused, an empty tape; backward by Figure 4; refused, a position above the 19 steps; forward by Figure 2
+-- forward by Figure 2; refused, an empty tape; backward by Figure 4; refused, a position above the 23 steps; backward by Figure 2
 abbrev pub chained : List Request
 chained =
-    record { tape = figure-2; from = 0; goal = 19 }
+    record { tape = figure-2; from = 0; goal = 23 }
     ∷ record { tape = []; from = 0; goal = 0 }
-    ∷ record { tape = figure-4; from = 16; goal = 0 }
-    ∷ record { tape = figure-2; from = 0; goal = 20 }
-    ∷ record { tape = figure-2; from = 0; goal = 19 }
+    ∷ record { tape = figure-4; from = 21; goal = 0 }
+    ∷ record { tape = figure-2; from = 0; goal = 24 }
+    ∷ record { tape = figure-2; from = 23; goal = 0 }
     ∷ []
 
-pub chain-exists : Chain 7 3 2 chained (start 2)
-unfolding wordsOf encoded stepWord namedSteps basicSteps dualSteps basic dual ascend back opposite pad zeckendorf greedy height firstFrom reaches lucas fib inverse greatest decoded headingIn actionIn swapIn outcome checkRules isLength isHeader isFreeOrNamed allSteps isEnd laidOut badModulus isPrime badOrder badExponent gcd sameWords badRegister badRegisters allowed badBase loadOutcome runRules runOutcome run doAll undoAll apply times remainder performed AllEndToEnd
-chain-exists =
-    record {
-      tape = figure-4;
-      accepted = refl;
-      modulus = refl;
-      loaded = refl;
-      power = refl;
-      links = (
-        record { accepted = refl; named = refl; modulus = refl; order = refl; ends = inl (refl, refl) },
+-- E is 2 × 3 × 3 modulo 5, and 4^3 is 9 modulo 11
+pub chain-exists : Chain 11 5 4 chained (start 4) × (afterAll chained (start 4) ≡ start 9)
+unfolding afterAll wordsOf encoded stepWord namedSteps basicSteps dualSteps basic dual ascend back opposite pad zeckendorf greedy height firstFrom reaches lucas fib inverse greatest decoded headingIn actionIn swapIn outcome checkRules isLength isHeader isFreeOrNamed allSteps isEnd laidOut badModulus isPrime badOrder badExponent gcd sameWords badRegister badRegisters allowed badBase loadOutcome runRules runOutcome run doAll undoAll apply times remainder performed AllEndToEnd
+chain-exists = (
+  record {
+    tape = figure-4;
+    accepted = refl;
+    modulus = refl;
+    loaded = refl;
+    power = refl;
+    links = (
+      record { accepted = refl; named = refl; modulus = refl; order = refl; ends = inl (refl, refl) },
+      (
+        record { accepted = refl; named = refl; modulus = refl; order = refl; ends = inr (refl, refl) },
         (
           record { accepted = refl; named = refl; modulus = refl; order = refl; ends = inr (refl, refl) },
-          (
-            record { accepted = refl; named = refl; modulus = refl; order = refl; ends = inl (refl, refl) },
-            tt,
-          ),
+          tt,
         ),
-      );
-    }
+      ),
+    );
+  },
+  refl,
+)
 
 -- ---- a rewind: a hand-made program of three steps, from position 1 and registers (2, 3, 4, 5)
 
