@@ -172,8 +172,6 @@ trace(LIMIT, AT + 5, None, 10)
 trace(EMPTY, 0)
 trace(EMPTY, 1, None, 10)
 trace(SEVEN, TOP, None, 10)
-for n in (0, TOP):
-    for t, e in BAD: trace(t, n, None, e)
 for words, at in TAILS:
     stretches(LIMIT[0] + 4 + AT, words)
     z = [outside(e) for e in all_exponents(part(LIMIT)[4:-1])]
@@ -188,8 +186,12 @@ for i, j in ((99, 102), (506, 507)): cut(GROWTH, i, j)
 for i, j in ((1, 0), (19, 0), (19, 18), (0, 20), (19, 20), (20, 20), (20, 19), (21, 20), (0, TOP), (TOP, 0), (TOP, TOP)):
     cut(SEVEN, i, j, 10)
 for i, j in ((0, 1), (1, 0), (1, 1)): cut(EMPTY, i, j, 10)
+
+# ---- both refuse
 for n in (0, TOP):
-    for t, e in BAD: cut(t, n, n, e)
+    for t, e in BAD:
+        trace(t, n, None, e)
+        cut(t, n, n, e)
 cut(SEVEN, 0, 19)
 
 if __name__ == "__main__":

@@ -116,7 +116,7 @@ const TAILS: [[u32; 6]; 15] = [
 const TAILED: [u32; 4] = [4800, 4913, 105, 108];
 
 // A row for each tape that is traced: the tape, and the first and the last position.
-const TRACES: [[u32; 4]; 56] = [
+const TRACES: [[u32; 4]; 34] = [
     // every position, and 10 past the last
     [0, 24, 0, 20],
     // both ends and the middle, where basic and dual change sides
@@ -158,34 +158,10 @@ const TRACES: [[u32; 4]; 56] = [
     // 10
     [4920, 4925, 0, 1],
     [0, 24, 4294967295, 4294967295],
-    // check's refusals: 6 five times, 7, 4, 1, 2, 3, 8
-    [0, 0, 0, 0],
-    [0, 4, 0, 0],
-    [3200, 3713, 0, 0],
-    [24, 0, 0, 0],
-    [0, 4294967295, 0, 0],
-    [4925, 4930, 0, 0],
-    [4930, 4935, 0, 0],
-    [4935, 4940, 0, 0],
-    [4940, 4945, 0, 0],
-    [4945, 4950, 0, 0],
-    [4950, 4955, 0, 0],
-    // and the same before 10
-    [0, 0, 4294967295, 4294967295],
-    [0, 4, 4294967295, 4294967295],
-    [3200, 3713, 4294967295, 4294967295],
-    [24, 0, 4294967295, 4294967295],
-    [0, 4294967295, 4294967295, 4294967295],
-    [4925, 4930, 4294967295, 4294967295],
-    [4930, 4935, 4294967295, 4294967295],
-    [4935, 4940, 4294967295, 4294967295],
-    [4940, 4945, 4294967295, 4294967295],
-    [4945, 4950, 4294967295, 4294967295],
-    [4950, 4955, 4294967295, 4294967295],
 ];
 
 // A row for each call of cut: the tape, first and last.
-const CUTS: [[u32; 4]; 52] = [
+const CUTS: [[u32; 4]; 29] = [
     // whole
     [0, 24, 0, 19],
     [800, 864, 0, 59],
@@ -221,6 +197,10 @@ const CUTS: [[u32; 4]; 52] = [
     [4920, 4925, 0, 1],
     [4920, 4925, 1, 0],
     [4920, 4925, 1, 1],
+];
+
+// A row for each tape that both refuse: the tape and a position, twice.
+const REFUSED: [[u32; 4]; 22] = [
     // check's refusals: 6 five times, 7, 4, 1, 2, 3, 8
     [0, 0, 0, 0],
     [0, 4, 0, 0],
@@ -245,8 +225,6 @@ const CUTS: [[u32; 4]; 52] = [
     [4940, 4945, 4294967295, 4294967295],
     [4945, 4950, 4294967295, 4294967295],
     [4950, 4955, 4294967295, 4294967295],
-    // whole once more: the refused cuts left the tape as it was
-    [0, 24, 0, 19],
 ];
 
 fn main() {
@@ -256,6 +234,9 @@ fn main() {
     traces(&row);
     tails(&mut row);
     cuts(&row);
+    refusals(&row);
+    // whole once more: the refused cuts left the tape as it was
+    cut(&row, CUTS[0]);
 }
 
 fn builds(row: &mut [u32]) {
@@ -316,7 +297,7 @@ fn fill(row: &mut [u32], begin: u32, end: u32, call: [u32; 6]) {
 
 fn traces(row: &[u32]) {
     let mut i: usize = 0;
-    while i < 56 {
+    while i < 34 {
         trace_row(row, TRACES[i]);
         i += 1;
     }
@@ -358,8 +339,17 @@ fn tails(row: &mut [u32]) {
 
 fn cuts(row: &[u32]) {
     let mut i: usize = 0;
-    while i < 52 {
+    while i < 29 {
         cut(row, CUTS[i]);
+        i += 1;
+    }
+}
+
+fn refusals(row: &[u32]) {
+    let mut i: usize = 0;
+    while i < 22 {
+        trace_row(row, REFUSED[i]);
+        cut(row, REFUSED[i]);
         i += 1;
     }
 }

@@ -5,10 +5,10 @@ use Rattle.traces.proofs.cuts.Statement.{statement}
 use Rattle.traces.proofs.cuts.Tie as tie
 
 abbrev Inv-loop : tie.InvT-loop
-Inv-loop row i₀ i = i ≤ 52
+Inv-loop row i₀ i = i ≤ 29
 
 abbrev μ-loop : tie.MeasureT-loop
-μ-loop row i₀ i = 52 - i
+μ-loop row i₀ i = 29 - i
 
 loop-holds : tie.Need-loop-holds Inv-loop μ-loop
 loop-holds c = search needs

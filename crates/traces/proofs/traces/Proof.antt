@@ -5,10 +5,10 @@ use Rattle.traces.proofs.traces.Statement.{statement}
 use Rattle.traces.proofs.traces.Tie as tie
 
 abbrev Inv-loop : tie.InvT-loop
-Inv-loop row i₀ i = i ≤ 56
+Inv-loop row i₀ i = i ≤ 34
 
 abbrev μ-loop : tie.MeasureT-loop
-μ-loop row i₀ i = 56 - i
+μ-loop row i₀ i = 34 - i
 
 loop-holds : tie.Need-loop-holds Inv-loop μ-loop
 loop-holds c = search needs
