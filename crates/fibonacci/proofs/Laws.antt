@@ -1,5 +1,6 @@
 -- Laws of the numbers and forms, in the order in which they build on each other.
 pub mod Fibonacci
+pub mod Weights
 pub mod Hofstadter
 pub mod Forms
 pub mod Zeckendorf

@@ -1,6 +1,6 @@
 // Document 01, "Numbers the steps stand on": Fibonacci numbers, Zeckendorf forms, Hofstadter's G and h.
 mod list;
-mod table;
+mod weights;
 
 ghost use mathlib.Core.Path.{_≡_};
 ghost use lib.ListN.{length};
@@ -13,7 +13,11 @@ use list::are_places;
 use list::total;
 use refusal::Answer;
 use refusal::Refusal;
-use table::fib_at;
+use weights::FOOT;
+use weights::climb;
+use weights::fib_at;
+use weights::highest;
+use weights::lower;
 
 // The Zeckendorf form of a 64-bit number: its places, highest first, and their count; zeros past them.
 pub struct Form {
@@ -48,7 +52,7 @@ pub fn fibonacci_or_zero(index: u32) -> u64
     fib_at(index as usize)
 }
 
-// The Zeckendorf form of n: from place 92 down, each place taken whose weight is left.
+// The Zeckendorf form of n: from the highest place down, each place taken whose weight is left.
 pub fn zeckendorf(n: u64) -> Form
     ensures { λ f. ⌜ f .count ≡ length (placesOf n) ⌝ }
     ensures { λ f. ⌜ f .places ≡ formRow n ⌝ }
@@ -56,15 +60,14 @@ pub fn zeckendorf(n: u64) -> Form
     let mut places = [0u8; 46];
     let mut count: usize = 0;
     let mut rest = n;
-    let mut i: usize = 92;
-    while i > 0 {
-        let weight = fib_at(i + 1);
-        if weight <= rest {
-            places[count] = i as u8;
+    let mut at = highest(n);
+    while at.place > 0 {
+        if at.weight <= rest {
+            places[count] = at.place as u8;
             count += 1;
-            rest -= weight;
+            rest -= at.weight;
         }
-        i -= 1;
+        at = lower(at);
     }
     Form { places, count }
 }
@@ -124,12 +127,13 @@ pub fn hofstadter(n: u64) -> u64
 {
     let form = zeckendorf(n);
     let places = form.places;
-    let count = form.count;
     let mut sum: u64 = 0;
-    let mut i: usize = 0;
-    while i < count {
-        sum += fib_at(places[i] as usize);
-        i += 1;
+    let mut at = FOOT;
+    let mut i = form.count;
+    while i > 0 {
+        i -= 1;
+        at = climb(at, places[i] as usize);
+        sum += at.below;
     }
     sum
 }

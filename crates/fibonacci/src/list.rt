@@ -4,7 +4,8 @@ ghost use mathlib.Core.Bool.{true};
 ghost use Rattle.refusal.specs.Outcomes.{outcomeOf};
 ghost use Rattle.fibonacci.specs.Forms.{arePlaces};
 ghost use Rattle.fibonacci.specs.Services.{lastPlace, totalOutcome};
-use crate::table::fib_at;
+use crate::weights::FOOT;
+use crate::weights::climb;
 use refusal::Answer;
 use refusal::Refusal;
 
@@ -28,20 +29,21 @@ pub(crate) fn are_places(list: &[u8]) -> bool
     true
 }
 
-// The sum of the places' weights, refused where it exceeds 64 bits.
+// The sum of the places' weights from the lowest up, refused where it exceeds 64 bits.
 pub(crate) fn total(list: &[u8]) -> Answer
     requires { ⌜ arePlaces lastPlace (now list) ≡ true ⌝ }
     ensures { λ answer. ⌜ outcomeOf answer ≡ totalOutcome (now (list .entry)) ⌝ }
 {
     let mut sum: u64 = 0;
-    let mut i: usize = 0;
-    while i < list.len() {
-        let weight = fib_at(list[i] as usize + 1);
-        if 0xFFFF_FFFF_FFFF_FFFF - sum < weight {
+    let mut at = FOOT;
+    let mut i = list.len();
+    while i > 0 {
+        i -= 1;
+        at = climb(at, list[i] as usize);
+        if 0xFFFF_FFFF_FFFF_FFFF - sum < at.weight {
             return Answer::Refused(Refusal::Range);
         }
-        sum += weight;
-        i += 1;
+        sum += at.weight;
     }
     Answer::Value(sum)
 }

@@ -116,3 +116,8 @@ odd-zero (suc (suc n)) o = omega (arith, odd-zero n o)
 pub fib-64 : (n : ℕ) → n < 2 ^ 64 → n < fib 94
 unfolding fib
 fib-64 n h = omega arith
+
+-- and F_0 to F_93 are 64-bit numbers
+pub fib-fits : (i : ℕ) → i ≤ 93 → fib i < 2 ^ 64
+unfolding fib
+fib-fits i h = let m : fib i ≤ fib 93 = fib-monotone h in omega arith

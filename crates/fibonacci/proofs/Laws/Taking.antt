@@ -10,7 +10,7 @@ use lib.Seq.{take-suc-set, drop-set-lt, drop-drop, length-take-le}
 use Rattle.fibonacci.specs.Fibonacci.{fib}
 use Rattle.fibonacci.specs.Forms.{placesFrom, places, greedy}
 use Rattle.fibonacci.specs.Services.{placesOf, formRow}
-use Rattle.fibonacci.proofs.Laws.Fibonacci.{fib-next, fib-positive, fib-64}
+use Rattle.fibonacci.proofs.Laws.Fibonacci.{fib-next, fib-positive}
 use Rattle.fibonacci.proofs.Laws.Zeckendorf.{greedy-zero, greedy-skip, zeckendorf-by, zeckendorf-count-64}
 use Rattle.fibonacci.proofs.Laws.Places.{greedy-places-take}
 
@@ -23,14 +23,15 @@ pub record Taking (n : ℕ) (row : List ℕ) (count rest i : ℕ) : Type 0 where
   pub taken : take count row ++ places (greedy i rest) ≡ placesOf n
   pub zeros : drop count row ≡ replicate (46 - count) 0
 
-pub taking-starts : (n : ℕ) → n < 2 ^ 64 → Taking n (replicate 46 0) 0 n 92
-taking-starts n h = record {
+-- it starts at any place from 1 to 92 that is high enough
+pub taking-starts : (n i : ℕ) → n < 2 ^ 64 → i ≤ 92 → n < fib (suc (suc i)) → Taking n (replicate 46 0) 0 n i
+taking-starts n i h high left = record {
   small = h;
-  place = omega arith;
-  left = fib-64 n h;
+  place = high;
+  left = rw add-two left;
   size = length-replicate {A = ℕ} 46 0;
   room = omega arith;
-  taken = ap places (sym (zeckendorf-by 92 n (fib-64 n h)));
+  taken = ap places (sym (zeckendorf-by i n left));
   zeros = refl;
 }
 
@@ -49,23 +50,24 @@ count-room {n} {row} {count} {rest} i t h =
       t .room,
     )
 
-pub taking-room : {n : ℕ} {row : List ℕ} {count rest i : ℕ} → Taking n row count rest i → 0 < i → fib (i + 1) ≤ rest → count < 46
-taking-room {i = zero} t p h = absurd (omega arith)
-taking-room {i = suc i} t p h = count-room i t (rw add-one at h)
+pub taking-room : {n : ℕ} {row : List ℕ} {count rest i weight : ℕ} → Taking n row count rest i → 0 < i → weight ≡ fib (suc i) → weight ≤ rest → count < 46
+taking-room {i = zero} t p e h = absurd (omega arith)
+taking-room {i = suc i} t p e h = count-room i t (rw e at h)
 
 drop-one : (n k : ℕ) (l : List ℕ) → drop k l ≡ replicate (suc n) 0 → drop (suc k) l ≡ replicate n 0
 drop-one n k l e = ap (λ (j : ℕ). drop j l) (sym (add-one k)) ∙ sym (drop-drop 1 k l) ∙ ap (drop 1) e
 
-pub taking-takes : {n : ℕ} {row : List ℕ} {count rest i : ℕ} → Taking n row count rest i → 0 < i → fib (i + 1) ≤ rest
-    → Taking n (set row count i) (count + 1) (rest - fib (i + 1)) (i - 1)
-taking-takes {i = zero} t p h = absurd (omega arith)
-taking-takes {n} {row} {count} {rest} {i = suc i} t p h =
-    let h′ : fib (suc (suc i)) ≤ rest = rw add-one at h in
+pub taking-takes : {n : ℕ} {row : List ℕ} {count rest i weight : ℕ} → Taking n row count rest i → 0 < i → weight ≡ fib (suc i) → weight ≤ rest
+    → Taking n (set row count i) (count + 1) (rest - weight) (i - 1)
+taking-takes {i = zero} t p e h = absurd (omega arith)
+taking-takes {n} {row} {count} {rest} {i = suc i} {weight} t p e h =
+    let h′ : fib (suc (suc i)) ≤ rest = rw e at h in
     let c : count < 46 = count-room i t h′ in
     let in-row : count < length row = omega (arith, t .size) in
     let l : rest < fib (suc (suc (suc i))) = rw add-two at (t .left) in
     let more : 46 - count ≡ suc (46 - suc count) = omega arith in
-    simp (add-one, sub-one)
+    rw e
+    (simp (add-one, sub-one)
     (record {
       small = t .small;
       place = omega (arith, t .place);
@@ -74,12 +76,12 @@ taking-takes {n} {row} {count} {rest} {i = suc i} t p h =
       room = c;
       taken = rw (take-suc-set row count (suc i) in-row, append-assoc) (rw (greedy-places-take i rest h′) at (t .taken));
       zeros = drop-set-lt (suc count) row count (suc i) (omega arith) ∙ drop-one (46 - suc count) count row (t .zeros ∙ ap (λ (k : ℕ). replicate k 0) more);
-    })
+    }))
 
-pub taking-skips : {n : ℕ} {row : List ℕ} {count rest i : ℕ} → Taking n row count rest i → 0 < i → rest < fib (i + 1) → Taking n row count rest (i - 1)
-taking-skips {i = zero} t p h = absurd (omega arith)
-taking-skips {n} {row} {count} {rest} {i = suc i} t p h =
-    let h′ : rest < fib (suc (suc i)) = rw add-one at h in
+pub taking-skips : {n : ℕ} {row : List ℕ} {count rest i weight : ℕ} → Taking n row count rest i → 0 < i → weight ≡ fib (suc i) → rest < weight → Taking n row count rest (i - 1)
+taking-skips {i = zero} t p e h = absurd (omega arith)
+taking-skips {n} {row} {count} {rest} {i = suc i} t p e h =
+    let h′ : rest < fib (suc (suc i)) = rw e at h in
     simp sub-one
     (record {
       small = t .small;

@@ -18,10 +18,10 @@ use Rattle.fibonacci.proofs.hofstadter.Statement.{statement}
 use Rattle.fibonacci.proofs.hofstadter.Tie as tie
 
 abbrev Inv-loop : tie.InvT-loop
-Inv-loop n places count sum₀ i₀ sum i = Summing fib (placesOf n) sum i
+Inv-loop n places sum₀ at₀ i₀ sum at i = Summing fib (placesOf n) at sum i
 
 abbrev μ-loop : tie.MeasureT-loop
-μ-loop n places count sum₀ i₀ sum i = count - i
+μ-loop n places sum₀ at₀ i₀ sum at i = i
 
 -- what the places of n, place i weighing F_i, sum to
 sum-is : (n : ℕ) → weighed fib (placesOf n) ≡ G n
@@ -31,54 +31,61 @@ zeckendorf-requires : tie.Need-zeckendorf-requires Inv-loop μ-loop
 zeckendorf-requires c κs = search needs
 
 loop-holds : tie.Need-loop-holds Inv-loop μ-loop
-loop-holds c = summing-starts fib _
+loop-holds c = rw (c .before .zeckendorf .ensures .0) (summing-starts fib _)
 
--- in the loop, i is an index of the list
-index : (c : tie.In-loop Inv-loop μ-loop) → c .before .loop .i < length (placesOf (c .before .before .before .before .args .n))
-index c = omega (arith, c .before .before .before .zeckendorf .ensures .0)
+sub-i : tie.Need-sub-i Inv-loop μ-loop
+sub-i c = search needs
+
+-- in the loop, i - 1 is an index of the list
+index : (c : tie.In-loop Inv-loop μ-loop) → c .before .loop .i - 1 < length (placesOf (c .before .before .before .before .args .n))
+index c = omega (arith, c .before .loop .inv .within, c .loop-test .taken)
 
 -- and the row holds the list there
 place : (c : tie.In-loop Inv-loop μ-loop)
-    → getD (c .before .before .before .zeckendorf .result .places) (c .before .loop .i) 0 ≡ getD (placesOf (c .before .before .before .before .args .n)) (c .before .loop .i) 0
+    → getD (c .before .before .before .zeckendorf .result .places) (c .before .loop .i - 1) 0 ≡ getD (placesOf (c .before .before .before .before .args .n)) (c .before .loop .i - 1) 0
 place c =
-    ap (λ (l : List ℕ). getD l (c .before .loop .i) 0) (c .before .before .before .zeckendorf .ensures .1)
-    ∙ List·getD-append (placesOf (c .before .before .before .before .args .n)) _ 0 (c .before .loop .i) (index c)
+    ap (λ (l : List ℕ). getD l (c .before .loop .i - 1) 0) (c .before .before .before .zeckendorf .ensures .1)
+    ∙ List·getD-append (placesOf (c .before .before .before .before .args .n)) _ 0 (c .before .loop .i - 1) (index c)
 
-place-small : (c : tie.In-loop Inv-loop μ-loop) → getD (c .before .before .before .zeckendorf .result .places) (c .before .loop .i) 0 ≤ 92
+place-small : (c : tie.In-loop Inv-loop μ-loop) → getD (c .before .before .before .zeckendorf .result .places) (c .before .loop .i - 1) 0 ≤ 92
 place-small c =
     let n = c .before .before .before .before .args .n in
-    omega (arith, place c, places-at 92 (placesOf n) (c .before .loop .i) (zeckendorf-places-64 n (omega arith)) (index c))
+    omega (arith, place c, places-at 92 (placesOf n) (c .before .loop .i - 1) (zeckendorf-places-64 n (omega arith)) (index c))
 
-array-read-fib-at : tie.Need-array-read-fib-at Inv-loop μ-loop
-array-read-fib-at c = omega (arith, index c, zeckendorf-count-64 (c .before .before .before .before .args .n) (omega arith))
+array-read-climb : tie.Need-array-read-climb Inv-loop μ-loop
+array-read-climb c = omega (arith, index c, zeckendorf-count-64 (c .before .before .before .before .args .n) (omega arith))
 
-cast-fib-at : tie.Need-cast-fib-at Inv-loop μ-loop
-cast-fib-at c = omega (arith, place-small c)
+cast-climb : tie.Need-cast-climb Inv-loop μ-loop
+cast-climb c = omega (arith, place-small c)
 
-fib-at-requires : tie.Need-fib-at-requires Inv-loop μ-loop
-fib-at-requires c κs = omega (arith, place-small c)
+climb-requires : tie.Need-climb-requires Inv-loop μ-loop
+climb-requires c κs = (c .before .loop .inv .weighs, (omega (arith, place c, c .before .loop .inv .ahead (c .loop-test .taken)), place-small c))
 
--- `fib_at` weighs the place at index i
-weighs : (c : tie.After-fib-at Inv-loop μ-loop) → c .fib-at .result ≡ fib (getD (placesOf (c .before .before .before .before .before .args .n)) (c .before .before .loop .i) 0)
-weighs c = c .fib-at .ensures ∙ ap fib (place (c .before))
+-- `climb` comes to the place at index i - 1, below which is F of it
+reaches : (c : tie.After-climb Inv-loop μ-loop)
+    → c .climb .result .place ≡ getD (placesOf (c .before .before .before .before .before .args .n)) (c .before .before .loop .i - 1) 0
+reaches c = c .climb .ensures .1 ∙ place (c .before)
+
+weighs : (c : tie.After-climb Inv-loop μ-loop)
+    → c .climb .result .below ≡ fib (getD (placesOf (c .before .before .before .before .before .args .n)) (c .before .before .loop .i - 1) 0)
+weighs c = c .climb .ensures .0 .below-is ∙ ap fib (reaches c)
 
 add-sum : tie.Need-add-sum Inv-loop μ-loop
 add-sum c =
-    let n = c .before .before .before .before .before .args .n in
-    omega (arith, summing-below (c .before .before .loop .inv) (index (c .before)) (weighs c), sum-is n, G-le n)
-
-add-i : tie.Need-add-i Inv-loop μ-loop
-add-i c = search needs
+    let n = c .before .before .before .before .before .before .args .n in
+    omega (arith, summing-below (c .before .before .before .loop .inv) (c .before .before .loop-test .taken) (weighs (c .before)), sum-is n, G-le n)
 
 loop-less : tie.Need-loop-less Inv-loop μ-loop
 loop-less c = search needs
 
 loop-again : tie.Need-loop-again Inv-loop μ-loop
-loop-again c = summing-next (c .before .before .loop .inv) (index (c .before)) (weighs c)
+loop-again c =
+    let n = c .before .before .before .before .before .before .args .n in
+    let called = c .before in
+    summing-next 92 (zeckendorf-places-64 n (omega arith)) (c .before .before .before .loop .inv) (c .before .before .loop-test .taken) (called .climb .ensures .0) (reaches called) (weighs called)
 
 returns : tie.Need-returns Inv-loop μ-loop
-returns c =
-    summing-ends (c .before .loop .inv) (omega (arith, c .loop-test .left, c .before .before .before .zeckendorf .ensures .0)) ∙ sum-is _
+returns c = summing-ends (c .before .loop .inv) (c .loop-test .left) ∙ sum-is _
 
 pub hofstadter-spec : {M : Type 1} → statement M
 hofstadter-spec =
@@ -88,11 +95,11 @@ hofstadter-spec =
     μ-loop
     zeckendorf-requires
     loop-holds
-    array-read-fib-at
-    cast-fib-at
-    fib-at-requires
+    sub-i
+    array-read-climb
+    cast-climb
+    climb-requires
     add-sum
-    add-i
     loop-less
     loop-again
     returns)

@@ -2,7 +2,6 @@
 use mathlib.Core.Path.{_≡_, sym, ap, _∙_}
 use mathlib.Core.List.{[]}
 use Prim.Native.Nat.{ℕ, suc, _-_, _≤_, _<_, _^_}
-use native.Mathlib.Numerals.{add-one}
 use native.Mathlib.Omega.{arith}
 use borrow.Author.Needs.{needs}
 use borrow.Author.Tests.{le-leb, lt-leb}
@@ -18,59 +17,61 @@ use Rattle.fibonacci.proofs.list.total.Statement.{statement}
 use Rattle.fibonacci.proofs.list.total.Tie as tie
 
 abbrev Inv-loop : tie.InvT-loop
-Inv-loop list sum₀ i₀ sum i = Summing (λ (n : ℕ). fib (suc n)) list sum i × (sum < 2 ^ 64)
+Inv-loop list sum₀ at₀ i₀ sum at i = Summing (λ (n : ℕ). fib (suc n)) list at sum i × (sum < 2 ^ 64)
 
 abbrev μ-loop : tie.MeasureT-loop
-μ-loop list sum₀ i₀ sum i = length list - i
+μ-loop list sum₀ at₀ i₀ sum at i = i
 
 loop-holds : tie.Need-loop-holds Inv-loop μ-loop
 loop-holds c = (summing-starts _ _, omega arith)
 
-shared-slice-read-fib-at : tie.Need-shared-slice-read-fib-at Inv-loop μ-loop
-shared-slice-read-fib-at c = search needs
+sub-i : tie.Need-sub-i Inv-loop μ-loop
+sub-i c = search needs
 
--- the place at index i is at most 92
-place-small : (c : tie.In-loop Inv-loop μ-loop) → getD (c .before .before .before .args .list .now) (c .before .loop .i) 0 ≤ 92
+-- in the loop, i - 1 is an index of the list
+index : (c : tie.After-shared-slice-known2 Inv-loop μ-loop) → c .before .before .loop .i - 1 < length (c .before .before .before .before .args .list .now)
+index c = omega (arith, c .before .before .loop .inv .0 .within, c .before .loop-test .taken)
+
+shared-slice-read-climb : tie.Need-shared-slice-read-climb Inv-loop μ-loop
+shared-slice-read-climb c = index c
+
+-- and the place there is at most 92
+place-small : (c : tie.After-shared-slice-known2 Inv-loop μ-loop) → getD (c .before .before .before .before .args .list .now) (c .before .before .loop .i - 1) 0 ≤ 92
 place-small c =
-    let list = c .before .before .before .args .list .now in
-    places-at 92 list (c .before .loop .i) (test-places 92 list (c .before .before .before .pre)) (c .loop-test .taken) .1
+    let list = c .before .before .before .before .args .list .now in
+    places-at 92 list (c .before .before .loop .i - 1) (test-places 92 list (c .before .before .before .before .pre)) (index c) .1
 
-cast-fib-at : tie.Need-cast-fib-at Inv-loop μ-loop
-cast-fib-at c = omega (arith, place-small (c .before))
+cast-climb : tie.Need-cast-climb Inv-loop μ-loop
+cast-climb c = omega (arith, place-small c)
 
-add-fib-at : tie.Need-add-fib-at Inv-loop μ-loop
-add-fib-at c = omega (arith, place-small (c .before))
-
-fib-at-requires : tie.Need-fib-at-requires Inv-loop μ-loop
-fib-at-requires c κs = omega (arith, place-small (c .before))
+climb-requires : tie.Need-climb-requires Inv-loop μ-loop
+climb-requires c κs = (c .before .before .loop .inv .0 .weighs, (c .before .before .loop .inv .0 .ahead (c .before .loop-test .taken), place-small c))
 
 sub-if1 : tie.Need-sub-if1 Inv-loop μ-loop
 sub-if1 c = search needs
 
--- `fib_at` weighs the place at index i
-weighs : (c : tie.After-fib-at Inv-loop μ-loop)
-    → c .fib-at .result ≡ fib (suc (getD (c .before .before .before .before .before .args .list .now) (c .before .before .before .loop .i) 0))
-weighs c = c .fib-at .ensures ∙ ap fib (add-one _)
+-- `climb` comes to the place at index i, and its weight
+weighs : (c : tie.After-climb Inv-loop μ-loop)
+    → c .climb .result .weight ≡ fib (suc (getD (c .before .before .before .before .before .args .list .now) (c .before .before .before .loop .i - 1) 0))
+weighs c = c .climb .ensures .0 .weight-is ∙ ap (λ (i : ℕ). fib (suc i)) (c .climb .ensures .1)
 
 returns : tie.Need-returns Inv-loop μ-loop
 unfolding totalOutcome
 returns c =
-    let below = summing-below (c .before .before .before .before .loop .inv .0) (c .before .before .before .loop-test .taken) (weighs (c .before)) in
-    let list = c .before .before .before .before .before .before .args .list .now in
+    let below = summing-below (c .before .before .before .before .before .loop .inv .0) (c .before .before .before .before .loop-test .taken) (weighs (c .before .before)) in
+    let list = c .before .before .before .before .before .before .before .args .list .now in
     sym (gives Range [] (weight list) (le-leb (2 ^ 64) (weight list) (omega (arith, below))))
 
 add-sum : tie.Need-add-sum Inv-loop μ-loop
 add-sum c = search needs
-
-add-i : tie.Need-add-i Inv-loop μ-loop
-add-i c = search needs
 
 loop-less : tie.Need-loop-less Inv-loop μ-loop
 loop-less c = search needs
 
 loop-again : tie.Need-loop-again Inv-loop μ-loop
 loop-again c =
-    (summing-next (c .before .before .before .before .loop .inv .0) (c .before .before .before .loop-test .taken) (weighs (c .before)), omega arith)
+    let called = c .before .before .before in
+    (summing-next 92 (test-places 92 _ (called .before .before .before .before .before .pre)) (c .before .before .before .before .before .before .loop .inv .0) (c .before .before .before .before .before .loop-test .taken) (called .climb .ensures .0) (called .climb .ensures .1) (weighs called), omega arith)
 
 returns-2 : tie.Need-returns-2 Inv-loop μ-loop
 unfolding totalOutcome
@@ -86,14 +87,13 @@ total-spec =
     Inv-loop
     μ-loop
     loop-holds
-    shared-slice-read-fib-at
-    cast-fib-at
-    add-fib-at
-    fib-at-requires
+    sub-i
+    shared-slice-read-climb
+    cast-climb
+    climb-requires
     sub-if1
     returns
     add-sum
-    add-i
     loop-less
     loop-again
     returns-2)
