@@ -1,0 +1,3 @@
+//! The proved library, called through include/fibexp.h.
+
+pub mod proved;

@@ -1,0 +1,107 @@
+//! The functions of include/fibexp.h. Each answers document 01's number, 0 where the call isn't
+//! refused; `hofstadter` answers G(n).
+
+mod c {
+    extern "C" {
+        pub fn fibexp_fibonacci(index: u32, value: *mut u64) -> u32;
+        pub fn fibexp_places(n: u64, places: *mut u8, room: usize, count: *mut u32) -> u32;
+        pub fn fibexp_number(places: *const u8, count: usize, n: *mut u64) -> u32;
+        pub fn fibexp_hofstadter(n: u64) -> u64;
+        pub fn fibexp_inverse(k: u32, r: u32, inverse: *mut u32) -> u32;
+        pub fn fibexp_build(
+            p: u32,
+            r: u32,
+            k: u32,
+            variant: u32,
+            words: *mut u32,
+            room: usize,
+            count: *mut u32,
+        ) -> u32;
+        pub fn fibexp_check(tape: *const u32, words: usize) -> u32;
+        pub fn fibexp_load(tape: *const u32, words: usize, base: u32, registers: *mut u32) -> u32;
+        pub fn fibexp_run(
+            tape: *const u32,
+            words: usize,
+            registers: *mut u32,
+            from: u32,
+            to: u32,
+        ) -> u32;
+        pub fn fibexp_trace(
+            tape: *const u32,
+            words: usize,
+            position: u32,
+            exponents: *mut i64,
+        ) -> u32;
+        pub fn fibexp_cut(
+            tape: *const u32,
+            words: usize,
+            first: u32,
+            last: u32,
+            start: *mut u32,
+            count: *mut u32,
+        ) -> u32;
+        pub fn fibexp_listing(
+            bytes: *const u8,
+            count: usize,
+            lines: *mut u8,
+            room: usize,
+            written: *mut u32,
+        ) -> u32;
+    }
+}
+
+pub fn fibonacci(index: u32, value: &mut u64) -> u32 {
+    unsafe { c::fibexp_fibonacci(index, value) }
+}
+
+pub fn places(n: u64, list: &mut [u8], count: &mut u32) -> u32 {
+    unsafe { c::fibexp_places(n, list.as_mut_ptr(), list.len(), count) }
+}
+
+pub fn number(list: &[u8], n: &mut u64) -> u32 {
+    unsafe { c::fibexp_number(list.as_ptr(), list.len(), n) }
+}
+
+pub fn hofstadter(n: u64) -> u64 {
+    unsafe { c::fibexp_hofstadter(n) }
+}
+
+pub fn inverse(k: u32, r: u32, inverse: &mut u32) -> u32 {
+    unsafe { c::fibexp_inverse(k, r, inverse) }
+}
+
+pub fn build(p: u32, r: u32, k: u32, variant: u32, row: &mut [u32], count: &mut u32) -> u32 {
+    unsafe { c::fibexp_build(p, r, k, variant, row.as_mut_ptr(), row.len(), count) }
+}
+
+pub fn check(tape: &[u32]) -> u32 {
+    unsafe { c::fibexp_check(tape.as_ptr(), tape.len()) }
+}
+
+pub fn load(tape: &[u32], base: u32, registers: &mut [u32; 4]) -> u32 {
+    unsafe { c::fibexp_load(tape.as_ptr(), tape.len(), base, registers.as_mut_ptr()) }
+}
+
+pub fn run(tape: &[u32], registers: &mut [u32; 4], from: u32, to: u32) -> u32 {
+    unsafe { c::fibexp_run(tape.as_ptr(), tape.len(), registers.as_mut_ptr(), from, to) }
+}
+
+pub fn trace(tape: &[u32], position: u32, exponents: &mut [i64; 4]) -> u32 {
+    unsafe { c::fibexp_trace(tape.as_ptr(), tape.len(), position, exponents.as_mut_ptr()) }
+}
+
+pub fn cut(tape: &[u32], first: u32, last: u32, start: &mut u32, count: &mut u32) -> u32 {
+    unsafe { c::fibexp_cut(tape.as_ptr(), tape.len(), first, last, start, count) }
+}
+
+pub fn listing(bytes: &[u8], lines: &mut [u8], written: &mut u32) -> u32 {
+    unsafe {
+        c::fibexp_listing(
+            bytes.as_ptr(),
+            bytes.len(),
+            lines.as_mut_ptr(),
+            lines.len(),
+            written,
+        )
+    }
+}
