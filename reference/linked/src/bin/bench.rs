@@ -1,0 +1,522 @@
+//! The time of a call of the proved library and of this implementation, in one run.
+//!
+//!     bench [ROUNDS]
+//!
+//! Both sides of a row take turns: a batch of calls of the one, then of the other, over the same
+//! inputs, which differ from call to call. A batch goes over all inputs, as often as it takes to last
+//! a quarter of a millisecond or more. Told is the least time per call over all rounds, since what
+//! else runs on the machine only adds to it, and how many times the other's time the proved one is.
+
+use linked::noise::Noise;
+use linked::parameters::{common_divisor, power, Parameters};
+use linked::proved;
+use linked::tapes::{named, steps};
+use reference as services;
+use std::hint::black_box;
+use std::time::{Duration, Instant};
+
+const ROUNDS: usize = 100;
+const INPUTS: usize = 32;
+const SHORTEST_BATCH: Duration = Duration::from_micros(250);
+const SEED: u64 = 359_179;
+const MOST_WORDS: usize = 512;
+const MOST_LISTING: usize = 6137;
+const MOST_PLACES: usize = 46;
+const VARIANTS: [(u32, &str); 3] = [(1, "basic"), (2, "dual"), (3, "hybrid")];
+
+/// The worked example's p and r, and numbers as small.
+const SMALL: Size = Size {
+    p: 359,
+    r: 179,
+    most: 358,
+};
+/// The largest prime below 2^28, its largest order, and numbers of 64 bits.
+const LARGE: Size = Size {
+    p: 268_435_399,
+    r: 268_435_398,
+    most: u64::MAX,
+};
+
+fn main() {
+    let rounds = match std::env::args().nth(1).map(|text| text.parse()) {
+        None => ROUNDS,
+        Some(Ok(rounds)) => rounds,
+        Some(Err(_)) => {
+            eprintln!("usage: bench [ROUNDS]");
+            std::process::exit(2);
+        }
+    };
+    let (small, large) = (SMALL.inputs(), LARGE.inputs());
+    println!("Nanoseconds per call, the least of {rounds} rounds.");
+    println!("Steps on average: {}.\n", steps_told(&small, &large));
+    println!(
+        "| service | variant | p = {}: proved | reference | ratio | p = {}: proved | reference | ratio | other algorithm for |",
+        SMALL.p, LARGE.p
+    );
+    println!("|---|---|---:|---:|---:|---:|---:|---:|---|");
+    for (variant, name) in VARIANTS {
+        for service in PROGRAM_SERVICES {
+            let times = [&small, &large].map(|inputs| service.times(inputs, variant, rounds));
+            print_row(service, name, times);
+        }
+    }
+    for service in NUMBER_SERVICES {
+        let times = [&small, &large].map(|inputs| service.times(inputs, 0, rounds));
+        print_row(service, "", times);
+    }
+}
+
+fn steps_told(small: &Inputs, large: &Inputs) -> String {
+    VARIANTS
+        .map(|(variant, name)| {
+            let (few, many) = (small.mean_steps(variant), large.mean_steps(variant));
+            format!("{name} {few:.1} and {many:.1}")
+        })
+        .join(", ")
+}
+
+fn print_row(service: Service, variant: &str, [small, large]: [Times; 2]) {
+    println!(
+        "| {} | {variant} | {} | {} | {} |",
+        service.name(),
+        small.cells(),
+        large.cells(),
+        service.differences()
+    );
+}
+
+// ---- measuring
+
+struct Times {
+    proved: f64,
+    reference: f64,
+}
+
+impl Times {
+    fn cells(&self) -> String {
+        format!(
+            "{:.1} | {:.1} | {:.2}",
+            self.proved,
+            self.reference,
+            self.proved / self.reference
+        )
+    }
+}
+
+/// Measures two ways of doing the same for each input, by turns.
+fn measure(
+    rounds: usize,
+    mut proved: impl FnMut(usize),
+    mut reference: impl FnMut(usize),
+) -> Times {
+    let sizes = (batch_size(&mut proved), batch_size(&mut reference));
+    let mut times = Times {
+        proved: f64::INFINITY,
+        reference: f64::INFINITY,
+    };
+    for _ in 0..rounds {
+        times.proved = times.proved.min(per_call(&mut proved, sizes.0));
+        times.reference = times.reference.min(per_call(&mut reference, sizes.1));
+    }
+    times
+}
+
+/// How often a batch goes over the inputs.
+fn batch_size(call: &mut impl FnMut(usize)) -> usize {
+    let mut passes = 1;
+    while batch(call, passes) < SHORTEST_BATCH {
+        passes *= 2;
+    }
+    passes
+}
+
+fn per_call(call: &mut impl FnMut(usize), passes: usize) -> f64 {
+    batch(call, passes).as_nanos() as f64 / (passes * INPUTS) as f64
+}
+
+fn batch(call: &mut impl FnMut(usize), passes: usize) -> Duration {
+    let start = Instant::now();
+    for _ in 0..passes {
+        (0..INPUTS).for_each(&mut *call);
+    }
+    start.elapsed()
+}
+
+// ---- inputs
+
+struct Size {
+    p: u32,
+    r: u32,
+    most: u64,
+}
+
+/// What is lent to the services, `INPUTS` of each.
+struct Inputs {
+    p: u32,
+    r: u32,
+    exponents: Vec<u32>,
+    bases: Vec<u32>,
+    registers: Vec<[u32; 4]>,
+    numbers: Vec<u64>,
+    lists: Vec<Vec<u8>>,
+    /// The tapes of variants 1, 2, 3 for each exponent.
+    tapes: [Vec<Vec<u32>>; 3],
+}
+
+impl Size {
+    fn inputs(&self) -> Inputs {
+        let Size { p, r, most } = *self;
+        let mut noise = Noise::new(SEED);
+        let exponents: Vec<u32> = (0..INPUTS).map(|_| coprime(&mut noise, r)).collect();
+        let numbers: Vec<u64> = (0..INPUTS).map(|_| noise.number() % most + 1).collect();
+        let tape = |k: u32, variant: u32| named(Parameters { p, r, k, variant });
+        Inputs {
+            p,
+            r,
+            bases: (0..INPUTS)
+                .map(|_| power(noise.between(2, p - 2), (p - 1) / r, p))
+                .collect(),
+            registers: (0..INPUTS)
+                .map(|_| [0; 4].map(|_| noise.between(1, p - 1)))
+                .collect(),
+            lists: numbers
+                .iter()
+                .map(|&n| services::places(n, MOST_PLACES).unwrap_or_default())
+                .collect(),
+            tapes: VARIANTS
+                .map(|(variant, _)| exponents.iter().map(|&k| tape(k, variant)).collect()),
+            exponents,
+            numbers,
+        }
+    }
+}
+
+impl Inputs {
+    fn tape(&self, variant: u32, i: usize) -> &[u32] {
+        &self.tapes[variant as usize - 1][i]
+    }
+
+    fn mean_steps(&self, variant: u32) -> f64 {
+        let tapes = &self.tapes[variant as usize - 1];
+        let total: u32 = tapes.iter().map(|tape| steps(tape)).sum();
+        total as f64 / INPUTS as f64
+    }
+
+    fn bytes(&self, variant: u32) -> Vec<Vec<u8>> {
+        let tapes = self.tapes[variant as usize - 1].iter();
+        tapes
+            .map(|tape| tape.iter().flat_map(|word| word.to_le_bytes()).collect())
+            .collect()
+    }
+}
+
+fn coprime(noise: &mut Noise, r: u32) -> u32 {
+    loop {
+        let k = noise.between(2, r - 1);
+        if common_divisor(k, r) == 1 {
+            return k;
+        }
+    }
+}
+
+// ---- the services
+
+#[derive(Clone, Copy)]
+enum Service {
+    Build,
+    Check,
+    Load,
+    RunForward,
+    RunBackward,
+    Trace,
+    Cut,
+    Listing,
+    Inverse,
+    Places,
+    Number,
+    Hofstadter,
+    Fibonacci,
+}
+
+const PROGRAM_SERVICES: [Service; 8] = [
+    Service::Build,
+    Service::Check,
+    Service::Load,
+    Service::RunForward,
+    Service::RunBackward,
+    Service::Trace,
+    Service::Cut,
+    Service::Listing,
+];
+
+const NUMBER_SERVICES: [Service; 5] = [
+    Service::Inverse,
+    Service::Places,
+    Service::Number,
+    Service::Hofstadter,
+    Service::Fibonacci,
+];
+
+impl Service {
+    fn name(self) -> &'static str {
+        match self {
+            Service::Build => "build",
+            Service::Check => "check",
+            Service::Load => "load",
+            Service::RunForward => "run forward",
+            Service::RunBackward => "run backward",
+            Service::Trace => "trace",
+            Service::Cut => "cut",
+            Service::Listing => "listing",
+            Service::Inverse => "inverse",
+            Service::Places => "places",
+            Service::Number => "number",
+            Service::Hofstadter => "G",
+            Service::Fibonacci => "fibonacci",
+        }
+    }
+
+    /// What the two sides have different algorithms for.
+    fn differences(self) -> &'static str {
+        match self {
+            Service::Build
+            | Service::Check
+            | Service::Load
+            | Service::Trace
+            | Service::Cut
+            | Service::Listing => "primes, forms, inverse",
+            Service::RunForward | Service::RunBackward => "primes, forms, inverse, division",
+            Service::Inverse => "inverse",
+            Service::Places => "forms",
+            Service::Hofstadter => "G",
+            Service::Number | Service::Fibonacci => "",
+        }
+    }
+
+    fn times(self, inputs: &Inputs, variant: u32, rounds: usize) -> Times {
+        match self {
+            Service::Build => build(inputs, variant, rounds),
+            Service::Check => check(inputs, variant, rounds),
+            Service::Load => load(inputs, variant, rounds),
+            Service::RunForward => run(inputs, variant, rounds, true),
+            Service::RunBackward => run(inputs, variant, rounds, false),
+            Service::Trace => trace(inputs, variant, rounds),
+            Service::Cut => cut(inputs, variant, rounds),
+            Service::Listing => listing(inputs, variant, rounds),
+            Service::Inverse => inverse(inputs, rounds),
+            Service::Places => places(inputs, rounds),
+            Service::Number => number(inputs, rounds),
+            Service::Hofstadter => hofstadter(inputs, rounds),
+            Service::Fibonacci => fibonacci(rounds),
+        }
+    }
+}
+
+fn build(inputs: &Inputs, variant: u32, rounds: usize) -> Times {
+    let Inputs { p, r, .. } = *black_box(inputs);
+    let (mut row, mut other) = ([0; MOST_WORDS], [0; MOST_WORDS]);
+    let mut count = 0;
+    measure(
+        rounds,
+        |i| {
+            let k = black_box(inputs.exponents[i]);
+            black_box(proved::build(p, r, k, variant, &mut row, &mut count));
+            black_box(&row);
+        },
+        |i| {
+            let k = black_box(inputs.exponents[i]);
+            let _ = black_box(services::build(p, r, k, variant, &mut other));
+            black_box(&other);
+        },
+    )
+}
+
+fn check(inputs: &Inputs, variant: u32, rounds: usize) -> Times {
+    measure(
+        rounds,
+        |i| {
+            black_box(proved::check(black_box(inputs.tape(variant, i))));
+        },
+        |i| {
+            let _ = black_box(services::check(black_box(inputs.tape(variant, i))));
+        },
+    )
+}
+
+fn load(inputs: &Inputs, variant: u32, rounds: usize) -> Times {
+    let mut registers = [0; 4];
+    measure(
+        rounds,
+        |i| {
+            let tape = black_box(inputs.tape(variant, i));
+            black_box(proved::load(tape, inputs.bases[i], &mut registers));
+            black_box(&registers);
+        },
+        |i| {
+            let tape = black_box(inputs.tape(variant, i));
+            let _ = black_box(services::load(tape, inputs.bases[i]));
+        },
+    )
+}
+
+/// End to end, from (1, a, 1, 1) forward, from any registers backward.
+fn run(inputs: &Inputs, variant: u32, rounds: usize, forward: bool) -> Times {
+    let start = |i: usize| {
+        if forward {
+            [1, inputs.bases[i], 1, 1]
+        } else {
+            inputs.registers[i]
+        }
+    };
+    let way = |tape: &[u32]| {
+        if forward {
+            (0, steps(tape))
+        } else {
+            (steps(tape), 0)
+        }
+    };
+    measure(
+        rounds,
+        |i| {
+            let tape = black_box(inputs.tape(variant, i));
+            let (from, to) = way(tape);
+            let mut registers = black_box(start(i));
+            black_box(proved::run(tape, &mut registers, from, to));
+            black_box(&registers);
+        },
+        |i| {
+            let tape = black_box(inputs.tape(variant, i));
+            let (from, to) = way(tape);
+            let _ = black_box(services::run(tape, black_box(start(i)), from, to));
+        },
+    )
+}
+
+/// At the last position.
+fn trace(inputs: &Inputs, variant: u32, rounds: usize) -> Times {
+    let mut exponents = [0; 4];
+    measure(
+        rounds,
+        |i| {
+            let tape = black_box(inputs.tape(variant, i));
+            black_box(proved::trace(tape, steps(tape), &mut exponents));
+            black_box(&exponents);
+        },
+        |i| {
+            let tape = black_box(inputs.tape(variant, i));
+            let _ = black_box(services::trace(tape, steps(tape)));
+        },
+    )
+}
+
+/// The whole program's steps.
+fn cut(inputs: &Inputs, variant: u32, rounds: usize) -> Times {
+    let (mut start, mut count) = (0, 0);
+    measure(
+        rounds,
+        |i| {
+            let tape = black_box(inputs.tape(variant, i));
+            black_box(proved::cut(tape, 0, steps(tape), &mut start, &mut count));
+            black_box((start, count));
+        },
+        |i| {
+            let tape = black_box(inputs.tape(variant, i));
+            let _ = black_box(services::cut(tape, 0, steps(tape)));
+        },
+    )
+}
+
+fn listing(inputs: &Inputs, variant: u32, rounds: usize) -> Times {
+    let bytes = inputs.bytes(variant);
+    let mut lines = [0; MOST_LISTING];
+    let mut written = 0;
+    measure(
+        rounds,
+        |i| {
+            black_box(proved::listing(
+                black_box(&bytes[i]),
+                &mut lines,
+                &mut written,
+            ));
+            black_box(&lines);
+        },
+        |i| {
+            black_box(services::listing(black_box(&bytes[i])));
+        },
+    )
+}
+
+fn inverse(inputs: &Inputs, rounds: usize) -> Times {
+    let r = inputs.r;
+    let mut found = 0;
+    measure(
+        rounds,
+        |i| {
+            let k = black_box(inputs.exponents[i]);
+            black_box(proved::inverse(k, black_box(r), &mut found));
+            black_box(found);
+        },
+        |i| {
+            let k = black_box(inputs.exponents[i]);
+            let _ = black_box(services::inverse(k, black_box(r)));
+        },
+    )
+}
+
+fn places(inputs: &Inputs, rounds: usize) -> Times {
+    let (mut row, mut other) = ([0; MOST_PLACES], [0; MOST_PLACES]);
+    let mut count = 0;
+    measure(
+        rounds,
+        |i| {
+            let n = black_box(inputs.numbers[i]);
+            black_box(proved::places(n, &mut row, &mut count));
+            black_box(&row);
+        },
+        |i| {
+            let n = black_box(inputs.numbers[i]);
+            let _ = black_box(services::write_places(n, &mut other));
+            black_box(&other);
+        },
+    )
+}
+
+fn number(inputs: &Inputs, rounds: usize) -> Times {
+    let mut n = 0;
+    measure(
+        rounds,
+        |i| {
+            black_box(proved::number(black_box(&inputs.lists[i]), &mut n));
+            black_box(n);
+        },
+        |i| {
+            let _ = black_box(services::number(black_box(&inputs.lists[i])));
+        },
+    )
+}
+
+fn hofstadter(inputs: &Inputs, rounds: usize) -> Times {
+    measure(
+        rounds,
+        |i| {
+            black_box(proved::hofstadter(black_box(inputs.numbers[i])));
+        },
+        |i| {
+            black_box(services::hofstadter(black_box(inputs.numbers[i])));
+        },
+    )
+}
+
+fn fibonacci(rounds: usize) -> Times {
+    let mut value = 0;
+    measure(
+        rounds,
+        |i| {
+            black_box(proved::fibonacci(black_box(i as u32), &mut value));
+            black_box(value);
+        },
+        |i| {
+            let _ = black_box(services::fibonacci(black_box(i as u32)));
+        },
+    )
+}
