@@ -2,9 +2,9 @@
 //!
 //!     bench [ROUNDS]
 //!
-//! Both sides of a row take turns: a batch of calls of the one, then of the other, over the same
-//! inputs, which differ from call to call. A batch goes over all inputs, as often as it takes to last
-//! a quarter of a millisecond or more. Told is the least time per call over all rounds, since what
+//! A round goes over all rows: of each a batch of calls of the one side, then of the other, over the
+//! same inputs, which differ from call to call. A batch goes over all inputs, as often as it takes to
+//! last a quarter of a millisecond or more. Told is the least time per call over all rounds, since what
 //! else runs on the machine only adds to it, and how many times the other's time the proved one is.
 
 use linked::noise::Noise;
@@ -15,8 +15,8 @@ use reference as services;
 use std::hint::black_box;
 use std::time::{Duration, Instant};
 
-const ROUNDS: usize = 100;
-const INPUTS: usize = 32;
+const ROUNDS: usize = 1000;
+const INPUTS: usize = 64;
 const SHORTEST_BATCH: Duration = Duration::from_micros(250);
 const SEED: u64 = 359_179;
 const MOST_WORDS: usize = 512;
@@ -54,16 +54,11 @@ fn main() {
         SMALL.p, LARGE.p
     );
     println!("|---|---|---:|---:|---:|---:|---:|---:|---|");
-    for (variant, name) in VARIANTS {
-        for service in PROGRAM_SERVICES {
-            let times = [&small, &large].map(|inputs| service.times(inputs, variant, rounds));
-            print_row(service, name, times);
-        }
+    let mut rows = rows(&small, &large);
+    for _ in 0..rounds {
+        rows.iter_mut().for_each(Row::round);
     }
-    for service in NUMBER_SERVICES {
-        let times = [&small, &large].map(|inputs| service.times(inputs, 0, rounds));
-        print_row(service, "", times);
-    }
+    rows.iter().for_each(Row::print);
 }
 
 fn steps_told(small: &Inputs, large: &Inputs) -> String {
@@ -75,71 +70,106 @@ fn steps_told(small: &Inputs, large: &Inputs) -> String {
         .join(", ")
 }
 
-fn print_row(service: Service, variant: &str, [small, large]: [Times; 2]) {
-    println!(
-        "| {} | {variant} | {} | {} | {} |",
-        service.name(),
-        small.cells(),
-        large.cells(),
-        service.differences()
-    );
+// ---- rows
+
+/// A service and variant, at both sizes.
+struct Row<'a> {
+    service: Service,
+    variant: &'static str,
+    small: Pair<'a>,
+    large: Pair<'a>,
 }
 
-// ---- measuring
-
-struct Times {
-    proved: f64,
-    reference: f64,
-}
-
-impl Times {
-    fn cells(&self) -> String {
-        format!(
-            "{:.1} | {:.1} | {:.2}",
-            self.proved,
-            self.reference,
-            self.proved / self.reference
-        )
-    }
-}
-
-/// Measures two ways of doing the same for each input, by turns.
-fn measure(
-    rounds: usize,
-    mut proved: impl FnMut(usize),
-    mut reference: impl FnMut(usize),
-) -> Times {
-    let sizes = (batch_size(&mut proved), batch_size(&mut reference));
-    let mut times = Times {
-        proved: f64::INFINITY,
-        reference: f64::INFINITY,
+fn rows<'a>(small: &'a Inputs, large: &'a Inputs) -> Vec<Row<'a>> {
+    let row = |service: Service, (number, variant): (u32, &'static str)| Row {
+        service,
+        variant,
+        small: service.pair(small, number),
+        large: service.pair(large, number),
     };
-    for _ in 0..rounds {
-        times.proved = times.proved.min(per_call(&mut proved, sizes.0));
-        times.reference = times.reference.min(per_call(&mut reference, sizes.1));
-    }
-    times
+    let programs = VARIANTS
+        .into_iter()
+        .flat_map(|variant| PROGRAM_SERVICES.map(|service| row(service, variant)));
+    let numbers = NUMBER_SERVICES.map(|service| row(service, (0, "")));
+    programs.chain(numbers).collect()
 }
 
-/// How often a batch goes over the inputs.
-fn batch_size(call: &mut impl FnMut(usize)) -> usize {
-    let mut passes = 1;
-    while batch(call, passes) < SHORTEST_BATCH {
-        passes *= 2;
+impl Row<'_> {
+    fn round(&mut self) {
+        self.small.round();
+        self.large.round();
     }
-    passes
+
+    fn print(&self) {
+        println!(
+            "| {} | {} | {} | {} | {} |",
+            self.service.name(),
+            self.variant,
+            self.small.cells(),
+            self.large.cells(),
+            self.service.differences()
+        );
+    }
 }
 
-fn per_call(call: &mut impl FnMut(usize), passes: usize) -> f64 {
-    batch(call, passes).as_nanos() as f64 / (passes * INPUTS) as f64
+/// Two ways of doing the same for each input.
+struct Pair<'a> {
+    proved: Side<'a>,
+    reference: Side<'a>,
 }
 
-fn batch(call: &mut impl FnMut(usize), passes: usize) -> Duration {
-    let start = Instant::now();
-    for _ in 0..passes {
-        (0..INPUTS).for_each(&mut *call);
+impl<'a> Pair<'a> {
+    fn new(proved: impl FnMut(usize) + 'a, reference: impl FnMut(usize) + 'a) -> Pair<'a> {
+        Pair {
+            proved: Side::new(proved),
+            reference: Side::new(reference),
+        }
     }
-    start.elapsed()
+
+    fn round(&mut self) {
+        self.proved.round();
+        self.reference.round();
+    }
+
+    fn cells(&self) -> String {
+        let (proved, reference) = (self.proved.least, self.reference.least);
+        format!("{proved:.1} | {reference:.1} | {:.2}", proved / reference)
+    }
+}
+
+/// One of the two: it goes over all inputs so many times, which makes a batch.
+struct Side<'a> {
+    go: Box<dyn FnMut(usize) + 'a>,
+    passes: usize,
+    /// Nanoseconds per call.
+    least: f64,
+}
+
+impl<'a> Side<'a> {
+    fn new(mut call: impl FnMut(usize) + 'a) -> Side<'a> {
+        let mut side = Side {
+            go: Box::new(move |passes| {
+                (0..passes).for_each(|_| (0..INPUTS).for_each(&mut call));
+            }),
+            passes: 1,
+            least: f64::INFINITY,
+        };
+        while side.batch() < SHORTEST_BATCH {
+            side.passes *= 2;
+        }
+        side
+    }
+
+    fn round(&mut self) {
+        let calls = (self.passes * INPUTS) as f64;
+        self.least = self.least.min(self.batch().as_nanos() as f64 / calls);
+    }
+
+    fn batch(&mut self) -> Duration {
+        let start = Instant::now();
+        (self.go)(self.passes);
+        start.elapsed()
+    }
 }
 
 // ---- inputs
@@ -161,6 +191,8 @@ struct Inputs {
     lists: Vec<Vec<u8>>,
     /// The tapes of variants 1, 2, 3 for each exponent.
     tapes: [Vec<Vec<u32>>; 3],
+    /// The same as bytes.
+    bytes: [Vec<Vec<u8>>; 3],
 }
 
 impl Size {
@@ -170,6 +202,8 @@ impl Size {
         let exponents: Vec<u32> = (0..INPUTS).map(|_| coprime(&mut noise, r)).collect();
         let numbers: Vec<u64> = (0..INPUTS).map(|_| noise.number() % most + 1).collect();
         let tape = |k: u32, variant: u32| named(Parameters { p, r, k, variant });
+        let tapes: [Vec<Vec<u32>>; 3] =
+            VARIANTS.map(|(variant, _)| exponents.iter().map(|&k| tape(k, variant)).collect());
         Inputs {
             p,
             r,
@@ -183,8 +217,9 @@ impl Size {
                 .iter()
                 .map(|&n| services::places(n, MOST_PLACES).unwrap_or_default())
                 .collect(),
-            tapes: VARIANTS
-                .map(|(variant, _)| exponents.iter().map(|&k| tape(k, variant)).collect()),
+            bytes: [0, 1, 2]
+                .map(|variant: usize| tapes[variant].iter().map(|tape| bytes_of(tape)).collect()),
+            tapes,
             exponents,
             numbers,
         }
@@ -202,12 +237,13 @@ impl Inputs {
         total as f64 / INPUTS as f64
     }
 
-    fn bytes(&self, variant: u32) -> Vec<Vec<u8>> {
-        let tapes = self.tapes[variant as usize - 1].iter();
-        tapes
-            .map(|tape| tape.iter().flat_map(|word| word.to_le_bytes()).collect())
-            .collect()
+    fn bytes(&self, variant: u32, i: usize) -> &[u8] {
+        &self.bytes[variant as usize - 1][i]
     }
+}
+
+fn bytes_of(tape: &[u32]) -> Vec<u8> {
+    tape.iter().flat_map(|word| word.to_le_bytes()).collect()
 }
 
 fn coprime(noise: &mut Noise, r: u32) -> u32 {
@@ -293,37 +329,36 @@ impl Service {
         }
     }
 
-    fn times(self, inputs: &Inputs, variant: u32, rounds: usize) -> Times {
+    fn pair(self, inputs: &Inputs, variant: u32) -> Pair<'_> {
         match self {
-            Service::Build => build(inputs, variant, rounds),
-            Service::Check => check(inputs, variant, rounds),
-            Service::Load => load(inputs, variant, rounds),
-            Service::RunForward => run(inputs, variant, rounds, true),
-            Service::RunBackward => run(inputs, variant, rounds, false),
-            Service::Trace => trace(inputs, variant, rounds),
-            Service::Cut => cut(inputs, variant, rounds),
-            Service::Listing => listing(inputs, variant, rounds),
-            Service::Inverse => inverse(inputs, rounds),
-            Service::Places => places(inputs, rounds),
-            Service::Number => number(inputs, rounds),
-            Service::Hofstadter => hofstadter(inputs, rounds),
-            Service::Fibonacci => fibonacci(rounds),
+            Service::Build => build(inputs, variant),
+            Service::Check => check(inputs, variant),
+            Service::Load => load(inputs, variant),
+            Service::RunForward => run(inputs, variant, true),
+            Service::RunBackward => run(inputs, variant, false),
+            Service::Trace => trace(inputs, variant),
+            Service::Cut => cut(inputs, variant),
+            Service::Listing => listing(inputs, variant),
+            Service::Inverse => inverse(inputs),
+            Service::Places => places(inputs),
+            Service::Number => number(inputs),
+            Service::Hofstadter => hofstadter(inputs),
+            Service::Fibonacci => fibonacci(),
         }
     }
 }
 
-fn build(inputs: &Inputs, variant: u32, rounds: usize) -> Times {
+fn build(inputs: &Inputs, variant: u32) -> Pair<'_> {
     let Inputs { p, r, .. } = *black_box(inputs);
     let (mut row, mut other) = ([0; MOST_WORDS], [0; MOST_WORDS]);
     let mut count = 0;
-    measure(
-        rounds,
-        |i| {
+    Pair::new(
+        move |i| {
             let k = black_box(inputs.exponents[i]);
             black_box(proved::build(p, r, k, variant, &mut row, &mut count));
             black_box(&row);
         },
-        |i| {
+        move |i| {
             let k = black_box(inputs.exponents[i]);
             let _ = black_box(services::build(p, r, k, variant, &mut other));
             black_box(&other);
@@ -331,28 +366,26 @@ fn build(inputs: &Inputs, variant: u32, rounds: usize) -> Times {
     )
 }
 
-fn check(inputs: &Inputs, variant: u32, rounds: usize) -> Times {
-    measure(
-        rounds,
-        |i| {
+fn check(inputs: &Inputs, variant: u32) -> Pair<'_> {
+    Pair::new(
+        move |i| {
             black_box(proved::check(black_box(inputs.tape(variant, i))));
         },
-        |i| {
+        move |i| {
             let _ = black_box(services::check(black_box(inputs.tape(variant, i))));
         },
     )
 }
 
-fn load(inputs: &Inputs, variant: u32, rounds: usize) -> Times {
+fn load(inputs: &Inputs, variant: u32) -> Pair<'_> {
     let mut registers = [0; 4];
-    measure(
-        rounds,
-        |i| {
+    Pair::new(
+        move |i| {
             let tape = black_box(inputs.tape(variant, i));
             black_box(proved::load(tape, inputs.bases[i], &mut registers));
             black_box(&registers);
         },
-        |i| {
+        move |i| {
             let tape = black_box(inputs.tape(variant, i));
             let _ = black_box(services::load(tape, inputs.bases[i]));
         },
@@ -360,31 +393,30 @@ fn load(inputs: &Inputs, variant: u32, rounds: usize) -> Times {
 }
 
 /// End to end, from (1, a, 1, 1) forward, from any registers backward.
-fn run(inputs: &Inputs, variant: u32, rounds: usize, forward: bool) -> Times {
-    let start = |i: usize| {
+fn run(inputs: &Inputs, variant: u32, forward: bool) -> Pair<'_> {
+    let start = move |i: usize| {
         if forward {
             [1, inputs.bases[i], 1, 1]
         } else {
             inputs.registers[i]
         }
     };
-    let way = |tape: &[u32]| {
+    let way = move |tape: &[u32]| {
         if forward {
             (0, steps(tape))
         } else {
             (steps(tape), 0)
         }
     };
-    measure(
-        rounds,
-        |i| {
+    Pair::new(
+        move |i| {
             let tape = black_box(inputs.tape(variant, i));
             let (from, to) = way(tape);
             let mut registers = black_box(start(i));
             black_box(proved::run(tape, &mut registers, from, to));
             black_box(&registers);
         },
-        |i| {
+        move |i| {
             let tape = black_box(inputs.tape(variant, i));
             let (from, to) = way(tape);
             let _ = black_box(services::run(tape, black_box(start(i)), from, to));
@@ -393,16 +425,15 @@ fn run(inputs: &Inputs, variant: u32, rounds: usize, forward: bool) -> Times {
 }
 
 /// At the last position.
-fn trace(inputs: &Inputs, variant: u32, rounds: usize) -> Times {
+fn trace(inputs: &Inputs, variant: u32) -> Pair<'_> {
     let mut exponents = [0; 4];
-    measure(
-        rounds,
-        |i| {
+    Pair::new(
+        move |i| {
             let tape = black_box(inputs.tape(variant, i));
             black_box(proved::trace(tape, steps(tape), &mut exponents));
             black_box(&exponents);
         },
-        |i| {
+        move |i| {
             let tape = black_box(inputs.tape(variant, i));
             let _ = black_box(services::trace(tape, steps(tape)));
         },
@@ -410,70 +441,65 @@ fn trace(inputs: &Inputs, variant: u32, rounds: usize) -> Times {
 }
 
 /// The whole program's steps.
-fn cut(inputs: &Inputs, variant: u32, rounds: usize) -> Times {
+fn cut(inputs: &Inputs, variant: u32) -> Pair<'_> {
     let (mut start, mut count) = (0, 0);
-    measure(
-        rounds,
-        |i| {
+    Pair::new(
+        move |i| {
             let tape = black_box(inputs.tape(variant, i));
             black_box(proved::cut(tape, 0, steps(tape), &mut start, &mut count));
             black_box((start, count));
         },
-        |i| {
+        move |i| {
             let tape = black_box(inputs.tape(variant, i));
             let _ = black_box(services::cut(tape, 0, steps(tape)));
         },
     )
 }
 
-fn listing(inputs: &Inputs, variant: u32, rounds: usize) -> Times {
-    let bytes = inputs.bytes(variant);
+fn listing(inputs: &Inputs, variant: u32) -> Pair<'_> {
     let mut lines = [0; MOST_LISTING];
     let mut written = 0;
-    measure(
-        rounds,
-        |i| {
+    Pair::new(
+        move |i| {
             black_box(proved::listing(
-                black_box(&bytes[i]),
+                black_box(inputs.bytes(variant, i)),
                 &mut lines,
                 &mut written,
             ));
             black_box(&lines);
         },
-        |i| {
-            black_box(services::listing(black_box(&bytes[i])));
+        move |i| {
+            black_box(services::listing(black_box(inputs.bytes(variant, i))));
         },
     )
 }
 
-fn inverse(inputs: &Inputs, rounds: usize) -> Times {
+fn inverse(inputs: &Inputs) -> Pair<'_> {
     let r = inputs.r;
     let mut found = 0;
-    measure(
-        rounds,
-        |i| {
+    Pair::new(
+        move |i| {
             let k = black_box(inputs.exponents[i]);
             black_box(proved::inverse(k, black_box(r), &mut found));
             black_box(found);
         },
-        |i| {
+        move |i| {
             let k = black_box(inputs.exponents[i]);
             let _ = black_box(services::inverse(k, black_box(r)));
         },
     )
 }
 
-fn places(inputs: &Inputs, rounds: usize) -> Times {
+fn places(inputs: &Inputs) -> Pair<'_> {
     let (mut row, mut other) = ([0; MOST_PLACES], [0; MOST_PLACES]);
     let mut count = 0;
-    measure(
-        rounds,
-        |i| {
+    Pair::new(
+        move |i| {
             let n = black_box(inputs.numbers[i]);
             black_box(proved::places(n, &mut row, &mut count));
             black_box(&row);
         },
-        |i| {
+        move |i| {
             let n = black_box(inputs.numbers[i]);
             let _ = black_box(services::write_places(n, &mut other));
             black_box(&other);
@@ -481,41 +507,38 @@ fn places(inputs: &Inputs, rounds: usize) -> Times {
     )
 }
 
-fn number(inputs: &Inputs, rounds: usize) -> Times {
+fn number(inputs: &Inputs) -> Pair<'_> {
     let mut n = 0;
-    measure(
-        rounds,
-        |i| {
+    Pair::new(
+        move |i| {
             black_box(proved::number(black_box(&inputs.lists[i]), &mut n));
             black_box(n);
         },
-        |i| {
+        move |i| {
             let _ = black_box(services::number(black_box(&inputs.lists[i])));
         },
     )
 }
 
-fn hofstadter(inputs: &Inputs, rounds: usize) -> Times {
-    measure(
-        rounds,
-        |i| {
+fn hofstadter(inputs: &Inputs) -> Pair<'_> {
+    Pair::new(
+        move |i| {
             black_box(proved::hofstadter(black_box(inputs.numbers[i])));
         },
-        |i| {
+        move |i| {
             black_box(services::hofstadter(black_box(inputs.numbers[i])));
         },
     )
 }
 
-fn fibonacci(rounds: usize) -> Times {
+fn fibonacci() -> Pair<'static> {
     let mut value = 0;
-    measure(
-        rounds,
-        |i| {
+    Pair::new(
+        move |i| {
             black_box(proved::fibonacci(black_box(i as u32), &mut value));
             black_box(value);
         },
-        |i| {
+        move |i| {
             let _ = black_box(services::fibonacci(black_box(i as u32)));
         },
     )
