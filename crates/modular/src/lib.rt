@@ -38,7 +38,10 @@ pub fn power(base: u32, exponent: u32, m: u32) -> u32
     result
 }
 
-// Whether p is prime: 2 and 3, then each 6i - 1 and 6i + 1 up to the square root.
+// From here on the table of small divisors takes less time than the divisions it stands for.
+const TABLE_PAYS: u32 = 1048576;
+
+// Whether p is prime: 2 and 3, then each 6i - 1 and 6i + 1 up to the square root, of which the table has those up to 2^14.
 pub fn is_prime(p: u32) -> bool
     ensures { λ r. ⌜ r ≡ isPrime p ⌝ }
 {
@@ -55,6 +58,12 @@ pub fn is_prime(p: u32) -> bool
         return false;
     }
     let mut d: u32 = 5;
+    if p >= TABLE_PAYS {
+        if divisors::has_small_divisor(p) {
+            return false;
+        }
+        d = 16385;
+    }
     while (d as u64) * (d as u64) <= p as u64 {
         if p % d == 0 {
             return false;

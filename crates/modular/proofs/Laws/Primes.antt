@@ -9,6 +9,8 @@ use native.Mathlib.Omega.{arith}
 use native.Mathlib.Decide.{ℕ-discrete, decLe, decLt}
 use lib.Dec.{leb, eqb}
 use borrow.Author.Tests.{eqb-true, eq-eqb, leb-true, le-leb}
+use Rattle.divisors.specs.Small.{limit, SmallDivisor, Tells}
+use Rattle.divisors.proofs.Laws.Quotients.{cofactor-two}
 use Rattle.modular.specs.Search.{greatest, divides}
 use Rattle.modular.specs.Primes.{Prime, isPrime}
 use Rattle.refusal.proofs.Laws.Tests.{test-false, both}
@@ -46,11 +48,8 @@ divisor-composite p d low high h = not-prime p (λ pr. pr .only d low high h)
 cofactor : (p d : ℕ) → d < p → d ∣ p → p < d * d → (q : ℕ) × (2 ≤ q) × (q * q ≤ p) × (q ∣ p)
 cofactor p d less h past =
     let whole : p / d * d ≡ p = div-mul-cancel d h in
-    (p / d, two (p / d) whole, root (p / d) whole, subst (λ (n : ℕ). p / d ∣ n) whole (dvd-mul-right (p / d) d))
+    (p / d, cofactor-two p d (p / d) less whole, root (p / d) whole, subst (λ (n : ℕ). p / d ∣ n) whole (dvd-mul-right (p / d) d))
   where
-    two : (q : ℕ) → q * d ≡ p → 2 ≤ q
-    two q e = elim (decLe 2 q) [ yes l ↦ l | no l ↦ absurd (omega (arith, mul-le-mul-right {m = q} {n = 1} d (omega arith))) ]
-
     root : (q : ℕ) → q * d ≡ p → q * q ≤ p
     root q e =
         elim (decLe q d) [
@@ -120,6 +119,20 @@ module _ (p : ℕ) (odd : ¬ (p % 2 ≡ 0)) (other : ¬ (p % 3 ≡ 0)) where
                 (λ z. at d first e (omega (arith, t .five)) h)
                 (divisor-leaves e h)
           ]
+
+-- by the table of small divisors, of a p above them
+pub small-divisor-composite : (p : ℕ) → Tells p true → isPrime p ≡ false
+small-divisor-composite p t =
+    let found : (d : ℕ) × SmallDivisor p d = t .some refl in
+    divisor-composite p (found .0) (found .1 .low) (found .1 .less) (found .1 .divides)
+
+pub tried-small : (p : ℕ) → limit < p → Tells p false → Tried p (limit + 1)
+tried-small p above t =
+    record {
+      five = refl;
+      low = omega arith;
+      none = λ e low high h. t .none refl e (record { low = low; high = omega arith; less = omega arith; divides = h });
+    }
 
 -- past the root everything that matters is tried
 pub tried-prime : (p d : ℕ) → 2 ≤ p → Tried p d → p < d * d → isPrime p ≡ true

@@ -1,7 +1,7 @@
 -- Products modulo m: a factor may be reduced first, since what is left out is a multiple of m.
 use mathlib.Core.Path.{_≡_, refl, sym, _∙_, ap}
 use Prim.Native.Nat.{ℕ, zero, suc, _+_, _*_, _/_, _%_, _<_}
-use native.Mathlib.Nat.{add-mul-mod-self-right, le-of-lt, lt-of-le-of-lt, mod-add-div', mod-eq-of-lt, mul-assoc, mul-comm, mul-le-mul-left, mul-lt-mul-of-pos-right, mul-one, one-mul, zero-mod, zero-mul}
+use native.Mathlib.Nat.{add-mul-mod-self-right, mod-add-div', mod-eq-of-lt, mul-assoc, mul-comm, mul-one, one-mul, zero-mod, zero-mul}
 use native.Mathlib.Omega.{arith}
 use Rattle.modular.specs.Residues.{Residue, times, remainder}
 
@@ -24,10 +24,6 @@ unscaled r k K m n inv e =
     ∙ sym (mul-mod-left (k * K) n r)
     ∙ ap (λ (x : ℕ). x * n % r) inv
     ∙ ap (λ (x : ℕ). x % r) (one-mul n)
-
--- the product of two numbers below n
-pub product-below : (n : ℕ) {x y : ℕ} → x < n → y < n → x * y < n * n
-product-below n {x} {y} hx hy = lt-of-le-of-lt (mul-le-mul-left x (le-of-lt hy)) (mul-lt-mul-of-pos-right hx (omega arith))
 
 pub remainder-zero : (n m : ℕ) → m ≡ 0 → remainder n m ≡ 0
 unfolding remainder

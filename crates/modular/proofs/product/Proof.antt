@@ -3,7 +3,8 @@ use mathlib.Core.Path.{sym}
 use native.Mathlib.Nat.{lt-trans, mod-lt}
 use native.Mathlib.Omega.{arith}
 use borrow.Author.Needs.{needs}
-use Rattle.modular.proofs.Laws.Residues.{product-below, remainder-zero, remainder-is}
+use Rattle.divisors.proofs.Laws.Quotients.{product-below}
+use Rattle.modular.proofs.Laws.Residues.{remainder-zero, remainder-is}
 use Rattle.modular.proofs.product.Statement.{statement}
 use Rattle.modular.proofs.product.Tie as tie
 

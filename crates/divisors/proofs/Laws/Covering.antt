@@ -1,0 +1,129 @@
+-- A list of inverses covers the odd numbers from e on, as one test computes: each has its inverse next in the list, or a smaller
+-- divisor. Then a number that none of the listed divides has no small divisor, since the least it could have is listed.
+use mathlib.Core.Path.{_≡_}
+use mathlib.Core.Bool.{Bool, true, false, _&&_, false≢true}
+use mathlib.Core.List.{List, [], _∷_}
+use Prim.Native.Nat.{ℕ, zero, suc, _+_, _*_, _%_, _≤_, _<_}
+use native.Mathlib.Nat.{dvd-of-mod-eq-zero, dvd-trans, mod-eq-zero-of-dvd}
+use native.Mathlib.Omega.{arith}
+use native.Mathlib.Decide.{ℕ-discrete, decLt}
+use lib.Dec.{eqb, ltb}
+use lib.ListN.{length, getD}
+use borrow.Author.Tests.{eqb-true, ltb-true, ltb-false}
+use Rattle.divisors.specs.Small.{limit, SmallDivisor, Tells}
+use Rattle.divisors.specs.Inverted.{word, TellsOf}
+use Rattle.refusal.proofs.Laws.Tests.{by-test, both}
+
+-- the first of the numbers fs that divides e is from 2 to e - 1
+unfoldable pub dividedBy : List ℕ → ℕ → Bool
+dividedBy [] e = false
+dividedBy (f ∷ fs) e = elim (eqb (e % f) 0) [ true ↦ ltb 1 f && ltb f e | false ↦ dividedBy fs e ]
+
+-- the n odd numbers from e on: each has its inverse at the front of what is left of the list, or a divisor among fs
+unfoldable pub covers : List ℕ → ℕ → ℕ → List ℕ → Bool
+covers fs zero e xs = true
+covers fs (suc n) e [] = dividedBy fs e && covers fs n (e + 2) []
+covers fs (suc n) e (x ∷ xs) =
+    elim (eqb (e * x % word) 1) [
+      | true ↦ covers fs n (e + 2) xs
+      | false ↦ dividedBy fs e && covers fs n (e + 2) (x ∷ xs)
+    ]
+
+-- the odd primes up to the root of 2^14
+abbrev pub oddPrimes : List ℕ
+oddPrimes = 3 ∷ 5 ∷ 7 ∷ 11 ∷ 13 ∷ 17 ∷ 19 ∷ 23 ∷ 29 ∷ 31 ∷ 37 ∷ 41 ∷ 43 ∷ 47 ∷ 53 ∷ 59 ∷ 61 ∷ 67 ∷ 71 ∷ 73 ∷ 79 ∷ 83 ∷ 89 ∷ 97 ∷ 101 ∷ 103 ∷ 107 ∷ 109 ∷ 113 ∷ 127 ∷ []
+
+-- no small divisor of p is below e
+abbrev NoneBelow : ℕ → ℕ → Type 0
+NoneBelow p e = (d : ℕ) → d < e → ¬ (SmallDivisor p d)
+
+-- none is listed, where place 0 of the list is for 2 i + 5 or more
+abbrev NoneListed : ℕ → ℕ → List ℕ → Type 0
+NoneListed p i xs = (k d : ℕ) → k < length xs → 2 * (i + k) + 5 ≤ d → d * getD xs k 0 % word ≡ 1 → ¬ (SmallDivisor p d)
+
+-- f, the least divisor above 1, is a small divisor where it is not p
+pub tells-least : (p f : ℕ) → 2 ≤ f → f ≤ limit → p % f ≡ 0 → NoneBelow p f → Tells p (ltb f p)
+tells-least p f low high whole below =
+    record {
+      some = λ e. (f, record { low = low; high = high; less = ltb-true f p e; divides = dvd-of-mod-eq-zero f whole });
+      none = λ e d s. below d (omega (arith, ltb-false f p e, s .less)) s;
+    }
+
+pub none-below-two : (p : ℕ) → NoneBelow p 2
+none-below-two p d high s = omega (arith, s .low)
+
+module _ (p : ℕ) (odd : ¬ (p % 2 ≡ 0)) where
+  no-even : (d : ℕ) → d % 2 ≡ 0 → ¬ (SmallDivisor p d)
+  no-even d even s = odd (mod-eq-zero-of-dvd 2 (dvd-trans 2 (dvd-of-mod-eq-zero 2 even) (s .divides)))
+
+  pub none-below-three : NoneBelow p 3
+  none-below-three d high s = no-even d (omega (arith, s .low)) s
+
+  -- a divisor of e would be a smaller one of p
+  divided : (fs : List ℕ) (e : ℕ) → NoneBelow p e → dividedBy fs e ≡ true → ¬ (SmallDivisor p e)
+  unfolding dividedBy
+  divided [] e below t s = absurd (false≢true t)
+  divided (f ∷ fs) e below t s =
+      by-test (eqb (e % f) 0)
+      (λ h.
+      let ends : (ltb 1 f ≡ true) × (ltb f e ≡ true) = both _ _ (rw (h, dividedBy) at t) in
+      let less : f < e = ltb-true f e (ends .1) in
+      below f less
+      (record {
+        low = ltb-true 1 f (ends .0);
+        high = omega (arith, s .high);
+        less = omega (arith, s .less);
+        divides = dvd-trans f (dvd-of-mod-eq-zero f (eqb-true (e % f) 0 h)) (s .divides);
+      }))
+      (λ h. divided fs e below (rw (h, dividedBy) at t) s)
+
+  -- past e, which is odd, and e + 1, which is even
+  past : (e : ℕ) → e % 2 ≡ 1 → NoneBelow p e → ¬ (SmallDivisor p e) → NoneBelow p (e + 2)
+  past e one below here d high s =
+      elim (decLt d e) [
+        | yes l ↦ below d l s
+        | no l ↦
+            elim (ℕ-discrete d e) [
+              | yes same ↦ here (rw same at s)
+              | no other ↦ no-even d (omega arith) s
+            ]
+      ]
+
+  -- the first place left out
+  listed-more : (i x : ℕ) (xs : List ℕ) → NoneListed p i (x ∷ xs) → NoneListed p (suc i) xs
+  listed-more i x xs listed k d inside least inverse = listed (suc k) d (omega arith) (omega arith) inverse
+
+  walk : (fs : List ℕ) (n e i : ℕ) (xs : List ℕ) → covers fs n e xs ≡ true → 2 * i + 5 ≤ e → e % 2 ≡ 1 → NoneListed p i xs → NoneBelow p e → NoneBelow p (e + 2 * n)
+  unfolding covers
+  walk fs zero e i xs t least one listed below d high = below d (omega arith)
+  walk fs (suc n) e i [] t least one listed below d high =
+      let parts : (dividedBy fs e ≡ true) × (covers fs n (e + 2) [] ≡ true) = both _ _ t in
+      let next : NoneBelow p (e + 2) = past e one below (divided fs e below (parts .0)) in
+      walk fs n (e + 2) i [] (parts .1) (omega arith) (omega arith) listed next d (omega arith)
+  walk fs (suc n) e i (x ∷ xs) t least one listed below d high =
+      by-test (eqb (e * x % word) 1)
+      (λ h.
+      let next : NoneBelow p (e + 2) = past e one below (listed 0 e (omega arith) (omega arith) (eqb-true (e * x % word) 1 h)) in
+      walk fs n (e + 2) (suc i) xs (rw (h, covers) at t) (omega arith) (omega arith) (listed-more i x xs listed) next d (omega arith))
+      (λ h.
+      let parts : (dividedBy fs e ≡ true) × (covers fs n (e + 2) (x ∷ xs) ≡ true) = both _ _ (rw (h, covers) at t) in
+      let next : NoneBelow p (e + 2) = past e one below (divided fs e below (parts .0)) in
+      walk fs n (e + 2) i (x ∷ xs) (parts .1) (omega arith) (omega arith) listed next d (omega arith))
+
+  -- 2, 3 and 4
+  none-below-five : ¬ (p % 3 ≡ 0) → NoneBelow p 5
+  none-below-five other d high s =
+      elim (ℕ-discrete d 3) [
+        | yes three ↦ other (mod-eq-zero-of-dvd 3 (rw three at (s .divides)))
+        | no not-three ↦ no-even d (omega (arith, s .low)) s
+      ]
+
+  pub tells-covered : {xs : List ℕ} {found : Bool} → ¬ (p % 3 ≡ 0) → TellsOf xs p found → covers oddPrimes 8190 5 xs ≡ true → Tells p found
+  tells-covered {xs} other h t =
+      record {
+        some = h .some;
+        none = λ e d s.
+            walk oddPrimes 8190 5 0 xs t (omega arith) (omega arith)
+            (λ j n inside least inverse. h .none e j n (record { place = inside; least = omega arith; one = inverse }))
+            (none-below-five other) d (omega (arith, s .high)) s;
+      }

@@ -1,0 +1,3 @@
+-- Small divisors, in reading order.
+pub mod Small
+pub mod Inverted
