@@ -15,7 +15,7 @@ word = 4294967296
 abbrev pub quotientBy : ℕ → ℕ → ℕ
 quotientBy x p = p * x % word
 
--- q, which is at least 2, is what p divided by a number up to 2^14 comes to
+-- q is at least 2, and what p divided by a number up to 2^14 comes to
 unfoldable pub isQuotient : ℕ → ℕ → Bool
 isQuotient p q = leb 2 q && eqb (p % q) 0 && leb (p / q) limit
 

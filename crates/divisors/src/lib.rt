@@ -65,7 +65,7 @@ fn quotient(p: u32, inverse: u32) -> u32
     ((p as u64) * (inverse as u64) % 4294967296) as u32
 }
 
-// Whether q, which is at least 2, is what p divided by a number up to 2^14 comes to.
+// Whether q is at least 2, and what p divided by a number up to 2^14 comes to.
 fn is_quotient(p: u32, q: u32) -> bool
     ensures { λ r. ⌜ r ≡ isQuotient p q ⌝ }
 {
