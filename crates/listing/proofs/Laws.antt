@@ -1,6 +1,5 @@
--- What is left to write, decimal numbers, the words that bytes give, lines, and a listing by cases and by its length.
+-- What is left to write, the words that bytes give, lines, and a listing by cases and by its length.
 pub mod Remaining
-pub mod Decimal
 pub mod Tapes
 pub mod Lines
 pub mod Cases

@@ -1,3 +1,2 @@
 -- Document 01, "Listing".
-pub mod Text
 pub mod Listing

@@ -12,7 +12,7 @@ use Rattle.tape.specs.declared.Header.{Header}
 use Rattle.tape.specs.Layout.{headerOf, stepsOf}
 use Rattle.program.specs.Services.{roomOutcome, checkRules}
 use Rattle.listing.specs.declared.Listed.{Listed}
-use Rattle.listing.specs.Text.{ascii, decimal, line}
+use Rattle.text.specs.Text.{ascii, decimal, line}
 
 -- ---- a tape as bytes
 

@@ -5,7 +5,7 @@ ghost use Prim.Native.Nat.{_+_, _≤_};
 ghost use lib.ListN.{length};
 ghost use Rattle.refusal.specs.Rows.{Wrote};
 ghost use Rattle.tape.specs.Layout.{stepCount, stepsOf};
-ghost use Rattle.listing.specs.Text.{decimal, blank};
+ghost use Rattle.text.specs.Text.{decimal, blank};
 ghost use Rattle.listing.specs.Listing.{refusedLine, variantName, firstLine, namedLine, stepLine, stepLines};
 use tape::Header;
 use tape::Step;

@@ -15,7 +15,7 @@ use Rattle.named.specs.Generators.{ascend, basic}
 use Rattle.named.specs.Named.{basicSteps, namedSteps}
 use Rattle.named.specs.Parameters.{badModulus, badOrder}
 use Rattle.program.specs.Services.{sameWords, checkRules}
-use Rattle.listing.specs.Text.{ascii, decimalWithin, decimal, line}
+use Rattle.text.specs.Text.{ascii, decimalWithin, decimal, line}
 use Rattle.listing.specs.Listing.{tapeOf, noTape, listingRules, stepLines, listingOf}
 
 -- a word's four bytes, least significant first

@@ -24,9 +24,9 @@ use Rattle.tape.proofs.Laws.Rows.{all-steps-sound}
 use Rattle.tape.proofs.Laws.Layout.{steps-count}
 use Rattle.program.specs.Services.{acceptOutcome}
 use Rattle.program.proofs.Laws.Checking.{accepted, header-is}
-use Rattle.listing.specs.Text.{ascii, decimal, blank, newline, line}
+use Rattle.text.specs.Text.{ascii, decimal, blank, newline, line}
 use Rattle.listing.specs.Listing.{tapeOf, listingRules, listingOutcome, refusedLine, variantName, firstLine, namedLine, stepLine, stepLines, listingNumber, listingOf, mostWritten}
-use Rattle.listing.proofs.Laws.Decimal.{decimal-length}
+use Rattle.text.proofs.Laws.Decimal.{decimal-length}
 use Rattle.listing.proofs.Laws.Cases.{listing-by, Promised, row-enough}
 
 -- a line has each word with a byte behind it

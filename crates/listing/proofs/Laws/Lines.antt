@@ -10,7 +10,7 @@ use Rattle.tape.specs.Words.{decoded}
 use Rattle.tape.specs.Layout.{stepCount, stepAt, stepOf, stepsOf}
 use Rattle.tape.proofs.Laws.Rows.{steps-at}
 use Rattle.tape.proofs.Laws.Layout.{steps-count}
-use Rattle.listing.specs.Text.{blank, newline, line}
+use Rattle.text.specs.Text.{blank, newline, line}
 use Rattle.listing.specs.Listing.{stepLine, stepLines}
 use Rattle.listing.proofs.Laws.Remaining.{Remaining, room-next, after-next, drop-next}
 

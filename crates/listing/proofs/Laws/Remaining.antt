@@ -3,10 +3,10 @@ use mathlib.Core.Path.{_≡_, refl, ap, _∙_}
 use mathlib.Core.List.{List, [], _∷_, _++_}
 use Prim.Native.Nat.{ℕ, suc, _+_, _≤_, _<_}
 use native.Mathlib.Omega.{arith}
-use lib.ListN.{length, getD, take, drop, set, length-append}
-use lib.Seq.{drop-cons, take-at}
+use lib.ListN.{length, getD, drop, set, length-append}
+use lib.Seq.{drop-cons}
 use Rattle.refusal.specs.Rows.{Wrote}
-use Rattle.refusal.proofs.Laws.Rows.{wrote-none, wrote-more, wrote-length, wrote-front}
+use Rattle.refusal.proofs.Laws.Rows.{wrote-none, wrote-more, wrote-length}
 
 pub record Remaining (before : List ℕ) (at : ℕ) (words : List ℕ) (next : ℕ) (now rest : List ℕ) : Type 0 where
   pub room : next + length rest ≤ length now
@@ -38,7 +38,3 @@ module _ {before : List ℕ} {at : ℕ} {words : List ℕ} {next : ℕ} {now : L
 -- the elements from an index on: the one there, and those from the next on
 pub drop-next : {A : Type 0} (l : List A) (i next : ℕ) (d : A) → next ≡ i + 1 → i < length l → drop i l ≡ getD l i d ∷ drop next l
 drop-next l i next d e h = let same : suc i ≡ next = omega arith in drop-cons l i d h ∙ ap (λ (n : ℕ). getD l i d ∷ drop n l) same
-
--- what was written from the start is what the row begins with
-pub wrote-taken : {before words after : List ℕ} {next : ℕ} → Wrote before 0 words next after → length words ≤ length before → take next after ≡ words
-wrote-taken {before} {words} {after} {next} w h = ap (take next) (wrote-front w h) ∙ take-at words _ next (omega (arith, w .next-is))

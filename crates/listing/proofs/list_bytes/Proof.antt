@@ -7,10 +7,9 @@ use borrow.Author.Needs.{needs}
 use lib.ListN.{length, take}
 use lib.Seq.{length-take-le}
 use Rattle.refusal.specs.Outcomes.{refused}
-use Rattle.refusal.proofs.Laws.Rows.{wrote-length}
+use Rattle.refusal.proofs.Laws.Rows.{wrote-length, wrote-taken}
 use Rattle.program.specs.Services.{acceptOutcome}
 use Rattle.listing.specs.Listing.{tapeOf, listingOutcome, numberIn}
-use Rattle.listing.proofs.Laws.Remaining.{wrote-taken}
 use Rattle.listing.proofs.Laws.Tapes.{tape-length}
 use Rattle.listing.proofs.Laws.Cases.{too-long, no-words, some-words, listing-by}
 use Rattle.listing.proofs.list_bytes.Statement.{statement}

@@ -6,9 +6,8 @@ use native.Mathlib.Omega.{arith}
 use borrow.Author.Needs.{needs}
 use lib.ListN.{length, take}
 use lib.Seq.{length-take-le}
-use Rattle.refusal.proofs.Laws.Rows.{wrote-front, wrote-length}
+use Rattle.refusal.proofs.Laws.Rows.{wrote-front, wrote-length, wrote-taken}
 use Rattle.listing.specs.Listing.{listingOf}
-use Rattle.listing.proofs.Laws.Remaining.{wrote-taken}
 use Rattle.listing.proofs.Laws.Cases.{row-short, row-enough, listed-as}
 use Rattle.listing.proofs.Laws.Lengths.{listing-most}
 use Rattle.listing.proofs.listing.Statement.{statement}

@@ -4,11 +4,11 @@ use mathlib.Core.List.{List, [], _∷_, _++_}
 use Prim.Native.Nat.{ℕ, suc, _+_, _≤_}
 use native.Mathlib.Nat.{add-zero, zero-add, add-suc, suc-add}
 use native.Mathlib.Omega.{arith}
-use lib.ListN.{length, set, drop, length-append}
-use lib.Seq.{sets, sets-eq, length-sets}
+use lib.ListN.{length, set, take, drop, length-append}
+use lib.Seq.{sets, sets-eq, length-sets, take-at}
 use Rattle.refusal.specs.Rows.{Wrote}
 
-sets-append : (vs ws l : List ℕ) (i : ℕ) → sets (sets l i vs) (i + length vs) ws ≡ sets l i (vs ++ ws)
+pub sets-append : (vs ws l : List ℕ) (i : ℕ) → sets (sets l i vs) (i + length vs) ws ≡ sets l i (vs ++ ws)
 sets-append [] ws l i = rw add-zero
 sets-append (v ∷ vs) ws l i = rw (add-suc, ← suc-add) (sets-append vs ws (set l i v) (suc i))
 
@@ -28,6 +28,10 @@ wrote-length {a} {at = at} {ws = ws} w = ap length (w .after-is) ∙ length-sets
 -- written from the start, the row is the words with what stood past them
 pub wrote-front : {a b : List ℕ} {n : ℕ} {ws : List ℕ} → Wrote a 0 ws n b → length ws ≤ length a → b ≡ ws ++ drop (length ws) a
 wrote-front {a} {ws = ws} w h = w .after-is ∙ sets-eq ws a 0 (omega arith) ∙ rw zero-add
+
+-- so it begins with them
+pub wrote-taken : {a b : List ℕ} {n : ℕ} {ws : List ℕ} → Wrote a 0 ws n b → length ws ≤ length a → take n b ≡ ws
+wrote-taken {n = n} {ws} w h = ap (take n) (wrote-front w h) ∙ take-at ws _ n (omega (arith, w .next-is))
 
 -- a loop that writes a total part by part: there is room for the next part, and then it is written too
 pub wrote-room : {a b done done′ : List ℕ} {at m : ℕ} (one total rest : List ℕ) → Wrote a at done m b → done′ ≡ done ++ one → total ≡ done′ ++ rest

@@ -3,7 +3,7 @@ use mathlib.Core.List.{List, [], _∷_, _++_}
 use Prim.Native.Nat.{ℕ}
 use borrow.Author.Needs.{needs}
 use Rattle.tape.specs.declared.Header.{Header}
-use Rattle.listing.specs.Text.{ascii, decimal, line}
+use Rattle.text.specs.Text.{ascii, decimal, line}
 use Rattle.listing.specs.Listing.{variantName, firstLine}
 use Rattle.listing.proofs.Laws.Remaining.{Remaining, all-left}
 use Rattle.listing.proofs.Laws.Lines.{word-room, word-after, last-room, last-after}

@@ -1,7 +1,7 @@
 -- `lines::labelled` meets its contract: the label, then the number.
 use mathlib.Core.List.{[], _∷_, _++_}
 use borrow.Author.Needs.{needs}
-use Rattle.listing.specs.Text.{decimal}
+use Rattle.text.specs.Text.{decimal}
 use Rattle.listing.proofs.Laws.Remaining.{Remaining, room-next, after-next}
 use Rattle.listing.proofs.Laws.Lines.{labelled-left}
 use Rattle.listing.proofs.lines.labelled.Statement.{statement}

@@ -2,8 +2,8 @@
 use mathlib.Core.Path.{_≡_, _∙_}
 use borrow.Author.Needs.{needs}
 use lib.ListN.{take}
-use Rattle.listing.specs.Text.{decimal}
-use Rattle.listing.proofs.Laws.Decimal.{fewest-digits}
+use Rattle.text.specs.Text.{decimal}
+use Rattle.text.proofs.Laws.Decimal.{fewest-digits}
 use Rattle.listing.proofs.lines.number.Statement.{statement}
 use Rattle.listing.proofs.lines.number.Tie as tie
 

@@ -10,7 +10,7 @@ use native.Mathlib.Omega.{arith}
 use lib.ListN.{length, length-append}
 use borrow.Author.Tests.{lt-ltb, le-ltb}
 use Rattle.io.specs.Digits.{glyph, digits, Fewest}
-use Rattle.listing.specs.Text.{decimalWithin, decimal}
+use Rattle.text.specs.Text.{decimalWithin, decimal}
 
 -- the last digit
 abbrev last : ℕ → List ℕ
