@@ -1,3 +1,5 @@
--- Decimal digits, and texts put one after another.
+-- Decimal digits written and read, texts put one after another, and words.
 pub mod Decimal
+pub mod Digits
 pub mod Puts
+pub mod Words

@@ -1,7 +1,25 @@
 // Text as bytes: put into a lent row, and read.
+mod words;
+
+ghost use mathlib.Core.Path.{_≡_};
 ghost use mathlib.Core.List.{[], _∷_};
+ghost use lib.ListN.{length, getD};
 ghost use Rattle.text.specs.Text.{decimal};
+ghost use Rattle.text.specs.Reading.{numberFrom, numberIn, wordsOf};
 ghost use Rattle.text.specs.Rows.{Put};
+use words::next_word;
+use words::word_begin;
+use words::word_end;
+
+// What reading a number gives.
+pub enum Parsed {
+    Number(u64),
+    NoNumber,
+}
+
+const ZERO: u8 = b'0';
+
+const NINE: u8 = b'9';
 
 // Puts a text from `at` on, as much of it as fits, and answers the index past it.
 pub fn put(row: &mut [u8], at: usize, text: &[u8]) -> usize
@@ -38,4 +56,66 @@ pub fn put_number(row: &mut [u8], at: usize, n: u64) -> usize
     let mut digits = [0u8; 20];
     let count = io::decimal(n, &mut digits);
     put(row, at, &digits[..count])
+}
+
+// Reads a whole number in decimal: one digit or more, nothing else, and none above `most`.
+pub fn number(text: &[u8], most: u64) -> Parsed
+    ensures { λ r. ⌜ r ≡ numberIn most (now (text .entry)) ⌝ }
+{
+    if text.len() == 0 {
+        return Parsed::NoNumber;
+    }
+    let mut n: u64 = 0;
+    let mut i: usize = 0;
+    while i < text.len() {
+        let read = with_digit(n, text[i], most);
+        match read {
+            Parsed::Number(next) => n = next,
+            Parsed::NoNumber => return Parsed::NoNumber,
+        }
+        i += 1;
+    }
+    Parsed::Number(n)
+}
+
+// The number with one digit more behind it. It is tested before it is made, since it may not fit a u64.
+fn with_digit(n: u64, byte: u8, most: u64) -> Parsed
+    ensures { λ r. ⌜ r ≡ numberFrom most n (byte ∷ []) ⌝ }
+{
+    if byte < ZERO {
+        return Parsed::NoNumber;
+    }
+    if NINE < byte {
+        return Parsed::NoNumber;
+    }
+    let digit = (byte - ZERO) as u64;
+    if most < digit {
+        return Parsed::NoNumber;
+    }
+    if (most - digit) / 10 < n {
+        return Parsed::NoNumber;
+    }
+    Parsed::Number(10 * n + digit)
+}
+
+// How many words arguments have.
+pub fn word_count(arguments: &[u8]) -> usize
+    ensures { λ count. ⌜ count ≡ length (wordsOf (now (arguments .entry))) ⌝ }
+{
+    let mut count: usize = 0;
+    let mut at: usize = 0;
+    while at < arguments.len() {
+        at = next_word(arguments, at);
+        count += 1;
+    }
+    count
+}
+
+// The word of an index, from 0; the empty one past the last.
+pub fn word(arguments: &[u8], index: usize) -> &[u8]
+    ensures { λ r. ⌜ now r ≡ getD (wordsOf (now (arguments .entry))) index [] ⌝ }
+{
+    let begin = word_begin(arguments, index);
+    let end = word_end(arguments, begin);
+    &arguments[begin..end]
 }

@@ -1,12 +1,14 @@
 -- Decimal digits: fuel above the number doesn't matter, the fewest digits that hold a number are its decimal digits, and how many
 -- there are at most.
 use mathlib.Core.Path.{_≡_, sym, ap, _∙_}
+use mathlib.Core.Bool.{cond}
 use mathlib.Core.List.{List, [], _∷_, _++_}
 use Prim.Native.Nat.{ℕ, zero, suc, _+_, _-_, _*_, _/_, _%_, _^_, _≤_, _<_}
 use Prim.Native.Char.{code}
 use native.Mathlib.Nat.{pow-suc}
 use native.Mathlib.Decide.{decLt}
 use native.Mathlib.Omega.{arith}
+use lib.Dec.{ltb}
 use lib.ListN.{length, length-append}
 use borrow.Author.Tests.{lt-ltb, le-ltb}
 use Rattle.io.specs.Digits.{glyph, digits, Fewest}
@@ -101,3 +103,7 @@ within-length (suc fuel) (suc k) n h =
 pub decimal-length : (k n : ℕ) → n < 10 ^ suc k → length (decimal n) ≤ suc k
 unfolding decimal
 decimal-length k n h = within-length (suc n) k n h
+
+pub decimal-some : (n : ℕ) → 0 < length (decimal n)
+unfolding decimal decimalWithin
+decimal-some n = omega (arith, length-append (cond (ltb n 10) [] (decimalWithin n (n / 10))) (last n))
