@@ -1,5 +1,7 @@
--- Decimal digits written and read, texts put one after another, and words.
+-- Decimal digits written and read, whole numbers, texts put one after another, words, and examples.
 pub mod Decimal
 pub mod Digits
+pub mod Wholes
 pub mod Puts
 pub mod Words
+pub mod Examples

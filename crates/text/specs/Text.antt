@@ -1,10 +1,11 @@
--- The bytes of a text, of a number and of a line.
+-- The bytes of a text, of a number, of a whole number and of a line.
 use mathlib.Core.Bool.{cond}
 use mathlib.Core.List.{List, [], _∷_, _++_}
 use Prim.Native.Nat.{ℕ, zero, suc, _+_, _/_, _%_}
 use Prim.Native.Char.{code}
 use Prim.Native.String.{String, len, charAt}
 use lib.Dec.{ltb}
+use lib.IntN.{ℤ, pos, negsuc}
 
 -- the bytes of a text of ASCII characters: `count` of them from an index on, and all
 abbrev pub codes : String → ℕ → ℕ → List ℕ
@@ -21,6 +22,11 @@ decimalWithin (suc fuel) n = cond (ltb n 10) [] (decimalWithin fuel (n / 10)) ++
 
 unfoldable pub decimal : ℕ → List ℕ
 decimal n = decimalWithin (suc n) n
+
+-- a whole number: a minus sign in front of one below 0; `negsuc n` is -(n + 1)
+unfoldable pub whole : ℤ → List ℕ
+whole (pos n) = decimal n
+whole (negsuc n) = code "-" ∷ decimal (suc n)
 
 abbrev pub blank : ℕ
 blank = code " "

@@ -3,8 +3,9 @@ mod words;
 
 ghost use mathlib.Core.Path.{_≡_};
 ghost use mathlib.Core.List.{[], _∷_};
+ghost use lib.IntN.{natAbs};
 ghost use lib.ListN.{length, getD};
-ghost use Rattle.text.specs.Text.{decimal};
+ghost use Rattle.text.specs.Text.{decimal, whole};
 ghost use Rattle.text.specs.Reading.{numberFrom, numberIn, wordsOf};
 ghost use Rattle.text.specs.Rows.{Put};
 use words::next_word;
@@ -16,6 +17,8 @@ pub enum Parsed {
     Number(u64),
     NoNumber,
 }
+
+const MINUS: u8 = b'-';
 
 const ZERO: u8 = b'0';
 
@@ -56,6 +59,27 @@ pub fn put_number(row: &mut [u8], at: usize, n: u64) -> usize
     let mut digits = [0u8; 20];
     let count = io::decimal(n, &mut digits);
     put(row, at, &digits[..count])
+}
+
+// Puts a whole number in decimal.
+pub fn put_whole(row: &mut [u8], at: usize, n: i64) -> usize
+    ensures { λ next. ⌜ Put (now (row .entry)) at (whole n) next (now (row .exit)) ⌝ }
+{
+    if n < 0 {
+        let next = put_byte(row, at, MINUS);
+        return put_number(row, next, magnitude(n));
+    }
+    put_number(row, at, magnitude(n))
+}
+
+// The number behind the sign. Below 0 it is made from -1 - n, since the opposite of the lowest i64 is none.
+fn magnitude(n: i64) -> u64
+    ensures { λ r. ⌜ r ≡ natAbs n ⌝ }
+{
+    if n < 0 {
+        return (-1 - n) as u64 + 1;
+    }
+    n as u64
 }
 
 // Reads a whole number in decimal: one digit or more, nothing else, and none above `most`.

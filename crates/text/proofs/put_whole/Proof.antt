@@ -1,0 +1,65 @@
+-- `put_whole` meets its contract: below 0 the minus sign and then the number behind it, else the number.
+use mathlib.Core.Path.{_≡_}
+use mir.Syntax.{w64}
+use mir.Val.{toZ, ofZ}
+use mir.ValLaws.{toZ-ofZ}
+use borrow.Author.Needs.{needs}
+use Rattle.text.proofs.Laws.Puts.{puts-join}
+use Rattle.text.proofs.Laws.Wholes.{below, natural}
+use Rattle.text.proofs.put_whole.Statement.{statement}
+use Rattle.text.proofs.put_whole.Tie as tie
+
+-- n comes back from its bits
+read : (c : tie.Start) → toZ w64 (ofZ w64 (c .args .n)) ≡ c .args .n
+read c = toZ-ofZ w64 (c .args .n) (c .fits .n)
+
+put-byte-requires : tie.Need-put-byte-requires
+put-byte-requires c κs = search needs
+
+magnitude-requires : tie.Need-magnitude-requires
+magnitude-requires c κs = search needs
+
+put-number-requires : tie.Need-put-number-requires
+put-number-requires c κs = search needs
+
+same-length : tie.Need-same-length
+same-length c = search needs
+
+returns : tie.Need-returns
+returns c =
+    let size = c .before .before .before in
+    let sign = size .before .before .before .before in
+    let under = sign .before .before in
+    let start = under .before .before in
+    rw (below _ (rw (read start) at (under .if1 .taken)) .spelt)
+    (puts-join (sign .put-byte .ensures) (rw (size .magnitude .ensures, read start) at (c .before .before .put-number .ensures)))
+
+magnitude-requires-2 : tie.Need-magnitude-requires-2
+magnitude-requires-2 c κs = search needs
+
+put-number-requires-2 : tie.Need-put-number-requires-2
+put-number-requires-2 c κs = search needs
+
+same-length-2 : tie.Need-same-length-2
+same-length-2 c = search needs
+
+returns-2 : tie.Need-returns-2
+returns-2 c =
+    let size = c .before .before .before in
+    let over = size .before .before in
+    let start = over .before .before in
+    rw (natural _ (rw (read start) at (over .if1 .left)) .spelt) (rw (size .magnitude2 .ensures, read start) at (c .before .before .put-number2 .ensures))
+
+pub put-whole-spec : {M : Type 1} → statement M
+put-whole-spec =
+    tie.close
+    (tie.spec
+    put-byte-requires
+    magnitude-requires
+    put-number-requires
+    same-length
+    returns
+    magnitude-requires-2
+    put-number-requires-2
+    same-length-2
+    returns-2)
