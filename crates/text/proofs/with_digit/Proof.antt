@@ -12,10 +12,10 @@ use Rattle.text.proofs.with_digit.Statement.{statement}
 use Rattle.text.proofs.with_digit.Tie as tie
 
 returns : tie.Need-returns
-returns c = sym (number-low _ _ _ _ (c .if1 .taken))
+returns c = sym (number-low _ _ _ _ (omega arith))
 
 returns-2 : tie.Need-returns-2
-returns-2 c = sym (number-high _ _ _ _ (c .if2 .taken))
+returns-2 c = sym (number-high _ _ _ _ (omega arith))
 
 -- the byte is a digit
 next : (c : tie.Else2)
