@@ -1,7 +1,8 @@
--- Decimal digits written and read, whole numbers, texts put one after another, words, and examples.
+-- Decimal digits written and read, whole numbers, texts put one after another, lines, words, and examples.
 pub mod Decimal
 pub mod Digits
 pub mod Wholes
 pub mod Puts
+pub mod Lines
 pub mod Words
 pub mod Examples

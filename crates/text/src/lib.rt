@@ -2,7 +2,7 @@
 mod words;
 
 ghost use mathlib.Core.Path.{_≡_};
-ghost use mathlib.Core.List.{[], _∷_};
+ghost use mathlib.Core.List.{[], _∷_, _++_};
 ghost use lib.IntN.{natAbs};
 ghost use lib.ListN.{length, getD};
 ghost use Rattle.text.specs.Text.{decimal, whole};
@@ -59,6 +59,22 @@ pub fn put_number(row: &mut [u8], at: usize, n: u64) -> usize
     let mut digits = [0u8; 20];
     let count = io::decimal(n, &mut digits);
     put(row, at, &digits[..count])
+}
+
+// Puts a text and a byte behind it.
+pub fn put_then(row: &mut [u8], at: usize, text: &[u8], last: u8) -> usize
+    ensures { λ next. ⌜ Put (now (row .entry)) at (now (text .entry) ++ last ∷ []) next (now (row .exit)) ⌝ }
+{
+    let next = put(row, at, text);
+    put_byte(row, next, last)
+}
+
+// Puts a number in decimal and a byte behind it.
+pub fn put_number_then(row: &mut [u8], at: usize, n: u64, last: u8) -> usize
+    ensures { λ next. ⌜ Put (now (row .entry)) at (decimal n ++ last ∷ []) next (now (row .exit)) ⌝ }
+{
+    let next = put_number(row, at, n);
+    put_byte(row, next, last)
 }
 
 // Puts a whole number in decimal.

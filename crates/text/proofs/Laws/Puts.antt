@@ -56,6 +56,23 @@ put-next {b = b} {m = m} text i h room v = rw (add-one i, take-suc text i 0) (pu
 pub put-rest : {a b : List ℕ} {at m : ℕ} (text : List ℕ) (i : ℕ) → length b ≤ m → Put a at (take i text) m b → Put a at text m b
 put-rest {b = b} {m = m} text i full v = rw take-append-drop at (puts-join v (put-full b (drop i text) m full))
 
+-- ---- a loop that puts a text part by part
+
+-- what is left of a text: the whole is put once the rest is
+pub record Left (before : List ℕ) (at : ℕ) (text : List ℕ) (next : ℕ) (now rest : List ℕ) : Type 0 where
+  pub whole : {end : ℕ} {after : List ℕ} → Put now next rest end after → Put before at text end after
+
+pub all-left : (row : List ℕ) (at : ℕ) (text : List ℕ) → Left row at text at row text
+all-left row at text = record { whole = λ w. w }
+
+module _ {before : List ℕ} {at : ℕ} {text : List ℕ} {next : ℕ} {now : List ℕ} where
+  pub nothing-left : Left before at text next now [] → Put before at text next now
+  nothing-left left = left .whole (put-none now next)
+
+  pub left-next : (one rest : List ℕ) → Left before at text next now (one ++ rest) → {next′ : ℕ} {now′ : List ℕ} → Put now next one next′ now′
+      → Left before at text next′ now′ rest
+  left-next one rest left w = record { whole = λ v. left .whole (puts-join w v) }
+
 -- ---- a text that fits
 
 pub put-fits : {a b : List ℕ} {at n : ℕ} {text : List ℕ} → Put a at text n b → at + length text ≤ length a → Wrote a at text n b
