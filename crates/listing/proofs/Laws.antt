@@ -1,5 +1,4 @@
--- What is left to write, the words that bytes give, lines, and a listing by cases and by its length.
-pub mod Remaining
+-- The words that bytes give, lines, and a listing by cases and by its length.
 pub mod Tapes
 pub mod Lines
 pub mod Cases

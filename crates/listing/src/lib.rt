@@ -3,21 +3,20 @@ mod lines;
 mod words;
 
 ghost use mathlib.Core.Path.{_≡_};
-ghost use Prim.Native.Nat.{_≤_};
 ghost use lib.ListN.{length};
 ghost use Rattle.refusal.specs.Refusals.{numberOf};
 ghost use Rattle.refusal.specs.Outcomes.{answered};
-ghost use Rattle.refusal.specs.Rows.{Wrote};
 ghost use Rattle.tape.specs.Layout.{stepsOf};
 ghost use Rattle.program.specs.Services.{acceptOutcome};
+ghost use Rattle.text.specs.Rows.{Put};
 ghost use Rattle.listing.specs.Listing.{listingNumber, listingOf, listingAnswer, listingRow, numberIn, refusedLine, linesFor};
 use lines::first_line;
-use lines::put;
 use lines::refused_line;
 use lines::step_lines;
 use refusal::Refusal;
 use tape::Header;
 use tape::Reading;
+use text::put;
 use words::words;
 
 // How many bytes were written, and the refusal's number, which is 0 where the tape is accepted.
@@ -58,8 +57,7 @@ pub fn listing(bytes: &[u8], lines: &mut [u8]) -> Listed
 
 // The listing of bytes, from the row's start.
 fn list_bytes(bytes: &[u8], row: &mut [u8]) -> Listed
-    requires { ⌜ length (listingOf (now bytes)) ≤ length (now row) ⌝ }
-    ensures { λ r. ⌜ Wrote (now (row .entry)) 0 (listingOf (now (bytes .entry))) (r .written) (now (row .exit)) ⌝ }
+    ensures { λ r. ⌜ Put (now (row .entry)) 0 (listingOf (now (bytes .entry))) (r .written) (now (row .exit)) ⌝ }
     ensures { λ r. ⌜ r .number ≡ listingNumber (now (bytes .entry)) ⌝ }
 {
     if MOST_BYTES < bytes.len() {
@@ -75,8 +73,7 @@ fn list_bytes(bytes: &[u8], row: &mut [u8]) -> Listed
 
 // The listing of a tape: check's refusals, else its lines.
 fn list_tape(tape: &[u32], row: &mut [u8]) -> Listed
-    requires { ⌜ length (linesFor (acceptOutcome (now tape)) (stepsOf (now tape))) ≤ length (now row) ⌝ }
-    ensures { λ r. ⌜ Wrote (now (row .entry)) 0 (linesFor (acceptOutcome (now (tape .entry))) (stepsOf (now (tape .entry)))) (r .written) (now (row .exit)) ⌝ }
+    ensures { λ r. ⌜ Put (now (row .entry)) 0 (linesFor (acceptOutcome (now (tape .entry))) (stepsOf (now (tape .entry)))) (r .written) (now (row .exit)) ⌝ }
     ensures { λ r. ⌜ r .number ≡ numberIn (acceptOutcome (now (tape .entry))) ⌝ }
 {
     match program::accept(tape) {
@@ -88,8 +85,7 @@ fn list_tape(tape: &[u32], row: &mut [u8]) -> Listed
 // The listing of an accepted tape.
 fn list_accepted(tape: &[u32], header: Header, row: &mut [u8]) -> Listed
     requires { ⌜ acceptOutcome (now tape) ≡ answered header ⌝ }
-    requires { ⌜ length (linesFor (answered header) (stepsOf (now tape))) ≤ length (now row) ⌝ }
-    ensures { λ r. ⌜ Wrote (now (row .entry)) 0 (linesFor (answered header) (stepsOf (now (tape .entry)))) (r .written) (now (row .exit)) ⌝ }
+    ensures { λ r. ⌜ Put (now (row .entry)) 0 (linesFor (answered header) (stepsOf (now (tape .entry)))) (r .written) (now (row .exit)) ⌝ }
     ensures { λ r. ⌜ r .number ≡ 0 ⌝ }
 {
     let next = first_line(row, 0, header);
@@ -102,8 +98,7 @@ fn list_accepted(tape: &[u32], header: Header, row: &mut [u8]) -> Listed
 
 // The listing of what is refused.
 fn list_refusal(e: Refusal, row: &mut [u8]) -> Listed
-    requires { ⌜ length (refusedLine (numberOf e)) ≤ length (now row) ⌝ }
-    ensures { λ r. ⌜ Wrote (now (row .entry)) 0 (refusedLine (numberOf e)) (r .written) (now (row .exit)) ⌝ }
+    ensures { λ r. ⌜ Put (now (row .entry)) 0 (refusedLine (numberOf e)) (r .written) (now (row .exit)) ⌝ }
     ensures { λ r. ⌜ r .number ≡ numberOf e ⌝ }
 {
     let number = refusal::number(e);

@@ -1,16 +1,20 @@
 // The lines of a listing. Each function writes from `at` on and answers the index past what it wrote.
 ghost use mathlib.Core.Path.{_≡_};
 ghost use mathlib.Core.List.{[], _∷_, _++_};
-ghost use Prim.Native.Nat.{_+_, _≤_};
-ghost use lib.ListN.{length};
-ghost use Rattle.refusal.specs.Rows.{Wrote};
+ghost use Prim.Native.Nat.{_≤_};
 ghost use Rattle.tape.specs.Layout.{stepCount, stepsOf};
 ghost use Rattle.text.specs.Text.{decimal, blank};
+ghost use Rattle.text.specs.Rows.{Put};
 ghost use Rattle.listing.specs.Listing.{refusedLine, variantName, firstLine, namedLine, stepLine, stepLines};
 use tape::Header;
 use tape::Step;
 use tape::step_at;
 use tape::step_of;
+use text::BLANK;
+use text::NEWLINE;
+use text::put;
+use text::put_number_then;
+use text::put_then;
 
 const REFUSED: [u8; 7] = *b"refused";
 
@@ -36,26 +40,18 @@ const DIV: [u8; 3] = *b"div";
 
 const SWP: [u8; 3] = *b"swp";
 
-// Between the words of a line.
-const BLANK: u8 = b' ';
-
-// After every line.
-const NEWLINE: u8 = 10;
-
 // The line of a refusal, with its number.
 pub(crate) fn refused_line(row: &mut [u8], at: usize, n: u32) -> usize
-    requires { ⌜ at + length (refusedLine n) ≤ length (now row) ⌝ }
-    ensures { λ next. ⌜ Wrote (now (row .entry)) at (refusedLine n) next (now (row .exit)) ⌝ }
+    ensures { λ next. ⌜ Put (now (row .entry)) at (refusedLine n) next (now (row .exit)) ⌝ }
 {
-    let b = word(row, at, &REFUSED, BLANK);
-    number(row, b, n, NEWLINE)
+    let b = put_then(row, at, &REFUSED, BLANK);
+    put_number_then(row, b, n as u64, NEWLINE)
 }
 
 // The first line: the variant's name, p, r, k and the step count.
 pub(crate) fn first_line(row: &mut [u8], at: usize, header: Header) -> usize
     requires { ⌜ header .variant ≤ 3 ⌝ }
-    requires { ⌜ at + length (firstLine header) ≤ length (now row) ⌝ }
-    ensures { λ next. ⌜ Wrote (now (row .entry)) at (firstLine header) next (now (row .exit)) ⌝ }
+    ensures { λ next. ⌜ Put (now (row .entry)) at (firstLine header) next (now (row .exit)) ⌝ }
 {
     let b = variant_name(row, at, header.variant);
     let c = labelled(row, b, &P, header.modulus, BLANK);
@@ -67,8 +63,7 @@ pub(crate) fn first_line(row: &mut [u8], at: usize, header: Header) -> usize
 // A line for each step, numbered from 1.
 pub(crate) fn step_lines(row: &mut [u8], at: usize, tape: &[u32], count: u32) -> usize
     requires { ⌜ count ≡ stepCount (now tape) ⌝ }
-    requires { ⌜ at + length (stepLines 1 (stepsOf (now tape))) ≤ length (now row) ⌝ }
-    ensures { λ next. ⌜ Wrote (now (row .entry)) at (stepLines 1 (stepsOf (now (tape .entry)))) next (now (row .exit)) ⌝ }
+    ensures { λ next. ⌜ Put (now (row .entry)) at (stepLines 1 (stepsOf (now (tape .entry)))) next (now (row .exit)) ⌝ }
 {
     let mut next = at;
     let mut i: u32 = 0;
@@ -81,8 +76,7 @@ pub(crate) fn step_lines(row: &mut [u8], at: usize, tape: &[u32], count: u32) ->
 
 // A step's line.
 fn step_line(row: &mut [u8], at: usize, n: u32, step: Step) -> usize
-    requires { ⌜ at + length (stepLine n step) ≤ length (now row) ⌝ }
-    ensures { λ next. ⌜ Wrote (now (row .entry)) at (stepLine n step) next (now (row .exit)) ⌝ }
+    ensures { λ next. ⌜ Put (now (row .entry)) at (stepLine n step) next (now (row .exit)) ⌝ }
 {
     match step {
         Step::Mul(target, source) => named_line(row, at, n, &MUL, target, source),
@@ -93,67 +87,31 @@ fn step_line(row: &mut [u8], at: usize, n: u32, step: Step) -> usize
 
 // A step's number, its name, target and source.
 fn named_line(row: &mut [u8], at: usize, n: u32, name: &[u8], target: u32, source: u32) -> usize
-    requires { ⌜ at + length (namedLine n (now name) target source) ≤ length (now row) ⌝ }
-    ensures { λ next. ⌜ Wrote (now (row .entry)) at (namedLine n (now (name .entry)) target source) next (now (row .exit)) ⌝ }
+    ensures { λ next. ⌜ Put (now (row .entry)) at (namedLine n (now (name .entry)) target source) next (now (row .exit)) ⌝ }
 {
-    let b = number(row, at, n, BLANK);
-    let c = word(row, b, name, BLANK);
-    let d = number(row, c, target, BLANK);
-    number(row, d, source, NEWLINE)
+    let b = put_number_then(row, at, n as u64, BLANK);
+    let c = put_then(row, b, name, BLANK);
+    let d = put_number_then(row, c, target as u64, BLANK);
+    put_number_then(row, d, source as u64, NEWLINE)
 }
 
 // The name of a variant, and a blank.
 fn variant_name(row: &mut [u8], at: usize, variant: u32) -> usize
     requires { ⌜ variant ≤ 3 ⌝ }
-    requires { ⌜ at + length (variantName variant ++ blank ∷ []) ≤ length (now row) ⌝ }
-    ensures { λ next. ⌜ Wrote (now (row .entry)) at (variantName variant ++ blank ∷ []) next (now (row .exit)) ⌝ }
+    ensures { λ next. ⌜ Put (now (row .entry)) at (variantName variant ++ blank ∷ []) next (now (row .exit)) ⌝ }
 {
     match variant {
-        0 => word(row, at, &FREE, BLANK),
-        1 => word(row, at, &BASIC, BLANK),
-        2 => word(row, at, &DUAL, BLANK),
-        _ => word(row, at, &HYBRID, BLANK),
+        0 => put_then(row, at, &FREE, BLANK),
+        1 => put_then(row, at, &BASIC, BLANK),
+        2 => put_then(row, at, &DUAL, BLANK),
+        _ => put_then(row, at, &HYBRID, BLANK),
     }
 }
 
 // A number behind its label, and a byte.
 fn labelled(row: &mut [u8], at: usize, label: &[u8], n: u32, last: u8) -> usize
-    requires { ⌜ at + length (now label ++ decimal n ++ last ∷ []) ≤ length (now row) ⌝ }
-    ensures { λ next. ⌜ Wrote (now (row .entry)) at (now (label .entry) ++ decimal n ++ last ∷ []) next (now (row .exit)) ⌝ }
+    ensures { λ next. ⌜ Put (now (row .entry)) at (now (label .entry) ++ decimal n ++ last ∷ []) next (now (row .exit)) ⌝ }
 {
     let b = put(row, at, label);
-    number(row, b, n, last)
-}
-
-// A number, and a byte.
-fn number(row: &mut [u8], at: usize, n: u32, last: u8) -> usize
-    requires { ⌜ at + length (decimal n ++ last ∷ []) ≤ length (now row) ⌝ }
-    ensures { λ next. ⌜ Wrote (now (row .entry)) at (decimal n ++ last ∷ []) next (now (row .exit)) ⌝ }
-{
-    let mut digits = [0u8; 20];
-    let count = io::decimal(n as u64, &mut digits);
-    word(row, at, &digits[..count], last)
-}
-
-// A text, and a byte.
-fn word(row: &mut [u8], at: usize, text: &[u8], last: u8) -> usize
-    requires { ⌜ at + length (now text ++ last ∷ []) ≤ length (now row) ⌝ }
-    ensures { λ next. ⌜ Wrote (now (row .entry)) at (now (text .entry) ++ last ∷ []) next (now (row .exit)) ⌝ }
-{
-    let next = put(row, at, text);
-    row[next] = last;
-    next + 1
-}
-
-// A text.
-pub(crate) fn put(row: &mut [u8], at: usize, text: &[u8]) -> usize
-    requires { ⌜ at + length (now text) ≤ length (now row) ⌝ }
-    ensures { λ next. ⌜ Wrote (now (row .entry)) at (now (text .entry)) next (now (row .exit)) ⌝ }
-{
-    let mut i: usize = 0;
-    while i < text.len() {
-        row[at + i] = text[i];
-        i += 1;
-    }
-    at + i
+    put_number_then(row, b, n as u64, last)
 }

@@ -2,14 +2,14 @@
 ghost use mathlib.Core.Path.{_≡_};
 ghost use Prim.Native.Nat.{_≤_, _/_};
 ghost use lib.ListN.{length};
-ghost use Rattle.refusal.specs.Rows.{Wrote};
+ghost use Rattle.text.specs.Rows.{Put};
 ghost use Rattle.listing.specs.Listing.{wordOf, tapeOf};
 use crate::WORD_BYTES;
 
 // Writes the words from the row's start, and answers how many they are; up to three bytes left over are no word.
 pub(crate) fn words(bytes: &[u8], row: &mut [u32]) -> usize
     requires { ⌜ length (now bytes) / 4 ≤ length (now row) ⌝ }
-    ensures { λ count. ⌜ Wrote (now (row .entry)) 0 (tapeOf (now (bytes .entry))) count (now (row .exit)) ⌝ }
+    ensures { λ count. ⌜ Put (now (row .entry)) 0 (tapeOf (now (bytes .entry))) count (now (row .exit)) ⌝ }
 {
     let count = bytes.len() / WORD_BYTES;
     let mut i: usize = 0;

@@ -18,6 +18,12 @@ pub enum Parsed {
     NoNumber,
 }
 
+// Between the words of a line.
+pub const BLANK: u8 = b' ';
+
+// After every line.
+pub const NEWLINE: u8 = 10;
+
 const MINUS: u8 = b'-';
 
 const ZERO: u8 = b'0';

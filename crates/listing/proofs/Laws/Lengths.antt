@@ -1,6 +1,6 @@
 -- How long a listing is at most: 53 bytes for the first line and 12 for each of at most 507 steps. So a row of that length is never
 -- too short.
-use mathlib.Core.Path.{_≡_, refl, _∙_}
+use mathlib.Core.Path.{_≡_, refl}
 use mathlib.Core.Bool.{true, false}
 use mathlib.Core.List.{List, [], _∷_, _++_}
 use Prim.Native.Nat.{ℕ, zero, suc, _+_, _*_, _^_, _≤_, _<_}
@@ -24,21 +24,11 @@ use Rattle.tape.proofs.Laws.Rows.{all-steps-sound}
 use Rattle.tape.proofs.Laws.Layout.{steps-count}
 use Rattle.program.specs.Services.{acceptOutcome}
 use Rattle.program.proofs.Laws.Checking.{accepted, header-is}
-use Rattle.text.specs.Text.{ascii, decimal, blank, newline, line}
+use Rattle.text.specs.Text.{ascii, decimal}
 use Rattle.listing.specs.Listing.{tapeOf, listingRules, listingOutcome, refusedLine, variantName, firstLine, namedLine, stepLine, stepLines, listingNumber, listingOf, mostWritten}
 use Rattle.text.proofs.Laws.Decimal.{decimal-length}
+use Rattle.text.proofs.Laws.Lines.{line-length}
 use Rattle.listing.proofs.Laws.Cases.{listing-by, Promised, row-enough}
-
--- a line has each word with a byte behind it
-abbrev withBytes : List (List ℕ) → ℕ
-withBytes [] = 0
-withBytes (w ∷ words) = length w + 1 + withBytes words
-
-line-length : (w : List ℕ) (words : List (List ℕ)) → length (line (w ∷ words)) ≡ withBytes (w ∷ words)
-unfolding line
-line-length w [] = length-append w (newline ∷ []) ∙ omega arith
-line-length w (v ∷ words) =
-    length-append (w ++ blank ∷ []) (line (v ∷ words)) ∙ omega (arith, length-append w (blank ∷ []), line-length v words)
 
 -- ---- refusals
 

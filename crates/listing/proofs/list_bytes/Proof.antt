@@ -7,8 +7,8 @@ use borrow.Author.Needs.{needs}
 use lib.ListN.{length, take}
 use lib.Seq.{length-take-le}
 use Rattle.refusal.specs.Outcomes.{refused}
-use Rattle.refusal.proofs.Laws.Rows.{wrote-length, wrote-taken}
 use Rattle.program.specs.Services.{acceptOutcome}
+use Rattle.text.proofs.Laws.Puts.{put-taken, put-inside}
 use Rattle.listing.specs.Listing.{tapeOf, listingOutcome, numberIn}
 use Rattle.listing.proofs.Laws.Tapes.{tape-length}
 use Rattle.listing.proofs.Laws.Cases.{too-long, no-words, some-words, listing-by}
@@ -33,13 +33,13 @@ few c = omega (arith, tape-length (bytes (c .before .before .before .before)), c
 
 -- the words that are read
 read : (c : tie.After-words) → take (c .words .result) (c .words .last .1 .0) ≡ tapeOf (bytes (c .before .before .before .before .before .before))
-read c = wrote-taken (c .words .ensures) (few (c .before .before))
+read c = put-taken (c .words .ensures) (few (c .before .before))
 
 fits : (c : tie.After-words) → c .words .result ≤ length (c .words .last .1 .0)
-fits c = omega (arith, c .words .ensures .next-is, few (c .before .before), wrote-length (c .words .ensures))
+fits c = put-inside (c .words .ensures) (omega arith)
 
 list-refusal-requires : tie.Need-list-refusal-requires
-list-refusal-requires c κs = omega (arith, c .before .before .before .before .pre, ap length (listing-by _ (long (c .before))))
+list-refusal-requires c κs = search needs
 
 same-length : tie.Need-same-length
 same-length c = search needs
@@ -51,7 +51,7 @@ returns c =
     (rw (listing-by _ e) (r .0), r .1 ∙ ap numberIn (sym e))
 
 list-refusal-requires-2 : tie.Need-list-refusal-requires-2
-list-refusal-requires-2 c κs = omega (arith, c .before .before .before .before .before .pre, ap length (listing-by _ (odd (c .before))))
+list-refusal-requires-2 c κs = search needs
 
 same-length-2 : tie.Need-same-length-2
 same-length-2 c = search needs
@@ -75,10 +75,7 @@ slice-aggregate-list-tape : tie.Need-slice-aggregate-list-tape
 slice-aggregate-list-tape c = sym (length-take-le _ _ (fits (c .before .before)))
 
 list-tape-requires : tie.Need-list-tape-requires
-list-tape-requires c κs =
-    let words = c .before .before .before in
-    let e = tape (words .before .before) in
-    rw (read words) (omega (arith, words .before .before .before .before .before .before .pre, ap length (listing-by _ e)))
+list-tape-requires c κs = search needs
 
 same-length-3 : tie.Need-same-length-3
 same-length-3 c = search needs

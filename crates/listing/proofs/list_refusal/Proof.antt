@@ -1,5 +1,4 @@
 -- `list_refusal` meets its contract: the line of the refusal's number.
-use native.Mathlib.Nat.{zero-add}
 use borrow.Author.Needs.{needs}
 use Rattle.listing.proofs.list_refusal.Statement.{statement}
 use Rattle.listing.proofs.list_refusal.Tie as tie
@@ -8,7 +7,7 @@ number-requires : tie.Need-number-requires
 number-requires c κs = search needs
 
 refused-line-requires : tie.Need-refused-line-requires
-refused-line-requires c κs = rw (c .before .number .ensures, zero-add) (c .before .before .before .pre)
+refused-line-requires c κs = search needs
 
 same-length : tie.Need-same-length
 same-length c = search needs

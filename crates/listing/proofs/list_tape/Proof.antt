@@ -22,13 +22,13 @@ accepted : (c : tie.After-header) → acceptOutcome (c .before .before .before .
 accepted c = sym (c .before .before .accept .ensures) ∙ ap readingOf (c .header .given .1)
 
 list-refusal-requires : tie.Need-list-refusal-requires
-list-refusal-requires c κs = rw (not-accepted (c .before .before)) at (c .before .before .before .before .before .before .before .pre)
+list-refusal-requires c κs = search needs
 
 enum-known-header : tie.Need-enum-known-header
 enum-known-header c = search needs
 
 list-accepted-requires : tie.Need-list-accepted-requires
-list-accepted-requires c κs = (accepted (c .before .before), rw (accepted (c .before .before)) at (c .before .before .before .before .before .before .before .pre))
+list-accepted-requires c κs = accepted (c .before .before)
 
 same-length : tie.Need-same-length
 same-length c = search needs

@@ -6,7 +6,8 @@ use native.Mathlib.Omega.{arith}
 use borrow.Author.Needs.{needs}
 use lib.ListN.{length, take}
 use lib.Seq.{length-take-le}
-use Rattle.refusal.proofs.Laws.Rows.{wrote-front, wrote-length, wrote-taken}
+use Rattle.refusal.proofs.Laws.Rows.{wrote-front}
+use Rattle.text.proofs.Laws.Puts.{put-fits, put-taken, put-inside}
 use Rattle.listing.specs.Listing.{listingOf}
 use Rattle.listing.proofs.Laws.Cases.{row-short, row-enough, listed-as}
 use Rattle.listing.proofs.Laws.Lengths.{listing-most}
@@ -17,20 +18,20 @@ slice-aggregate-list-bytes : tie.Need-slice-aggregate-list-bytes
 slice-aggregate-list-bytes c = search needs
 
 list-bytes-requires : tie.Need-list-bytes-requires
-list-bytes-requires c κs = listing-most _
+list-bytes-requires c κs = search needs
 
 number-requires : tie.Need-number-requires
 number-requires c κs = search needs
 
 -- what was made: its length, and its bytes
 count : (c : tie.After-list-bytes) → c .list-bytes .result .written ≡ length (listingOf (c .before .before .before .before .args .bytes .now))
-count c = c .list-bytes .ensures .0 .next-is ∙ zero-add _
+count c = put-fits (c .list-bytes .ensures .0) (rw zero-add (listing-most _)) .next-is ∙ zero-add _
 
 made : (c : tie.After-list-bytes) → take (c .list-bytes .result .written) (c .list-bytes .last .1 .0) ≡ listingOf (c .before .before .before .before .args .bytes .now)
-made c = wrote-taken (c .list-bytes .ensures .0) (listing-most _)
+made c = put-taken (c .list-bytes .ensures .0) (listing-most _)
 
 fits : (c : tie.After-list-bytes) → c .list-bytes .result .written ≤ length (c .list-bytes .last .1 .0)
-fits c = omega (arith, count c, listing-most (c .before .before .before .before .args .bytes .now), wrote-length (c .list-bytes .ensures .0))
+fits c = put-inside (c .list-bytes .ensures .0) (omega arith)
 
 returns : tie.Need-returns
 returns c = rw (c .number .ensures) (row-short _ _ (omega (arith, c .before .if1 .taken, count (c .before .before .before))))
@@ -42,9 +43,7 @@ slice-aggregate-put : tie.Need-slice-aggregate-put
 slice-aggregate-put c = sym (length-take-le _ _ (fits (c .before .before .before .before)))
 
 put-requires : tie.Need-put-requires
-put-requires c κs =
-    let list = c .before .before .before .before in
-    rw (made list) (omega (arith, c .before .before .if1 .left, count list))
+put-requires c κs = search needs
 
 same-length : tie.Need-same-length
 same-length c = search needs
@@ -56,7 +55,7 @@ returns-2 c =
     let room : length (listingOf (list .before .before .before .before .args .bytes .now)) ≤ length (list .before .before .before .before .args .lines .now) =
     omega (arith, else .if1 .left, count list) in
     let p = row-enough _ _ room in
-    (listed-as _ (count list) (list .list-bytes .ensures .1) ∙ p .0, wrote-front (rw (made list) at (c .before .before .put .ensures)) room ∙ p .1)
+    (listed-as _ (count list) (list .list-bytes .ensures .1) ∙ p .0, wrote-front (put-fits (rw (made list) at (c .before .before .put .ensures)) (rw zero-add room)) room ∙ p .1)
 
 pub listing-spec : {M : Type 1} → statement M
 listing-spec =

@@ -1,4 +1,4 @@
--- `lines::step_line` meets its contract: each arm writes the line of its step.
+-- `lines::step_line` meets its contract: each arm writes the name of its step.
 use borrow.Author.Needs.{needs}
 use Rattle.listing.proofs.lines.step_line.Statement.{statement}
 use Rattle.listing.proofs.lines.step_line.Tie as tie
@@ -10,7 +10,7 @@ slice-aggregate-named-line : tie.Need-slice-aggregate-named-line
 slice-aggregate-named-line c = search needs
 
 named-line-requires : tie.Need-named-line-requires
-named-line-requires c κs = rw (c .before .before .before .step .given .1) at (c .before .before .before .before .before .before .pre)
+named-line-requires c κs = search needs
 
 enum-known-step-2 : tie.Need-enum-known-step-2
 enum-known-step-2 c = search needs
@@ -19,7 +19,7 @@ slice-aggregate-named-line-2 : tie.Need-slice-aggregate-named-line-2
 slice-aggregate-named-line-2 c = search needs
 
 named-line-requires-2 : tie.Need-named-line-requires-2
-named-line-requires-2 c κs = rw (c .before .before .before .step2 .given .1) at (c .before .before .before .before .before .before .pre)
+named-line-requires-2 c κs = search needs
 
 enum-known-step-3 : tie.Need-enum-known-step-3
 enum-known-step-3 c = search needs
@@ -28,7 +28,7 @@ slice-aggregate-named-line-3 : tie.Need-slice-aggregate-named-line-3
 slice-aggregate-named-line-3 c = search needs
 
 named-line-requires-3 : tie.Need-named-line-requires-3
-named-line-requires-3 c κs = rw (c .before .before .before .step3 .given .1) at (c .before .before .before .before .before .before .pre)
+named-line-requires-3 c κs = search needs
 
 same-length : tie.Need-same-length
 same-length c = search needs

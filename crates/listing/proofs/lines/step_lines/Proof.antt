@@ -5,24 +5,23 @@ use Prim.Native.Nat.{_+_, _-_, _≤_}
 use native.Mathlib.Omega.{arith}
 use borrow.Author.Needs.{needs}
 use lib.ListN.{drop}
-use Rattle.refusal.specs.Rows.{Wrote}
-use Rattle.refusal.proofs.Laws.Rows.{wrote-length}
 use Rattle.tape.specs.Layout.{stepOf, stepsOf}
+use Rattle.text.specs.Rows.{Put}
+use Rattle.text.proofs.Laws.Puts.{Left, all-left, nothing-left, left-next, put-length}
 use Rattle.listing.specs.Listing.{stepLine, stepLines}
-use Rattle.listing.proofs.Laws.Remaining.{Remaining, all-left, nothing-left, room-next, after-next}
 use Rattle.listing.proofs.Laws.Lines.{lines-next, lines-end}
 use Rattle.listing.proofs.lines.step_lines.Statement.{statement}
 use Rattle.listing.proofs.lines.step_lines.Tie as tie
 
 abbrev Inv-loop : tie.InvT-loop
 Inv-loop row₀ at tape count next₀ i₀ row next i =
-    (i ≤ count) × Remaining row₀ at (stepLines 1 (stepsOf tape)) next row (stepLines (i + 1) (drop i (stepsOf tape)))
+    (i ≤ count) × Left row₀ at (stepLines 1 (stepsOf tape)) next row (stepLines (i + 1) (drop i (stepsOf tape)))
 
 abbrev μ-loop : tie.MeasureT-loop
 μ-loop row₀ at tape count next₀ i₀ row next i = count - i
 
 loop-holds : tie.Need-loop-holds Inv-loop μ-loop
-loop-holds c = (omega arith, all-left _ _ _ (c .before .before .pre .1))
+loop-holds c = (omega arith, all-left _ _ _)
 
 add-step-line : tie.Need-add-step-line Inv-loop μ-loop
 add-step-line c = omega arith
@@ -40,16 +39,16 @@ step-of-requires c κs = search needs
 coming : (c : tie.After-step-of Inv-loop μ-loop)
     → let l = c .before .before .before .before in
     let a = l .before .before .before .args in
-    Remaining (a .row .now) (a .at) (stepLines 1 (stepsOf (a .tape .now))) (l .loop .next) (l .loop .row)
+    Left (a .row .now) (a .at) (stepLines 1 (stepsOf (a .tape .now))) (l .loop .next) (l .loop .row)
     (stepLine (l .loop .i + 1) (c .step-of .result) ++ stepLines (l .loop .i + 1 + 1) (drop (l .loop .i + 1) (stepsOf (a .tape .now))))
 coming c =
     let l = c .before .before .before .before in
     let start = l .before .before .before in
     let read = c .step-of .ensures ∙ ap stepOf (c .before .step-at .ensures) in
-    rw (read, ← lines-next (start .args .tape .now) (l .loop .i) (omega (arith, start .pre .0))) (l .loop .inv .1)
+    rw (read, ← lines-next (start .args .tape .now) (l .loop .i) (omega (arith, start .pre))) (l .loop .inv .1)
 
 step-line-requires : tie.Need-step-line-requires Inv-loop μ-loop
-step-line-requires c κs = room-next (stepLine (c .before .before .before .before .loop .i + 1) (c .step-of .result)) _ (coming c)
+step-line-requires c κs = search needs
 
 add-i : tie.Need-add-i Inv-loop μ-loop
 add-i c = omega arith
@@ -58,16 +57,16 @@ loop-less : tie.Need-loop-less Inv-loop μ-loop
 loop-less c = search needs
 
 loop-again : tie.Need-loop-again Inv-loop μ-loop
-loop-again c = (omega arith, after-next _ _ (coming (c .before .before .before)) (c .before .before .step-line .ensures))
+loop-again c = (omega arith, left-next _ _ (coming (c .before .before .before)) (c .before .before .step-line .ensures))
 
 done : (c : tie.After-loop Inv-loop μ-loop) → let a = c .before .before .before .before .args in
-    Wrote (a .row .now) (a .at) (stepLines 1 (stepsOf (a .tape .now))) (c .before .loop .next) (c .before .loop .row)
+    Put (a .row .now) (a .at) (stepLines 1 (stepsOf (a .tape .now))) (c .before .loop .next) (c .before .loop .row)
 done c =
     let start = c .before .before .before .before in
-    nothing-left (rw (lines-end (start .args .tape .now) (c .before .loop .i + 1) (c .before .loop .i) (omega (arith, start .pre .0))) at (c .before .loop .inv .1))
+    nothing-left (rw (lines-end (start .args .tape .now) (c .before .loop .i + 1) (c .before .loop .i) (omega (arith, start .pre))) at (c .before .loop .inv .1))
 
 same-length : tie.Need-same-length Inv-loop μ-loop
-same-length c = wrote-length (done c)
+same-length c = put-length (done c)
 
 returns : tie.Need-returns Inv-loop μ-loop
 returns c = done c

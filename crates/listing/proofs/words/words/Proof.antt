@@ -1,27 +1,26 @@
 -- `words::words` meets its contract: with i words written, those of the bytes from the index 4 i on are left.
 use mathlib.Core.Path.{_≡_, refl}
-use mathlib.Core.List.{_∷_}
-use Prim.Native.Nat.{_+_, _-_, _*_, _/_, _≤_}
+use mathlib.Core.List.{[], _∷_}
+use Prim.Native.Nat.{_+_, _-_, _*_, _/_, _≤_, _<_}
 use native.Mathlib.Omega.{arith}
 use borrow.Author.Needs.{needs}
-use lib.ListN.{length, drop}
-use Rattle.refusal.specs.Rows.{Wrote}
-use Rattle.refusal.proofs.Laws.Rows.{wrote-length}
+use lib.ListN.{length, drop, length-set}
+use Rattle.text.specs.Rows.{Put}
+use Rattle.text.proofs.Laws.Puts.{Left, all-left, nothing-left, left-next, put-one, put-length}
 use Rattle.listing.specs.Listing.{tapeOf}
-use Rattle.listing.proofs.Laws.Remaining.{Remaining, all-left, nothing-left, after-store}
-use Rattle.listing.proofs.Laws.Tapes.{tape-next, tape-end, tape-length}
+use Rattle.listing.proofs.Laws.Tapes.{tape-next, tape-end}
 use Rattle.listing.proofs.words.words.Statement.{statement}
 use Rattle.listing.proofs.words.words.Tie as tie
 
 abbrev Inv-loop : tie.InvT-loop
 Inv-loop bytes row₀ count i₀ row i =
-    (i ≤ length bytes / 4) × Remaining row₀ 0 (tapeOf bytes) i row (tapeOf (drop (4 * i) bytes))
+    (i ≤ length bytes / 4) × (length row ≡ length row₀) × Left row₀ 0 (tapeOf bytes) i row (tapeOf (drop (4 * i) bytes))
 
 abbrev μ-loop : tie.MeasureT-loop
 μ-loop bytes row₀ count i₀ row i = length bytes / 4 - i
 
 loop-holds : tie.Need-loop-holds Inv-loop μ-loop
-loop-holds c = (omega arith, all-left _ _ _ (omega (arith, c .before .before .pre, tape-length (c .before .before .args .bytes .now))))
+loop-holds c = (omega arith, refl, all-left _ _ _)
 
 mul-at : tie.Need-mul-at Inv-loop μ-loop
 mul-at c = omega arith
@@ -57,15 +56,21 @@ mul-row c = omega arith
 coming : (c : tie.After-word Inv-loop μ-loop)
     → let l = c .before .before .before .before .before .before in
     let a = l .before .before .before .args in
-    Remaining (a .row .now) 0 (tapeOf (a .bytes .now)) (l .loop .i) (l .loop .row) (c .word .result ∷ tapeOf (drop (4 * (l .loop .i + 1)) (a .bytes .now)))
+    Left (a .row .now) 0 (tapeOf (a .bytes .now)) (l .loop .i) (l .loop .row) (c .word .result ∷ tapeOf (drop (4 * (l .loop .i + 1)) (a .bytes .now)))
 coming c =
     let l = c .before .before .before .before .before .before in
     let bytes = l .before .before .before .args .bytes .now in
     let next : 4 * l .loop .i + 4 ≡ 4 * (l .loop .i + 1) = omega arith in
-    rw (c .word .ensures, ← next, ← tape-next bytes (4 * l .loop .i) (omega arith)) (l .loop .inv .1)
+    rw (c .word .ensures, ← next, ← tape-next bytes (4 * l .loop .i) (omega arith)) (l .loop .inv .2)
+
+-- there is room for it
+room : (c : tie.After-word Inv-loop μ-loop) → let l = c .before .before .before .before .before .before in l .loop .i < length (l .loop .row)
+room c =
+    let l = c .before .before .before .before .before .before in
+    omega (arith, l .before .before .before .pre, l .loop .inv .1)
 
 slice-write-row : tie.Need-slice-write-row Inv-loop μ-loop
-slice-write-row c = omega (arith, coming c .room)
+slice-write-row c = room c
 
 add-i : tie.Need-add-i Inv-loop μ-loop
 add-i c = omega arith
@@ -74,16 +79,21 @@ loop-less : tie.Need-loop-less Inv-loop μ-loop
 loop-less c = omega arith
 
 loop-again : tie.Need-loop-again Inv-loop μ-loop
-loop-again c = (omega arith, after-store _ _ (coming c) refl)
+loop-again c =
+    let l = c .before .before .before .before .before .before in (
+      omega arith,
+      simp length-set (l .loop .inv .1),
+      left-next (c .word .result ∷ []) _ (coming c) (put-one _ _ _ (room c)),
+    )
 
 done : (c : tie.After-loop Inv-loop μ-loop) → let a = c .before .before .before .before .args in
-    Wrote (a .row .now) 0 (tapeOf (a .bytes .now)) (c .before .loop .i) (c .before .loop .row)
+    Put (a .row .now) 0 (tapeOf (a .bytes .now)) (c .before .loop .i) (c .before .loop .row)
 done c =
     let bytes = c .before .before .before .before .args .bytes .now in
-    nothing-left (rw (tape-end bytes (4 * c .before .loop .i) (omega arith)) at (c .before .loop .inv .1))
+    nothing-left (rw (tape-end bytes (4 * c .before .loop .i) (omega arith)) at (c .before .loop .inv .2))
 
 same-length : tie.Need-same-length Inv-loop μ-loop
-same-length c = wrote-length (done c)
+same-length c = put-length (done c)
 
 returns : tie.Need-returns Inv-loop μ-loop
 returns c = done c
