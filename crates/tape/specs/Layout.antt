@@ -31,20 +31,24 @@ otherWords = 5
 abbrev pub stepCount : List ℕ → ℕ
 stepCount tape = length tape - otherWords
 
--- the word of the step numbered i + 1
+-- the index of the word of the step numbered i + 1
+abbrev pub stepIndex : ℕ → ℕ
+stepIndex i = headerWords + i
+
+-- that word
 abbrev pub stepAt : List ℕ → ℕ → ℕ
-stepAt tape i = getD tape (headerWords + i) 0
+stepAt tape i = getD tape (stepIndex i) 0
 
 -- the words of the steps numbered first + 1 to last
 abbrev pub stepWords : List ℕ → ℕ → ℕ → List ℕ
-stepWords tape first last = slice (headerWords + first) (headerWords + last) tape
+stepWords tape first last = slice (stepIndex first) (stepIndex last) tape
 
 -- the part of a row from one index up to another; where they are the wrong way round or past the row, the empty part
 unfoldable pub part : List ℕ → ℕ → ℕ → List ℕ
 part row begin end = cond (leb begin end && leb end (length row)) (slice begin end row) []
 
 abbrev pub endAt : List ℕ → ℕ
-endAt tape = getD tape (headerWords + stepCount tape) 0
+endAt tape = getD tape (stepIndex (stepCount tape)) 0
 
 -- ---- what stands there
 

@@ -2,9 +2,8 @@
 mod layout;
 
 ghost use mathlib.Core.Path.{_≡_};
-ghost use Prim.Native.Nat.{_+_};
 ghost use Rattle.tape.specs.Words.{decoded, headingIn, actionIn, swapIn};
-ghost use Rattle.tape.specs.Layout.{readOutcome, readingOf, stepAt, stepOf, headerWords, part};
+ghost use Rattle.tape.specs.Layout.{readOutcome, readingOf, stepAt, stepOf, stepIndex, part};
 use layout::HEADER_WORDS;
 use layout::MOST_WORDS;
 use layout::OTHER_WORDS;
@@ -113,15 +112,18 @@ pub fn step_of(d: Decoded) -> Step
     }
 }
 
+// The index of the word of the step numbered position + 1.
+pub fn step_index(position: u32) -> usize
+    ensures { λ i. ⌜ i ≡ stepIndex position ⌝ }
+{
+    HEADER_WORDS + position as usize
+}
+
 // The words of the steps numbered first + 1 to last, as a part of the tape.
 pub fn step_words(tape: &[u32], first: u32, last: u32) -> &[u32]
-    ensures { λ words. ⌜ now words ≡ part (now (tape .entry)) (headerWords + first) (headerWords + last) ⌝ }
+    ensures { λ words. ⌜ now words ≡ part (now (tape .entry)) (stepIndex first) (stepIndex last) ⌝ }
 {
-    between(
-        tape,
-        HEADER_WORDS + first as usize,
-        HEADER_WORDS + last as usize,
-    )
+    between(tape, step_index(first), step_index(last))
 }
 
 // The part of a row from one index up to another; where they are the wrong way round or past the row, the empty part.

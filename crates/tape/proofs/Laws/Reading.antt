@@ -7,7 +7,7 @@ use Prim.Native.Nat.{ℕ, _≤_, _<_}
 use native.Mathlib.Omega.{arith}
 use lib.Dec.{eqb, leb}
 use lib.ListN.{length}
-use borrow.Author.Tests.{eq-eqb, ne-eqb, le-leb, lt-leb}
+use borrow.Author.Tests.{eq-eqb, ne-eqb, le-leb, lt-leb, leb-true}
 use Rattle.refusal.specs.declared.Refusal.the-variants.{Length, Word}
 use Rattle.refusal.specs.Refusals.{numberOf}
 use Rattle.refusal.specs.Outcomes.{Rule, refused, answered, outcome, _given-if_, gives, passes, answers}
@@ -15,7 +15,7 @@ use Rattle.tape.specs.declared.Decoded.{Decoded}
 use Rattle.tape.specs.declared.Header.{Header}
 use Rattle.tape.specs.Words.{decoded}
 use Rattle.tape.specs.Layout.{otherWords, stepCount, stepWords, endAt, sortOf, valueOf, meansAt, headerOf, isLength, isHeader, isFreeOrNamed, allSteps, isEnd, laidOut, readOutcome}
-use Rattle.refusal.proofs.Laws.Tests.{by-test}
+use Rattle.refusal.proofs.Laws.Tests.{by-test, both}
 
 -- ---- the rules
 
@@ -30,6 +30,10 @@ length-long n h = rw (lt-leb n 512 h, and-false (leb otherWords n))
 pub length-good : (n : ℕ) → otherWords ≤ n → n ≤ 512 → isLength n ≡ true
 unfolding isLength
 length-good n h k = rw (le-leb otherWords n h, le-leb n 512 k)
+
+pub length-most : (n : ℕ) → isLength n ≡ true → n ≤ 512
+unfolding isLength
+length-most n e = leb-true n 512 (both (leb otherWords n) (leb n 512) e .1)
 
 module _ (tape : List ℕ) where
   pub header-not-1 : (sortOf (meansAt tape 0) ≡ 1 → ⊥) → isHeader tape ≡ false
