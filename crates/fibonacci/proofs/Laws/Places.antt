@@ -11,12 +11,15 @@ use lib.Dec.{leb}
 use lib.ListN.{length, getD, drop, drop-of-length-le}
 use lib.Seq.{drop-cons}
 use borrow.Author.Tests.{leb-true, le-leb, lt-leb}
+use Rattle.refusal.specs.Outcomes.{answered}
 use Rattle.refusal.proofs.Laws.Tests.{both}
+use Rattle.refusal.proofs.Laws.Rules.{answer-is}
 use Rattle.fibonacci.specs.Fibonacci.{fib}
 use Rattle.fibonacci.specs.Forms.{Zeckendorf, topAt, greedy, zeckendorf, placesFrom, places, weighed, weight, Places, arePlaces}
+use Rattle.fibonacci.specs.Services.{placesOf, placesOutcome}
 use Rattle.fibonacci.proofs.Laws.Fibonacci.{fib-next, fib-grows, fib-positive, fib-monotone, fib-exceeds, fib-64}
 use Rattle.fibonacci.proofs.Laws.Forms.{top-length, top-places, top-zeckendorf, weight-places}
-use Rattle.fibonacci.proofs.Laws.Zeckendorf.{greedy-zero, greedy-take, greedy-skip, greedy-length, greedy-sum, zeckendorf-sum, zeckendorf-only, zeckendorf-by}
+use Rattle.fibonacci.proofs.Laws.Zeckendorf.{greedy-zero, greedy-take, greedy-skip, greedy-length, greedy-sum, zeckendorf-sum, zeckendorf-only, zeckendorf-by, zeckendorf-count-64}
 
 -- ---- the test
 
@@ -101,6 +104,11 @@ zeckendorf-places m n h = rw (zeckendorf-by m n h) (greedy-places m n h)
 
 pub zeckendorf-places-64 : (n : ℕ) → n < 2 ^ 64 → Places 92 (places (zeckendorf n))
 zeckendorf-places-64 n h = zeckendorf-places 92 n (fib-64 n h)
+
+-- the service answers at most 46
+pub places-most : (n room : ℕ) {count : ℕ} → n < 2 ^ 64 → placesOutcome n room ≡ answered count → count ≤ 46
+unfolding placesOutcome
+places-most n room h e = omega (arith, answer-is _ (length (placesOf n)) e, zeckendorf-count-64 n h)
 
 -- ---- from a list to its number
 

@@ -36,9 +36,9 @@ alike ((e given-if false) ∷ front) more more′ x y f = alike front more more�
 
 -- ---- build that answers
 
--- the words fit the row
+-- the words fit the row, and 512
 pub build-count : (p r k variant room n : ℕ) → buildOutcome p r k variant room ≡ answered n
-    → (length (namedWords p r k variant) ≡ n) × (n ≤ room)
+    → (length (namedWords p r k variant) ≡ n) × (n ≤ room) × (n ≤ 512)
 unfolding buildOutcome
 build-count p r k variant room n built =
     let words : List ℕ = namedWords p r k variant in
@@ -49,7 +49,7 @@ build-count p r k variant room n built =
     let e = passed _ _ _ _ _ (d .1) in
     let some = answers (length words) in
     let count : length words ≡ n = cc in
-    (count, omega (arith, ltb-false room (length words) (e .0)))
+    (count, omega (arith, ltb-false room (length words) (e .0)), omega (arith, named-words-short p r k variant (a .0) (b .0) (c .0)))
 
 -- and stand at its front
 pub build-words : (p r k variant n : ℕ) (row : List ℕ) → buildOutcome p r k variant (length row) ≡ answered n
