@@ -5,7 +5,7 @@ use Prim.Native.Nat.{ℕ, _+_, _*_, _%_}
 use lib.Dec.{ltb, eqb}
 use lib.ListN.{length, getD}
 use Rattle.refusal.specs.declared.Refusal.the-variants.{Length}
-use Rattle.refusal.specs.Outcomes.{Outcome, Rule, refused, answered, outcome, _given-if_, rowAfter}
+use Rattle.refusal.specs.Outcomes.{Outcome, Rule, refused, answered, outcome, _given-if_, numberIn, rowAfter}
 use Rattle.tape.specs.declared.Step.{Step}
 use Rattle.tape.specs.declared.Step.the-variants.{Mul, Div, Swp}
 use Rattle.tape.specs.declared.Header.{Header}
@@ -49,10 +49,6 @@ abbrev pub listingOutcome : List ℕ → Outcome Header
 listingOutcome bytes = outcome (listingRules bytes) (headerOf (tapeOf bytes))
 
 -- 0 where the tape is accepted
-abbrev pub numberIn : Outcome Header → ℕ
-numberIn (refused n) = n
-numberIn (answered h) = 0
-
 abbrev pub listingNumber : List ℕ → ℕ
 listingNumber bytes = numberIn (listingOutcome bytes)
 

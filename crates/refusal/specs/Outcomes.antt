@@ -35,6 +35,16 @@ abbrev pub outcomeOf : Answer → Outcome ℕ
 outcomeOf (Value n) = answered n
 outcomeOf (Refused e) = refused (numberOf e)
 
+-- the number that comes back: 0 where the call isn't refused
+abbrev pub numberIn : {A : Type 0} → Outcome A → ℕ
+numberIn (refused n) = n
+numberIn (answered x) = 0
+
+-- what a call leaves in a place that its answer goes to: refused, what was held there; answered, the answer
+abbrev pub after : {A : Type 0} → Outcome A → A → A
+after (refused n) held = held
+after (answered x) held = x
+
 -- a lent row at exit: refused, what it held; answered, what was written, with what stood past it
 abbrev pub rowAfter : {A : Type 0} → Outcome A → List ℕ → List ℕ → List ℕ
 rowAfter (refused n) wrote row = row

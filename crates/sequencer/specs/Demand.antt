@@ -5,13 +5,13 @@ use mathlib.Core.Bool.{true, false, cond}
 use mathlib.Core.List.{List, [], _∷_}
 use Prim.Native.Nat.{ℕ, _*_, _%_, _^_, _≤_}
 use lib.Dec.{ltb}
-use Rattle.refusal.specs.Outcomes.{refused, answered, applies}
+use Rattle.refusal.specs.Outcomes.{refused, answered, applies, after}
 use Rattle.modular.specs.Inverses.{inverse}
 use Rattle.tape.specs.Layout.{headerOf, stepsOf}
 use Rattle.machine.specs.Machine.{run, Good, start}
 use Rattle.program.specs.Services.{isNamed, checkOutcome}
 use Rattle.sequencer.specs.Services.{loadOutcome, runRules}
-use Rattle.sequencer.specs.Lists.{Request, answerTo, after, performed}
+use Rattle.sequencer.specs.Lists.{Request, answerTo, performed}
 
 -- ---- what is said of every run
 

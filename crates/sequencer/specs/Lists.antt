@@ -2,7 +2,7 @@
 -- the runs before it, and what it makes of them is what run's own contract says.
 use mathlib.Core.List.{List, [], _∷_}
 use Prim.Native.Nat.{ℕ}
-use Rattle.refusal.specs.Outcomes.{Outcome, refused, answered}
+use Rattle.refusal.specs.Outcomes.{Outcome, refused, answered, after}
 use Rattle.tape.specs.Layout.{part}
 use Rattle.sequencer.specs.Services.{runOutcome}
 
@@ -15,12 +15,7 @@ pub record Request : Type 0 where
 abbrev pub answerTo : Request → List ℕ → Outcome (List ℕ)
 answerTo q v = runOutcome (q .tape) v (q .from) (q .goal)
 
--- the registers after an answer: a refused run leaves them as they are
-abbrev pub after : Outcome (List ℕ) → List ℕ → List ℕ
-after (refused n) v = v
-after (answered w) v = w
-
--- the registers after all runs of a list
+-- the registers after all runs of a list: a refused run leaves them as they are
 unfoldable pub afterAll : List Request → List ℕ → List ℕ
 afterAll [] v = v
 afterAll (q ∷ qs) v = afterAll qs (after (answerTo q v) v)

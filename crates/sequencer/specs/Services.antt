@@ -4,12 +4,12 @@ use mathlib.Core.List.{List, [], _∷_, _++_}
 use Prim.Native.Nat.{ℕ, _%_, _^_}
 use lib.Dec.{leb, ltb, eqb}
 use lib.IntN.{ℤ}
-use lib.ListN.{take}
+use lib.ListN.{length, take}
 use Rattle.refusal.specs.declared.Refusal.the-variants.{Register, Position, Base, Range}
 use Rattle.refusal.specs.Refusals.{numberOf}
 use Rattle.refusal.specs.Outcomes.{Outcome, Rule, refused, answered, outcome, _given-if_}
 use Rattle.tape.specs.declared.Header.{Header}
-use Rattle.tape.specs.Layout.{headerOf, stepWords, stepsOf}
+use Rattle.tape.specs.Layout.{headerOf, stepIndex, stepWords, stepsOf}
 use Rattle.machine.specs.Machine.{valuesOf, run, start}
 use Rattle.machine.specs.Exponents.{startExponents, exponentsAt, staysInRange}
 use Rattle.program.specs.Services.{isNamed, checkRules}
@@ -71,23 +71,28 @@ traceOutcome tape position =
 unfoldable pub badCut : ℕ → ℕ → ℕ → Bool
 badCut steps first last = ltb steps first || ltb steps last || ltb last first
 
+-- the refusals listed for cut
+unfoldable pub cutRules : List ℕ → ℕ → ℕ → List Rule
+cutRules tape first last =
+    checkRules tape
+    ++ (Position given-if badCut (headerOf tape .steps) first last)
+    ∷ []
+
 -- cut: the step words numbered first + 1 to last
 unfoldable pub cutOutcome : List ℕ → ℕ → ℕ → Outcome (List ℕ)
-cutOutcome tape first last =
-    outcome
-    (checkRules tape
-    ++ (Position given-if badCut (headerOf tape .steps) first last)
-    ∷ [])
-    (stepWords tape first last)
+cutOutcome tape first last = outcome (cutRules tape first last) (stepWords tape first last)
 
 -- a refused cut is an empty part beside its number
 abbrev pub cutPart : Outcome (List ℕ) → List ℕ
 cutPart (refused n) = []
 cutPart (answered words) = words
 
-abbrev pub cutNumber : Outcome (List ℕ) → ℕ
-cutNumber (refused n) = n
-cutNumber (answered words) = 0
+-- where the part stands in the tape: the index of its first word, and how many words it has
+unfoldable pub cutStart : List ℕ → ℕ → ℕ → Outcome ℕ
+cutStart tape first last = outcome (cutRules tape first last) (stepIndex first)
+
+unfoldable pub cutCount : List ℕ → ℕ → ℕ → Outcome ℕ
+cutCount tape first last = outcome (cutRules tape first last) (length (stepWords tape first last))
 
 -- the outcome that a `Standing` of the code stands for
 abbrev pub standingOf : Standing → Outcome (List ℕ)

@@ -4,11 +4,11 @@ mod requests;
 mod travel;
 
 ghost use mathlib.Core.Path.{_≡_};
-ghost use Rattle.refusal.specs.Outcomes.{answered};
+ghost use Rattle.refusal.specs.Outcomes.{answered, numberIn};
 ghost use Rattle.machine.specs.Machine.{valuesOf};
 ghost use Rattle.machine.specs.Exponents.{tracedOf};
 ghost use Rattle.program.specs.Services.{acceptOutcome};
-ghost use Rattle.sequencer.specs.Services.{standingOf, loadOutcome, runOutcome, traceOutcome, cutOutcome, cutPart, cutNumber};
+ghost use Rattle.sequencer.specs.Services.{standingOf, loadOutcome, runOutcome, traceOutcome, cutOutcome, cutPart};
 ghost use Rattle.sequencer.specs.Lists.{afterAll, requestsOf};
 ghost use Rattle.sequencer.specs.Demand.{ChainEnds, RewindEnds};
 ghost use Rattle.sequencer.specs.Tracing.{NeverOutside, MeansPowers};
@@ -60,7 +60,7 @@ pub fn run(tape: &[u32], registers: Registers, from: u32, to: u32) -> Standing
 // check's refusals, 10.
 pub fn cut<'a>(tape: &'a [u32], first: u32, last: u32, number: &mut u32) -> &'a [u32]
     ensures { λ part. ⌜ now part ≡ cutPart (cutOutcome (now (tape .entry)) first last) ⌝ }
-    ensures { λ _. ⌜ now (number .exit) ≡ cutNumber (cutOutcome (now (tape .entry)) first last) ⌝ }
+    ensures { λ _. ⌜ now (number .exit) ≡ numberIn (cutOutcome (now (tape .entry)) first last) ⌝ }
 {
     match program::accept(tape) {
         Reading::Refused(e) => {
@@ -158,7 +158,7 @@ fn cut_accepted<'a>(
 ) -> &'a [u32]
     requires { ⌜ acceptOutcome (now tape) ≡ answered header ⌝ }
     ensures { λ part. ⌜ now part ≡ cutPart (cutOutcome (now (tape .entry)) first last) ⌝ }
-    ensures { λ _. ⌜ now (number .exit) ≡ cutNumber (cutOutcome (now (tape .entry)) first last) ⌝ }
+    ensures { λ _. ⌜ now (number .exit) ≡ numberIn (cutOutcome (now (tape .entry)) first last) ⌝ }
 {
     if is_bad_cut(header.steps, first, last) {
         *number = refusal::number(Refusal::Position);

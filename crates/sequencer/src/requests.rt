@@ -1,8 +1,8 @@
 // What a run of a list leaves.
 ghost use mathlib.Core.Path.{_≡_};
+ghost use Rattle.refusal.specs.Outcomes.{after};
 ghost use Rattle.machine.specs.Machine.{valuesOf};
 ghost use Rattle.sequencer.specs.Services.{standingOf};
-ghost use Rattle.sequencer.specs.Lists.{after};
 use crate::Standing;
 use machine::Registers;
 

@@ -1,60 +1,39 @@
--- How long a listing is at most: 53 bytes for the first line and 12 for each of at most 507 steps. So a row of that length is never
--- too short.
-use mathlib.Core.Path.{_≡_, refl}
-use mathlib.Core.Bool.{true, false}
+-- How long a listing is: at most 53 bytes for the first line and 12 for each of at most 507 steps, so that a row of that length is
+-- never too short; and never empty, so that a count of 0 says that there was no room.
+use mathlib.Core.Path.{_≡_, refl, sym, ap, _∙_}
 use mathlib.Core.List.{List, [], _∷_, _++_}
 use Prim.Native.Nat.{ℕ, zero, suc, _+_, _*_, _^_, _≤_, _<_}
+use native.Mathlib.Decide.{decLt}
 use native.Mathlib.Omega.{arith}
-use lib.Dec.{leb}
 use lib.ListN.{length, getD, drop, length-append}
-use borrow.Author.Tests.{leb-true}
-use Rattle.refusal.specs.declared.Refusal.{Refusal}
-use Rattle.refusal.specs.declared.Refusal.the-variants.{Modulus, Order, Exponent, Variant, Room, Length, Word, Mismatch, Register, Position, Base, Range, Index}
-use Rattle.refusal.specs.Refusals.{numberOf}
-use Rattle.refusal.specs.Outcomes.{Outcome, Rule, refused, answered, outcome, _given-if_}
-use Rattle.refusal.proofs.Laws.Rules.{passed}
+use Rattle.refusal.specs.Outcomes.{Outcome, refused, answered, after}
+use Rattle.refusal.proofs.Laws.Rules.{passed, refused-range}
 use Rattle.tape.specs.declared.Step.{Step}
 use Rattle.tape.specs.declared.Step.the-variants.{Mul, Div, Swp}
 use Rattle.tape.specs.declared.Header.{Header}
 use Rattle.tape.specs.Steps.{Apart, Sound, AllSound}
-use Rattle.tape.specs.Layout.{otherWords, stepCount, stepWords, valueOf, meansAt, headerOf, stepsOf, isLength}
-use Rattle.refusal.proofs.Laws.Tests.{both}
+use Rattle.tape.specs.Layout.{stepCount, stepWords, valueOf, meansAt, headerOf, stepsOf}
 use Rattle.tape.proofs.Laws.Words.{decoded-lawful, value-small}
+use Rattle.tape.proofs.Laws.Reading.{length-most}
 use Rattle.tape.proofs.Laws.Rows.{all-steps-sound}
 use Rattle.tape.proofs.Laws.Layout.{steps-count}
-use Rattle.program.specs.Services.{acceptOutcome}
+use Rattle.program.specs.Services.{roomOutcome, acceptOutcome}
+use Rattle.program.proofs.Laws.Building.{short, enough}
 use Rattle.program.proofs.Laws.Checking.{accepted, header-is}
-use Rattle.text.specs.Text.{ascii, decimal}
-use Rattle.listing.specs.Listing.{tapeOf, listingRules, listingOutcome, refusedLine, variantName, firstLine, namedLine, stepLine, stepLines, listingNumber, listingOf, mostWritten}
+use Rattle.text.specs.Text.{ascii, decimal, line}
+use Rattle.listing.specs.declared.Listed.{Listed}
+use Rattle.listing.specs.Listing.{tapeOf, listingRules, listingOutcome, refusedLine, variantName, firstLine, namedLine, stepLine, stepLines, linesFor, listingNumber, listingOf, listingAnswer, mostWritten}
 use Rattle.text.proofs.Laws.Decimal.{decimal-length}
 use Rattle.text.proofs.Laws.Lines.{line-length}
 use Rattle.listing.proofs.Laws.Cases.{listing-by, Promised, row-enough}
 
+line-some : (w : List ℕ) (words : List (List ℕ)) → 1 ≤ length (line (w ∷ words))
+line-some w words = omega (arith, line-length w words)
+
 -- ---- refusals
 
-number-small : (e : Refusal) → numberOf e < 100
-number-small Modulus = omega arith
-number-small Order = omega arith
-number-small Exponent = omega arith
-number-small Variant = omega arith
-number-small Room = omega arith
-number-small Length = omega arith
-number-small Word = omega arith
-number-small Mismatch = omega arith
-number-small Register = omega arith
-number-small Position = omega arith
-number-small Base = omega arith
-number-small Range = omega arith
-number-small Index = omega arith
-
-refused-small : {A : Type 0} (rules : List Rule) (x : A) (n : ℕ) → outcome rules x ≡ refused n → n < 100
-unfolding outcome
-refused-small [] x n e = let z : _≡_ {A = ℕ} 0 1 = cc in absurd (omega arith)
-refused-small ((r given-if true) ∷ rules) x n e = let same : numberOf r ≡ n = cc in rw same at (number-small r)
-refused-small ((r given-if false) ∷ rules) x n e = refused-small rules x n e
-
-refused-most : (n : ℕ) → n < 100 → length (refusedLine n) ≤ 11
-refused-most n h = omega (arith, line-length (ascii "refused") (decimal n ∷ []), decimal-length 1 n h)
+refused-most : (n : ℕ) → n ≤ 13 → length (refusedLine n) ≤ 11
+refused-most n h = omega (arith, line-length (ascii "refused") (decimal n ∷ []), decimal-length 1 n (omega arith))
 
 -- ---- the first line
 
@@ -98,16 +77,12 @@ steps-most n (x ∷ steps) h sound =
 
 -- ---- the listing
 
-short : (tape : List ℕ) → isLength (length tape) ≡ true → stepCount tape ≤ 507
-unfolding isLength
-short tape e = omega (arith, leb-true (length tape) 512 (both (leb otherWords (length tape)) (leb (length tape) 512) e .1))
-
 value : (tape : List ℕ) (i : ℕ) → valueOf (meansAt tape i) < 2 ^ 28
 value tape i = value-small (meansAt tape i) (decoded-lawful (getD tape i 0))
 
 accepted-most : (tape : List ℕ) (h : Header) → acceptOutcome tape ≡ answered h → length (firstLine h ++ stepLines 1 (stepsOf tape)) ≤ mostWritten
 accepted-most tape h e =
-    let most = short tape (accepted (headerOf tape) tape e .long) in
+    let most = length-most (length tape) (accepted (headerOf tape) tape e .long) in
     let count = steps-count tape in
     rw (header-is tape h e)
     (omega (
@@ -119,7 +94,7 @@ accepted-most tape h e =
 
 lines-most : (bytes : List ℕ) (o : Outcome Header) → listingOutcome bytes ≡ o → length (listingOf bytes) ≤ mostWritten
 unfolding listingRules
-lines-most bytes (refused n) e = rw (listing-by bytes e) (omega (arith, refused-most n (refused-small (listingRules bytes) (headerOf (tapeOf bytes)) n e)))
+lines-most bytes (refused n) e = rw (listing-by bytes e) (omega (arith, refused-most n (refused-range (listingRules bytes) (headerOf (tapeOf bytes)) e .1)))
 lines-most bytes (answered h) e = rw (listing-by bytes e) (accepted-most (tapeOf bytes) h (passed _ _ _ _ _ e .1))
 
 pub listing-most : (bytes : List ℕ) → length (listingOf bytes) ≤ mostWritten
@@ -129,3 +104,33 @@ listing-most bytes = lines-most bytes (listingOutcome bytes) refl
 pub never-short : (bytes row : List ℕ) → mostWritten ≤ length row
     → Promised bytes row (record { written = length (listingOf bytes); number = listingNumber bytes }) (listingOf bytes ++ drop (length (listingOf bytes)) row)
 never-short bytes row h = row-enough bytes row (omega (arith, listing-most bytes))
+
+-- ---- what was written
+
+-- no listing is empty
+lines-some : (o : Outcome Header) (steps : List Step) → 1 ≤ length (linesFor o steps)
+lines-some (refused n) steps = line-some _ _
+lines-some (answered h) steps = let first : 1 ≤ length (firstLine h) = line-some _ _ in omega (arith, length-append (firstLine h) (stepLines 1 steps))
+
+-- so a count of 0 says that there was no room, and then a place for the count holds what it held
+module _ (bytes : List ℕ) (room held : ℕ) (l : Listed) (e : l ≡ listingAnswer bytes room) where
+  written-is : length (listingOf bytes) ≤ room → l .written ≡ length (listingOf bytes)
+  unfolding listingAnswer
+  written-is h = ap (λ (x : Listed). x .written) e ∙ rw (enough (listingOf bytes) room h)
+
+  not-written : room < length (listingOf bytes) → l .written ≡ 0
+  unfolding listingAnswer
+  not-written h = ap (λ (x : Listed). x .written) e ∙ rw (short (listingOf bytes) room h)
+
+  pub none-written : l .written ≡ 0 → after (roomOutcome (listingOf bytes) room) held ≡ held
+  unfolding listingOf
+  none-written none = elim (decLt room (length (listingOf bytes))) [
+    | yes h ↦ rw (short (listingOf bytes) room h)
+    | no h ↦ absurd (omega (arith, written-is (omega arith), lines-some (listingOutcome bytes) (stepsOf (tapeOf bytes))))
+  ]
+
+  pub some-written : ¬ (l .written ≡ 0) → (after (roomOutcome (listingOf bytes) room) held ≡ l .written) × (l .written ≤ mostWritten)
+  some-written some = elim (decLt room (length (listingOf bytes))) [
+    | yes h ↦ absurd (some (not-written h))
+    | no h ↦ let is = written-is (omega arith) in (rw (enough (listingOf bytes) room (omega arith)) (sym is), omega (arith, listing-most bytes))
+  ]

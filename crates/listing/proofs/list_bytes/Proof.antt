@@ -6,10 +6,10 @@ use native.Mathlib.Omega.{arith}
 use borrow.Author.Needs.{needs}
 use lib.ListN.{length, take}
 use lib.Seq.{length-take-le}
-use Rattle.refusal.specs.Outcomes.{refused}
+use Rattle.refusal.specs.Outcomes.{refused, numberIn}
 use Rattle.program.specs.Services.{acceptOutcome}
 use Rattle.text.proofs.Laws.Puts.{put-taken, put-inside}
-use Rattle.listing.specs.Listing.{tapeOf, listingOutcome, numberIn}
+use Rattle.listing.specs.Listing.{tapeOf, listingOutcome}
 use Rattle.listing.proofs.Laws.Tapes.{tape-length}
 use Rattle.listing.proofs.Laws.Cases.{too-long, no-words, some-words, listing-by}
 use Rattle.listing.proofs.list_bytes.Statement.{statement}

@@ -3,11 +3,12 @@ use mathlib.Core.Path.{_≡_, refl, _∙_}
 use mathlib.Core.Logic.{_⊎_, inl, inr}
 use mathlib.Core.Bool.{Bool, true, false}
 use mathlib.Core.List.{List, [], _∷_, _++_}
-use Prim.Native.Nat.{ℕ}
+use Prim.Native.Nat.{ℕ, _≤_}
 use native.Mathlib.Omega.{arith}
 use Rattle.refusal.specs.declared.Refusal.{Refusal}
+use Rattle.refusal.specs.declared.Refusal.the-variants.{Modulus, Order, Exponent, Variant, Room, Length, Word, Mismatch, Register, Position, Base, Range, Index}
 use Rattle.refusal.specs.Refusals.{numberOf}
-use Rattle.refusal.specs.Outcomes.{Outcome, Rule, refused, answered, outcome, applies, _given-if_}
+use Rattle.refusal.specs.Outcomes.{Outcome, Rule, refused, answered, outcome, applies, numberIn, after, _given-if_}
 
 -- a call that is answered has passed its first rule
 pub passed : {A : Type 0} (t : Bool) (e : Refusal) (rules : List Rule) (x y : A) → outcome ((e given-if t) ∷ rules) x ≡ answered y
@@ -76,3 +77,40 @@ unfolding outcome applies
 refused-where [] x = inr (refl, refl)
 refused-where ((e given-if true) ∷ rules) x = inl (refl, (numberOf e, refl))
 refused-where ((e given-if false) ∷ rules) x = refused-where rules x
+
+-- ---- the number that comes back
+
+pub number-range : (e : Refusal) → (1 ≤ numberOf e) × (numberOf e ≤ 13)
+number-range Modulus = omega arith
+number-range Order = omega arith
+number-range Exponent = omega arith
+number-range Variant = omega arith
+number-range Room = omega arith
+number-range Length = omega arith
+number-range Word = omega arith
+number-range Mismatch = omega arith
+number-range Register = omega arith
+number-range Position = omega arith
+number-range Base = omega arith
+number-range Range = omega arith
+number-range Index = omega arith
+
+pub refused-range : {A : Type 0} (rules : List Rule) (x : A) {n : ℕ} → outcome rules x ≡ refused n → (1 ≤ n) × (n ≤ 13)
+unfolding outcome
+refused-range [] x e = let z : _≡_ {A = ℕ} 0 1 = cc in absurd (omega arith)
+refused-range ((r given-if true) ∷ rules) x {n} e = let same : numberOf r ≡ n = cc in rw same at (number-range r)
+refused-range ((r given-if false) ∷ rules) x e = refused-range rules x e
+
+-- 0 says that a call is answered, and a place that another answer by the same rules goes to holds that answer; else what it held
+module _ {A B : Type 0} (x : A) (y held : B) where
+  pub zero-answered : (rules : List Rule) → numberIn (outcome rules x) ≡ 0 → (outcome rules x ≡ answered x) × (after (outcome rules y) held ≡ y)
+  unfolding outcome
+  zero-answered [] e = (refl, refl)
+  zero-answered ((r given-if true) ∷ rules) e = absurd (omega (arith, number-range r))
+  zero-answered ((r given-if false) ∷ rules) e = zero-answered rules e
+
+  pub other-refused : (rules : List Rule) → ¬ (numberIn (outcome rules x) ≡ 0) → after (outcome rules y) held ≡ held
+  unfolding outcome
+  other-refused [] some = absurd (some refl)
+  other-refused ((r given-if true) ∷ rules) some = refl
+  other-refused ((r given-if false) ∷ rules) some = other-refused rules some

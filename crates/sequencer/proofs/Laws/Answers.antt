@@ -1,27 +1,32 @@
--- What an answer of load or run says: their tape is accepted, each of their own rules is passed, and the registers are those of the
--- definition.
-use mathlib.Core.Path.{_≡_}
+-- What an answer of load, run or cut says: their tape is accepted, each of their own rules is passed, and the registers or words are
+-- those of the definition.
+use mathlib.Core.Path.{_≡_, sym}
 use mathlib.Core.Bool.{false}
 use mathlib.Core.List.{List, [], _∷_}
-use Prim.Native.Nat.{ℕ}
+use Prim.Native.Nat.{ℕ, _≤_}
 use native.Mathlib.Omega.{arith}
 use lib.Dec.{leb, eqb}
+use lib.ListN.{length, take, drop}
+use lib.Seq.{length-slice}
 use borrow.Author.Tests.{leb-false, eqb-false}
-use Rattle.refusal.specs.Outcomes.{answered}
-use Rattle.refusal.proofs.Laws.Rules.{passed, answered-before, answer-is, refused-where}
+use Rattle.refusal.specs.Outcomes.{answered, numberIn, after}
+use Rattle.refusal.proofs.Laws.Rules.{passed, answered-before, answer-is, refused-where, zero-answered, other-refused}
 use Rattle.modular.specs.Primes.{Prime}
 use Rattle.modular.specs.Residues.{Residue}
 use Rattle.refusal.proofs.Laws.Tests.{neither}
-use Rattle.tape.specs.Layout.{headerOf, stepsOf, stepWords, stepCount}
+use Rattle.tape.specs.Layout.{headerOf, stepIndex, stepsOf, stepWords, stepCount}
 use Rattle.tape.specs.Steps.{AllSound}
-use Rattle.tape.proofs.Laws.Rows.{all-steps-sound}
+use Rattle.tape.proofs.Laws.Rows.{all-steps-sound, slice-from}
+use Rattle.tape.proofs.Laws.Reading.{length-most}
+use Rattle.tape.proofs.Laws.Layout.{laid-out-long}
 use Rattle.machine.specs.Machine.{run, start}
 use Rattle.program.specs.Services.{checkRules, checkOutcome}
 use Rattle.program.proofs.Laws.Checking.{accepted}
 use Rattle.program.proofs.Laws.Accepting.{accepted-prime}
-use Rattle.sequencer.specs.Services.{badRegister, loadOutcome, runRules, runOutcome}
-use Rattle.sequencer.specs.Lists.{Request, answerTo, after}
+use Rattle.sequencer.specs.Services.{badRegister, loadOutcome, runRules, runOutcome, cutRules, cutOutcome, cutStart, cutCount}
+use Rattle.sequencer.specs.Lists.{Request, answerTo}
 use Rattle.sequencer.specs.Demand.{AsSaid, EachAsSaid}
+use Rattle.sequencer.proofs.Laws.Cases.{good-cut}
 
 -- a number that refusal 9 lets pass
 pub good-register : (p x : ℕ) → badRegister p x ≡ false → Residue p x
@@ -51,6 +56,50 @@ pub run-answered : (tape v : List ℕ) (from goal : ℕ) (w : List ℕ) → runO
     → w ≡ run (headerOf tape .modulus) (stepsOf tape) from goal v
 unfolding runOutcome
 run-answered tape v from goal w e = answer-is _ _ e
+
+-- what 0 beside a cut says: its words are those of the definition, and stand where `cutStart` and `cutCount` say, inside a tape of at
+-- most 512 words
+pub record Stands (tape : List ℕ) (first last : ℕ) : Type 0 where
+  pub words : cutOutcome tape first last ≡ answered (stepWords tape first last)
+  pub start : (held : ℕ) → after (cutStart tape first last) held ≡ stepIndex first
+  pub count : (held : ℕ) → after (cutCount tape first last) held ≡ length (stepWords tape first last)
+  pub part : take (length (stepWords tape first last)) (drop (stepIndex first) tape) ≡ stepWords tape first last
+  pub order : first ≤ last
+  pub inside : stepIndex last ≤ length tape
+  pub short : length tape ≤ 512
+  pub most : length (stepWords tape first last) ≤ length tape
+
+module _ (tape : List ℕ) (first last : ℕ) where
+  abbrev words : List ℕ
+  words = stepWords tape first last
+
+  pub cut-stands : numberIn (cutOutcome tape first last) ≡ 0 → Stands tape first last
+  unfolding cutOutcome cutRules cutStart cutCount
+  cut-stands e =
+      let answer = zero-answered words words words (cutRules tape first last) e .0 in
+      let parts = answered-before (checkRules tape) _ words answer in
+      let all = accepted words tape (parts .0) in
+      let within = good-cut (headerOf tape .steps) first last (passed _ _ _ _ _ (parts .1) .0) in
+      let long = laid-out-long tape (all .laid) in
+      let short = length-most (length tape) (all .long) in
+      let size = length-slice (stepIndex first) (stepIndex last) tape (omega arith) in
+      record {
+        words = answer;
+        start = λ held. zero-answered words (stepIndex first) held (cutRules tape first last) e .1;
+        count = λ held. zero-answered words (length words) held (cutRules tape first last) e .1;
+        part = rw size (sym (slice-from (stepIndex first) (stepIndex last) tape));
+        order = within .0;
+        inside = omega arith;
+        short = short;
+        most = omega arith;
+      }
+
+  -- and another number: both places hold what they held
+  pub cut-not : ¬ (numberIn (cutOutcome tape first last) ≡ 0) → (held : ℕ)
+      → (after (cutStart tape first last) held ≡ held) × (after (cutCount tape first last) held ≡ held)
+  unfolding cutOutcome cutStart cutCount
+  cut-not some held =
+      (other-refused words (stepIndex first) held (cutRules tape first last) some, other-refused words (length words) held (cutRules tape first last) some)
 
 -- every run of every list is refused or answers as said
 as-said : (q : Request) (v : List ℕ) → AsSaid q v

@@ -2,18 +2,18 @@
 use mathlib.Core.Path.{_≡_, refl, sym, ap, _∙_}
 use mathlib.Core.Bool.{true, false, not, _||_, or-true, or-false}
 use mathlib.Core.List.{List, [], _∷_}
-use Prim.Native.Nat.{ℕ, _+_, _≤_, _<_, _%_, _^_}
+use Prim.Native.Nat.{ℕ, _≤_, _<_, _%_, _^_}
 use native.Mathlib.Omega.{arith}
 use lib.Dec.{leb, ltb, eqb}
 use lib.ListN.{length, take}
 use borrow.Author.Tests.{ltb-false, lt-ltb, le-ltb, eq-eqb, ne-eqb}
 use Rattle.refusal.specs.declared.Refusal.the-variants.{Register, Position, Base, Range}
 use Rattle.refusal.specs.Refusals.{numberOf}
-use Rattle.refusal.specs.Outcomes.{Outcome, Rule, refused, answered, outcome, _given-if_, gives, passes, answers}
+use Rattle.refusal.specs.Outcomes.{Outcome, Rule, refused, answered, outcome, numberIn, _given-if_, gives, passes, answers}
 use Rattle.refusal.proofs.Laws.Rules.{refused-before, passed-before}
 use Rattle.refusal.proofs.Laws.Tests.{neither}
 use Rattle.tape.specs.declared.Header.{Header}
-use Rattle.tape.specs.Layout.{headerWords, headerOf, stepWords, part, stepsOf}
+use Rattle.tape.specs.Layout.{headerOf, stepIndex, stepWords, part, stepsOf}
 use Rattle.tape.proofs.Laws.Rows.{part-inside}
 use Rattle.tape.proofs.Laws.Layout.{laid-out-long}
 use Rattle.machine.specs.Machine.{run, start}
@@ -21,7 +21,7 @@ use Rattle.machine.specs.Exponents.{startExponents, exponentsAt, staysInRange, 
 use Rattle.named.proofs.Laws.Parameters.{good-modulus}
 use Rattle.program.specs.Services.{checkRules, acceptOutcome}
 use Rattle.program.proofs.Laws.Checking.{accepted, header-is, steps-are}
-use Rattle.sequencer.specs.Services.{badRegister, badRegisters, allowed, badBase, badCut, loadOutcome, runOutcome, runRules, traceOutcome, cutOutcome, cutPart, cutNumber}
+use Rattle.sequencer.specs.Services.{badRegister, badRegisters, allowed, badBase, badCut, loadOutcome, runOutcome, runRules, traceOutcome, cutRules, cutOutcome, cutPart}
 
 -- ---- the tests
 
@@ -70,11 +70,18 @@ module _ (steps first last : ℕ) where
   unfolding badCut
   cut-order low high = rw (le-ltb steps first low, le-ltb steps last high)
 
+  pub good-cut : badCut steps first last ≡ false → (first ≤ last) × (last ≤ steps)
+  unfolding badCut
+  good-cut good =
+      let low = neither (ltb steps first || ltb steps last) (ltb last first) good in
+      let high = neither (ltb steps first) (ltb steps last) (low .0) in
+      (ltb-false last first (low .1), ltb-false steps last (high .1))
+
 -- what is beside a cut's part
-pub cut-refused : {o : Outcome (List ℕ)} {m n : ℕ} → o ≡ refused n → m ≡ n → ([] ≡ cutPart o) × (m ≡ cutNumber o)
+pub cut-refused : {o : Outcome (List ℕ)} {m n : ℕ} → o ≡ refused n → m ≡ n → ([] ≡ cutPart o) × (m ≡ numberIn o)
 cut-refused e f = rw e (refl, f)
 
-pub cut-answered : {o : Outcome (List ℕ)} {part words : List ℕ} → o ≡ answered words → part ≡ words → (part ≡ cutPart o) × (0 ≡ cutNumber o)
+pub cut-answered : {o : Outcome (List ℕ)} {part words : List ℕ} → o ≡ answered words → part ≡ words → (part ≡ cutPart o) × (0 ≡ numberIn o)
 cut-answered e f = rw e (f, refl)
 
 -- ---- refused by check
@@ -85,7 +92,7 @@ module _ (tape : List ℕ) (n : ℕ) (e : acceptOutcome tape ≡ refused n) wher
   load-unaccepted a = refused-before (headerOf tape) (start a) (checkRules tape) _ e
 
   pub cut-unaccepted : (first last : ℕ) → cutOutcome tape first last ≡ refused n
-  unfolding cutOutcome
+  unfolding cutOutcome cutRules
   cut-unaccepted first last = refused-before (headerOf tape) (stepWords tape first last) (checkRules tape) _ e
 
   pub run-unaccepted : (v : List ℕ) (from goal : ℕ) → runOutcome tape v from goal ≡ refused n
@@ -178,7 +185,7 @@ module _ (tape : List ℕ) (h : Header) (e : acceptOutcome tape ≡ answered h) 
 
   module _ (first last : ℕ) where
     cut-rules : cutOutcome tape first last ≡ outcome ((Position given-if badCut (h .steps) first last) ∷ []) (stepWords tape first last)
-    unfolding cutOutcome
+    unfolding cutOutcome cutRules
     cut-rules =
         passed-before (headerOf tape) (stepWords tape first last) (checkRules tape) _ e
         ∙ ap (λ (g : Header). outcome ((Position given-if badCut (g .steps) first last) ∷ []) (stepWords tape first last)) (sym (header-is tape h e))
@@ -186,12 +193,10 @@ module _ (tape : List ℕ) (h : Header) (e : acceptOutcome tape ≡ answered h) 
     pub cut-position : badCut (h .steps) first last ≡ true → cutOutcome tape first last ≡ refused (numberOf Position)
     cut-position bad = cut-rules ∙ gives _ _ _ bad
 
-    pub cut-there : badCut (h .steps) first last ≡ false → cutOutcome tape first last ≡ answered (part tape (headerWords + first) (headerWords + last))
-    unfolding badCut
+    pub cut-there : badCut (h .steps) first last ≡ false → cutOutcome tape first last ≡ answered (part tape (stepIndex first) (stepIndex last))
     cut-there good =
-        let low = neither (ltb (h .steps) first || ltb (h .steps) last) (ltb last first) good in
-        let high = neither (ltb (h .steps) first) (ltb (h .steps) last) (low .0) in
         let long = laid-out-long tape (accepted (headerOf tape) tape e .laid) in
-        let inside : 4 + last ≤ length tape = omega (arith, steps-are tape h e, ltb-false (h .steps) last (high .1)) in
-        let order : 4 + first ≤ 4 + last = omega (arith, ltb-false last first (low .1)) in
-        cut-rules ∙ passes _ _ _ good ∙ answers _ ∙ ap answered (sym (part-inside tape (4 + first) (4 + last) order inside))
+        let within = good-cut (h .steps) first last good in
+        let inside : stepIndex last ≤ length tape = omega (arith, steps-are tape h e) in
+        let order : stepIndex first ≤ stepIndex last = omega arith in
+        cut-rules ∙ passes _ _ _ good ∙ answers _ ∙ ap answered (sym (part-inside tape (stepIndex first) (stepIndex last) order inside))

@@ -9,7 +9,7 @@ use native.Mathlib.Omega.{arith}
 use lib.Dec.{ltb}
 use lib.ListN.{length}
 use borrow.Author.Tests.{lt-ltb, le-ltb, eqb-false, not-true}
-use Rattle.refusal.specs.Outcomes.{Outcome, refused, answered}
+use Rattle.refusal.specs.Outcomes.{Outcome, refused, answered, after}
 use Rattle.modular.specs.Primes.{Prime}
 use Rattle.modular.specs.Residues.{Residue}
 use Rattle.modular.specs.Inverses.{inverse}
@@ -23,7 +23,7 @@ use Rattle.machine.proofs.Laws.Runs.{run-forward, run-backward}
 use Rattle.named.specs.Generators.{Raises, Lowers}
 use Rattle.program.proofs.Laws.Checking.{AcceptedNamed, accepted-named}
 use Rattle.program.proofs.Laws.Accepting.{accepted-some, accepted-raises, accepted-lowers}
-use Rattle.sequencer.specs.Lists.{Request, answerTo, after, afterAll, unlessRefused, performed}
+use Rattle.sequencer.specs.Lists.{Request, answerTo, afterAll, unlessRefused, performed}
 use Rattle.sequencer.specs.Demand.{EndToEnd, AllEndToEnd, factor, exponentAfter, ChainEnds}
 use Rattle.sequencer.proofs.Laws.Answers.{steps-sound, prime-of, load-answered, run-answered, each-as-said}
 

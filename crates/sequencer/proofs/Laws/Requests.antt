@@ -5,9 +5,10 @@ use Prim.Native.Nat.{ℕ, suc, _+_, _-_, _≤_, _<_}
 use native.Mathlib.Omega.{arith}
 use lib.ListN.{length, getD, drop, length-drop}
 use lib.Seq.{drop-cons}
+use Rattle.refusal.specs.Outcomes.{after}
 use Rattle.tape.specs.Layout.{part}
 use Rattle.sequencer.specs.Services.{runOutcome}
-use Rattle.sequencer.specs.Lists.{Request, after, afterAll, requestsOf}
+use Rattle.sequencer.specs.Lists.{Request, afterAll, requestsOf}
 
 fewer : (row words : List ℕ) → length words < 4 → requestsOf row words ≡ []
 unfolding requestsOf

@@ -4,13 +4,13 @@
 use mathlib.Core.Path.{_≡_, refl, sym, ap, ap₂, _∙_}
 use mathlib.Core.List.{List, [], _∷_}
 use Prim.Native.Nat.{ℕ}
-use Rattle.refusal.specs.Outcomes.{Outcome, refused, answered}
+use Rattle.refusal.specs.Outcomes.{Outcome, refused, answered, after}
 use Rattle.modular.specs.Primes.{Prime}
 use Rattle.tape.specs.declared.Step.{Step}
 use Rattle.tape.specs.Layout.{headerOf, stepsOf}
 use Rattle.machine.specs.Machine.{run, Good}
 use Rattle.machine.proofs.Laws.Runs.{run-good, run-compose, run-stay}
-use Rattle.sequencer.specs.Lists.{Request, answerTo, after, afterAll, unlessRefused, performed}
+use Rattle.sequencer.specs.Lists.{Request, answerTo, afterAll, unlessRefused, performed}
 use Rattle.sequencer.specs.Demand.{Returns, RewindEnds}
 use Rattle.sequencer.proofs.Laws.Answers.{steps-sound, prime-of, run-answered, each-as-said}
 

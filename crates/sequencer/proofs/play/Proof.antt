@@ -6,9 +6,9 @@ use Prim.Native.Nat.{ℕ, _-_, _≤_}
 use native.Mathlib.Omega.{arith}
 use borrow.Author.Needs.{needs}
 use lib.ListN.{length, drop}
-use Rattle.refusal.specs.Outcomes.{Outcome}
+use Rattle.refusal.specs.Outcomes.{Outcome, after}
 use Rattle.machine.specs.Machine.{valuesOf}
-use Rattle.sequencer.specs.Lists.{after, afterAll, requestsOf}
+use Rattle.sequencer.specs.Lists.{afterAll, requestsOf}
 use Rattle.sequencer.specs.Demand.{ChainEnds, RewindEnds}
 use Rattle.sequencer.proofs.Laws.Requests.{after-next, after-last}
 use Rattle.sequencer.proofs.Laws.Chains.{chain-ends}

@@ -1,10 +1,10 @@
 -- `requests::after_run` meets its contract: an arm for an answer, and one for a refusal.
 use mathlib.Core.Path.{sym, ap}
 use borrow.Author.Needs.{needs}
+use Rattle.refusal.specs.Outcomes.{after}
 use Rattle.machine.specs.Machine.{valuesOf}
 use Rattle.sequencer.specs.declared.Standing.{Standing}
 use Rattle.sequencer.specs.Services.{standingOf}
-use Rattle.sequencer.specs.Lists.{after}
 use Rattle.sequencer.proofs.requests.after_run.Statement.{statement}
 use Rattle.sequencer.proofs.requests.after_run.Tie as tie
 
