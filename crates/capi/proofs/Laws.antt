@@ -1,0 +1,2 @@
+-- What storing an answer leaves behind.
+pub mod Storing

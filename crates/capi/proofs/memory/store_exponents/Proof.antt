@@ -1,0 +1,35 @@
+-- `memory::store_exponents` meets its contract: an arm for an answer, each of whose exponents is read back as it is, and one for a refusal.
+use mathlib.Core.Path.{refl}
+use borrow.Author.Needs.{needs}
+use Rattle.machine.proofs.Laws.Sums.{from-bits}
+use Rattle.capi.proofs.memory.store_exponents.Statement.{statement}
+use Rattle.capi.proofs.memory.store_exponents.Tie as tie
+
+enum-known-answer : tie.Need-enum-known-answer
+enum-known-answer c = search needs
+
+enum-known-answer-2 : tie.Need-enum-known-answer-2
+enum-known-answer-2 c = search needs
+
+number-requires : tie.Need-number-requires
+number-requires c κs = search needs
+
+returns : tie.Need-returns
+returns c =
+    let x = c .before .before .before .answer .given in
+    let told = c .before .struct-told .given in
+    rw (
+      x .1,
+      from-bits (x .0 .0 .c) (told .0 .1),
+      from-bits (x .0 .0 .d) (told .1 .0 .1),
+      from-bits (x .0 .0 .e) (told .1 .1 .0 .1),
+      from-bits (x .0 .0 .f) (told .1 .1 .1 .0 .1),
+    )
+    (refl, refl)
+
+returns-2 : tie.Need-returns-2
+returns-2 c = search needs
+
+pub store-exponents-spec : {M : Type 1} → statement M
+store-exponents-spec =
+    tie.close (tie.spec enum-known-answer enum-known-answer-2 number-requires returns returns-2)

@@ -1,0 +1,162 @@
+// The C interface: each service under a plain name, for C and Rust to link. include/fibexp.h declares these functions. Each but
+// `fibexp_hofstadter` answers document 01's number, 0 on success, and writes through its references only then; `fibexp_listing` writes
+// the line of a refused tape too.
+mod memory;
+
+ghost use mathlib.Core.Path.{_≡_};
+ghost use lib.ListN.{length, take, drop};
+ghost use Rattle.refusal.specs.Outcomes.{numberIn, after};
+ghost use Rattle.modular.specs.Inverses.{inverseOutcome};
+ghost use Rattle.fibonacci.specs.Hofstadter.{G};
+ghost use Rattle.fibonacci.specs.Services.{fibonacciOutcome, placesOutcome, placesRow, numberOutcome};
+ghost use Rattle.program.specs.Services.{roomOutcome, buildOutcome, buildRow, checkOutcome};
+ghost use Rattle.sequencer.specs.Services.{loadOutcome, runOutcome, traceOutcome, cutOutcome, cutPart, cutStart, cutCount};
+ghost use Rattle.listing.specs.Listing.{listingOf, listingAnswer, listingRow};
+use memory::registers_in;
+use memory::store_exponents;
+use memory::store_registers;
+use memory::store_u32;
+use memory::store_u64;
+use refusal::Answer;
+
+// A Fibonacci number by its index: 13.
+#[no_mangle]
+pub extern "C" fn fibexp_fibonacci(index: u32, value: &mut u64) -> u32
+    ensures { λ number. ⌜ number ≡ numberIn (fibonacciOutcome index) ⌝ }
+    ensures { λ _. ⌜ now (value .exit) ≡ after (fibonacciOutcome index) (now (value .entry)) ⌝ }
+{
+    store_u64(fibonacci::fibonacci(index), value)
+}
+
+// Number to list: 5.
+#[no_mangle]
+pub extern "C" fn fibexp_places(n: u64, places: &mut [u8], count: &mut u32) -> u32
+    ensures { λ number. ⌜ number ≡ numberIn (placesOutcome n (length (now (places .entry)))) ⌝ }
+    ensures { λ _. ⌜ now (places .exit) ≡ placesRow n (now (places .entry)) ⌝ }
+    ensures { λ _. ⌜ now (count .exit) ≡ after (placesOutcome n (length (now (places .entry)))) (now (count .entry)) ⌝ }
+{
+    store_u32(fibonacci::places(n, places), count)
+}
+
+// List to number: 13, 12.
+#[no_mangle]
+pub extern "C" fn fibexp_number(places: &[u8], n: &mut u64) -> u32
+    ensures { λ number. ⌜ number ≡ numberIn (numberOutcome (now (places .entry))) ⌝ }
+    ensures { λ _. ⌜ now (n .exit) ≡ after (numberOutcome (now (places .entry))) (now (n .entry)) ⌝ }
+{
+    store_u64(fibonacci::number(places), n)
+}
+
+// Hofstadter's G, which refuses nothing: the answer is G(n) itself.
+#[no_mangle]
+pub extern "C" fn fibexp_hofstadter(n: u64) -> u64
+    ensures { λ r. ⌜ r ≡ G n ⌝ }
+{
+    fibonacci::hofstadter(n)
+}
+
+// The inverse of k modulo r: 2, 3.
+#[no_mangle]
+pub extern "C" fn fibexp_inverse(k: u32, r: u32, inverse: &mut u32) -> u32
+    ensures { λ number. ⌜ number ≡ numberIn (inverseOutcome k r) ⌝ }
+    ensures { λ _. ⌜ now (inverse .exit) ≡ after (inverseOutcome k r) (now (inverse .entry)) ⌝ }
+{
+    store_u32(modular::inverse(k, r), inverse)
+}
+
+// Build: 1, 2, 3, 4, 5.
+#[no_mangle]
+pub extern "C" fn fibexp_build(
+    p: u32,
+    r: u32,
+    k: u32,
+    variant: u32,
+    words: &mut [u32],
+    count: &mut u32,
+) -> u32
+    ensures { λ number. ⌜ number ≡ numberIn (buildOutcome p r k variant (length (now (words .entry)))) ⌝ }
+    ensures { λ _. ⌜ now (words .exit) ≡ buildRow p r k variant (now (words .entry)) ⌝ }
+    ensures { λ _. ⌜ now (count .exit) ≡ after (buildOutcome p r k variant (length (now (words .entry)))) (now (count .entry)) ⌝ }
+{
+    store_u32(program::build(p, r, k, variant, words), count)
+}
+
+// Check: 6, 7, 4, 1 and, for named programs, 2, 3, 8.
+#[no_mangle]
+pub extern "C" fn fibexp_check(tape: &[u32]) -> u32
+    ensures { λ number. ⌜ number ≡ numberIn (checkOutcome (now (tape .entry))) ⌝ }
+{
+    match program::check(tape) {
+        Answer::Value(accepted) => 0,
+        Answer::Refused(e) => refusal::number(e),
+    }
+}
+
+// Load: check's refusals, 9, 11.
+#[no_mangle]
+pub extern "C" fn fibexp_load(tape: &[u32], base: u32, registers: &mut [u32; 4]) -> u32
+    ensures { λ number. ⌜ number ≡ numberIn (loadOutcome (now (tape .entry)) base) ⌝ }
+    ensures { λ _. ⌜ now (registers .exit) ≡ after (loadOutcome (now (tape .entry)) base) (now (registers .entry)) ⌝ }
+{
+    store_registers(sequencer::load(tape, base), registers)
+}
+
+// Run, in place: check's refusals, 9, 10.
+#[no_mangle]
+pub extern "C" fn fibexp_run(tape: &[u32], registers: &mut [u32; 4], from: u32, to: u32) -> u32
+    ensures { λ number. ⌜ number ≡ numberIn (runOutcome (now (tape .entry)) (now (registers .entry)) from to) ⌝ }
+    ensures { λ _. ⌜ now (registers .exit) ≡ after (runOutcome (now (tape .entry)) (now (registers .entry)) from to) (now (registers .entry)) ⌝ }
+{
+    let standing = registers_in(*registers);
+    store_registers(sequencer::run(tape, standing, from, to), registers)
+}
+
+// Trace: check's refusals, 10, 12.
+#[no_mangle]
+pub extern "C" fn fibexp_trace(tape: &[u32], position: u32, exponents: &mut [i64; 4]) -> u32
+    ensures { λ number. ⌜ number ≡ numberIn (traceOutcome (now (tape .entry)) position) ⌝ }
+    ensures { λ _. ⌜ now (exponents .exit) ≡ after (traceOutcome (now (tape .entry)) position) (now (exponents .entry)) ⌝ }
+{
+    store_exponents(sequencer::trace(tape, position), exponents)
+}
+
+// Cut: check's refusals, 10. On success the count's words from the start on are the part that cut gives.
+#[no_mangle]
+pub extern "C" fn fibexp_cut(
+    tape: &[u32],
+    first: u32,
+    last: u32,
+    start: &mut u32,
+    count: &mut u32,
+) -> u32
+    ensures { λ number. ⌜ number ≡ numberIn (cutOutcome (now (tape .entry)) first last) ⌝ }
+    ensures { λ _. ⌜ now (start .exit) ≡ after (cutStart (now (tape .entry)) first last) (now (start .entry)) ⌝ }
+    ensures { λ _. ⌜ now (count .exit) ≡ after (cutCount (now (tape .entry)) first last) (now (count .entry)) ⌝ }
+    ensures { λ number. ⌜ (number ≡ 0 → take (now (count .exit)) (drop (now (start .exit)) (now (tape .entry))) ≡ cutPart (cutOutcome (now (tape .entry)) first last)) ⌝ }
+{
+    let mut number: u32 = 0;
+    let part = sequencer::cut(tape, first, last, &mut number);
+    if number != 0 {
+        return number;
+    }
+    *start = tape::step_index(first) as u32;
+    *count = part.len() as u32;
+    0
+}
+
+// The listing of a tape that is given as bytes: 5 and nothing written where the row is shorter, else the listing's own number, which
+// is 6 or one of check's where its line is that of a refusal.
+#[no_mangle]
+pub extern "C" fn fibexp_listing(bytes: &[u8], lines: &mut [u8], written: &mut u32) -> u32
+    ensures { λ number. ⌜ number ≡ listingAnswer (now (bytes .entry)) (length (now (lines .entry))) .number ⌝ }
+    ensures { λ _. ⌜ now (lines .exit) ≡ listingRow (now (bytes .entry)) (now (lines .entry)) ⌝ }
+    ensures { λ _. ⌜ now (written .exit) ≡ after (roomOutcome (listingOf (now (bytes .entry))) (length (now (lines .entry)))) (now (written .entry)) ⌝ }
+{
+    let listed = listing::listing(bytes, lines);
+    // no listing is empty
+    if listed.written == 0 {
+        return listed.number;
+    }
+    *written = listed.written as u32;
+    listed.number
+}

@@ -1,0 +1,122 @@
+/*
+ * The C interface: writing and running tapes of targeted Fibonacci exponentiation. Link it with
+ * target/staticlib/libcapi.a, which `rt staticlib capi` writes.
+ *
+ * Each function but fibexp_hofstadter answers the number of the first refusal that applies, or FIBEXP_OK. It writes
+ * through its pointers on FIBEXP_OK only; fibexp_listing alone writes the line of a refused tape too. Refusals are
+ * listed in the order in which they are tested.
+ *
+ * The caller keeps to what a C declaration cannot say. A row is a pointer and a count of elements; the pointer isn't
+ * null, not even where the count is 0, and it is aligned for its elements. What a function writes overlaps nothing else
+ * that it is given, and no other thread touches any of it during the call.
+ */
+#ifndef FIBEXP_H
+#define FIBEXP_H
+
+#include <stddef.h>
+#include <stdint.h>
+
+#ifdef __cplusplus
+extern "C" {
+#endif
+
+/* The refusals. */
+enum fibexp_refusal {
+    FIBEXP_OK = 0,
+    FIBEXP_MODULUS = 1,   /* p isn't a prime from 3 to 268435455 */
+    FIBEXP_ORDER = 2,     /* r is below 2, or (except in fibexp_inverse) doesn't divide p - 1 */
+    FIBEXP_EXPONENT = 3,  /* k isn't from 1 to r - 1, or shares a factor above 1 with r */
+    FIBEXP_VARIANT = 4,   /* build: not 1 to 3; check: above 3 */
+    FIBEXP_ROOM = 5,      /* the row is shorter than the result */
+    FIBEXP_LENGTH = 6,    /* a tape outside 5 to 512 words */
+    FIBEXP_WORD = 7,      /* a word, its place or the end's count breaks the layout */
+    FIBEXP_MISMATCH = 8,  /* a named program's steps aren't those built for its p, r, k and variant */
+    FIBEXP_REGISTER = 9,  /* a register or base is 0 or at least p */
+    FIBEXP_POSITION = 10, /* a position above the step count; in a cut also first above last */
+    FIBEXP_BASE = 11,     /* named program, and base^r isn't 1 modulo p */
+    FIBEXP_RANGE = 12,    /* an exponent outside -2^62 to 2^62, or a sum of places above 64 bits */
+    FIBEXP_INDEX = 13     /* an index above 93, or a list that isn't a Zeckendorf form of places 1 to 92 */
+};
+
+/* The variants of named programs; FIBEXP_FREE is that of a tape made by hand, which fibexp_build doesn't write. */
+enum fibexp_variant {
+    FIBEXP_FREE = 0,
+    FIBEXP_BASIC = 1,
+    FIBEXP_DUAL = 2,
+    FIBEXP_HYBRID = 3
+};
+
+/* Sizes that are always enough. */
+enum fibexp_most {
+    FIBEXP_MOST_PLACES = 46,       /* places of a 64-bit number */
+    FIBEXP_MOST_WORDS = 512,       /* words of a tape */
+    FIBEXP_MOST_TAPE_BYTES = 2048, /* bytes of a tape */
+    FIBEXP_MOST_LISTING = 6137     /* bytes of a listing */
+};
+
+/* The Fibonacci number of an index. Writes *value. Refusal: INDEX. */
+uint32_t fibexp_fibonacci(uint32_t index, uint64_t *value);
+
+/*
+ * Number to list: the places of the Zeckendorf form of n, highest first. Writes *count and that many bytes; those past
+ * them stay. Refusal: ROOM.
+ */
+uint32_t fibexp_places(uint64_t n, uint8_t *places, size_t room, uint32_t *count);
+
+/* List to number. Writes *n. Refusals: INDEX, RANGE. */
+uint32_t fibexp_number(const uint8_t *places, size_t count, uint64_t *n);
+
+/* Hofstadter's G(n), for every n. */
+uint64_t fibexp_hofstadter(uint64_t n);
+
+/* The inverse of k modulo r. Writes *inverse. Refusals: ORDER, EXPONENT. */
+uint32_t fibexp_inverse(uint32_t k, uint32_t r, uint32_t *inverse);
+
+/*
+ * The tape of the named program for p, r, k and the variant. Writes *count and that many words; those past them stay.
+ * Refusals: MODULUS, ORDER, EXPONENT, VARIANT, ROOM.
+ */
+uint32_t fibexp_build(uint32_t p, uint32_t r, uint32_t k, uint32_t variant, uint32_t *words, size_t room,
+                      uint32_t *count);
+
+/*
+ * Accepts a tape, and writes nothing. Refusals: LENGTH, WORD, VARIANT, MODULUS and, for named programs, ORDER,
+ * EXPONENT, MISMATCH.
+ */
+uint32_t fibexp_check(const uint32_t *tape, size_t words);
+
+/* Writes the registers (1, base, 1, 1). Refusals: those of fibexp_check, REGISTER, BASE. */
+uint32_t fibexp_load(const uint32_t *tape, size_t words, uint32_t base, uint32_t registers[4]);
+
+/*
+ * Runs the tape from one position to another, backward where `to` is the smaller: the registers go in as they stand at
+ * `from` and come out as they stand at `to`. Refusals: those of fibexp_check, REGISTER, POSITION.
+ */
+uint32_t fibexp_run(const uint32_t *tape, size_t words, uint32_t registers[4], uint32_t from, uint32_t to);
+
+/*
+ * Each register's whole exponent at a position, from (0, 1, 0, 0) at position 0. Writes the four exponents.
+ * Refusals: those of fibexp_check, POSITION, RANGE.
+ */
+uint32_t fibexp_trace(const uint32_t *tape, size_t words, uint32_t position, int64_t exponents[4]);
+
+/*
+ * Where in the tape the words of the steps numbered first + 1 to last stand: *count words from tape[*start] on. Writes
+ * *start and *count. Refusals: those of fibexp_check, POSITION.
+ */
+uint32_t fibexp_cut(const uint32_t *tape, size_t words, uint32_t first, uint32_t last, uint32_t *start,
+                    uint32_t *count);
+
+/*
+ * The listing of a tape that is given as bytes, least significant byte of a word first. Writes *written and that many
+ * bytes; those past them stay. The listing of a refused tape is the line "refused N": it is written too, and N is
+ * answered. LENGTH is also for bytes that aren't whole words; else N is of fibexp_check. ROOM where the listing doesn't
+ * fit: then nothing is written.
+ */
+uint32_t fibexp_listing(const uint8_t *bytes, size_t count, uint8_t *lines, size_t room, uint32_t *written);
+
+#ifdef __cplusplus
+}
+#endif
+
+#endif
