@@ -27,6 +27,10 @@ actionIn step payload = cond (ltb payload 16 && not (eqb (payload % 4) (payload 
 unfoldable pub swapIn : ℕ → Decoded
 swapIn payload = cond (ltb payload 16 && ltb (payload % 4) (payload / 4)) (Action (Swp (payload % 4) (payload / 4))) Bad
 
+-- how many kinds from 5 on take a target and a source, for the contract of an inner function
+unfoldable pub kindsOf : ℕ → ℕ → ℕ
+kindsOf target source = cond (ltb target source) 3 (cond (ltb source target) 2 0)
+
 -- what a word means; kinds 0 and 8 to 14 have no meaning
 unfoldable pub decoded : ℕ → Decoded
 decoded w =

@@ -2,8 +2,9 @@
 mod layout;
 
 ghost use mathlib.Core.Path.{_≡_};
-ghost use Rattle.tape.specs.Words.{decoded, headingIn, actionIn, swapIn};
-ghost use Rattle.tape.specs.Layout.{readOutcome, readingOf, stepAt, stepOf, stepIndex, part};
+ghost use lib.Dec.{eqb};
+ghost use Rattle.tape.specs.Words.{decoded, headingIn, kindsOf};
+ghost use Rattle.tape.specs.Layout.{sortOf, readOutcome, readingOf, stepAt, stepOf, stepIndex, part};
 use layout::HEADER_WORDS;
 use layout::MOST_WORDS;
 use layout::OTHER_WORDS;
@@ -66,20 +67,22 @@ const REGISTERS: u32 = 4;
 // Steps' payloads are below this.
 const REGISTER_PAIRS: u32 = 16;
 
-// What a word means, by its kind.
+// What a word means, by its kind. Steps come first, since nearly all words of a tape are.
 pub fn decode(word: u32) -> Decoded
     ensures { λ d. ⌜ d ≡ decoded word ⌝ }
 {
-    let kind = word / PAYLOAD;
+    if is_step(word) {
+        return Decoded::Action(step_in(word));
+    }
     let payload = word % PAYLOAD;
-    match kind {
+    match word / PAYLOAD {
         1 => heading(payload),
         2 => Decoded::P(payload),
         3 => Decoded::R(payload),
         4 => Decoded::K(payload),
-        5 => multiplication(payload),
-        6 => division(payload),
-        7 => swap(payload),
+        5 => Decoded::Bad,
+        6 => Decoded::Bad,
+        7 => Decoded::Bad,
         15 => Decoded::End(payload),
         0 | 8..=14 => Decoded::Bad,
         _ => Decoded::Bad,
@@ -184,47 +187,47 @@ fn heading(payload: u32) -> Decoded
     Decoded::Heading(payload / FORMATS)
 }
 
-// Kind 5.
-fn multiplication(payload: u32) -> Decoded
-    ensures { λ d. ⌜ d ≡ actionIn Step.Mul payload ⌝ }
+// Whether a word is a step's. Its kinds are told apart by arithmetic: a way of its own for each would cost a wrong guess of the
+// processor at most steps.
+fn is_step(word: u32) -> bool
+    ensures { λ r. ⌜ r ≡ eqb (sortOf (decoded word)) 5 ⌝ }
 {
+    let payload = word % PAYLOAD;
     if REGISTER_PAIRS <= payload {
-        return Decoded::Bad;
+        return false;
     }
-    let target = payload % REGISTERS;
-    let source = payload / REGISTERS;
-    if target == source {
-        return Decoded::Bad;
+    let kinds = kinds_of(payload % REGISTERS, payload / REGISTERS);
+    let kind = word / PAYLOAD;
+    if kind < 5 {
+        return false;
     }
-    Decoded::Action(Step::Mul(target, source))
+    kind - 5 < kinds
 }
 
-// Kind 6.
-fn division(payload: u32) -> Decoded
-    ensures { λ d. ⌜ d ≡ actionIn Step.Div payload ⌝ }
+// How many kinds from 5 on take a target and a source: none where they are equal, and swp where the target is the smaller.
+fn kinds_of(target: u32, source: u32) -> u32
+    ensures { λ n. ⌜ n ≡ kindsOf target source ⌝ }
 {
-    if REGISTER_PAIRS <= payload {
-        return Decoded::Bad;
+    if target < source {
+        return 3;
     }
-    let target = payload % REGISTERS;
-    let source = payload / REGISTERS;
-    if target == source {
-        return Decoded::Bad;
+    if source < target {
+        return 2;
     }
-    Decoded::Action(Step::Div(target, source))
+    0
 }
 
-// Kind 7, whose target is the smaller register.
-fn swap(payload: u32) -> Decoded
-    ensures { λ d. ⌜ d ≡ swapIn payload ⌝ }
+// The step of a step's word.
+fn step_in(word: u32) -> Step
+    requires { ⌜ sortOf (decoded word) ≡ 5 ⌝ }
+    ensures { λ step. ⌜ Decoded.Action step ≡ decoded word ⌝ }
 {
-    if REGISTER_PAIRS <= payload {
-        return Decoded::Bad;
-    }
+    let payload = word % PAYLOAD;
     let target = payload % REGISTERS;
     let source = payload / REGISTERS;
-    if source <= target {
-        return Decoded::Bad;
+    match word / PAYLOAD {
+        5 => Step::Mul(target, source),
+        6 => Step::Div(target, source),
+        _ => Step::Swp(target, source),
     }
-    Decoded::Action(Step::Swp(target, source))
 }

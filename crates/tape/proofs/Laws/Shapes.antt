@@ -1,0 +1,135 @@
+-- The words of steps by arithmetic: a payload of two registers, and a kind from 5 on of as many as take them. Such a word means a step,
+-- and a word that means a step is one.
+use mathlib.Core.Path.{_≡_, refl, sym, ap}
+use mathlib.Core.Bool.{Bool, true, false, _&&_, not, cond}
+use mathlib.Core.Logic.{⊎-elim}
+use Prim.Native.Nat.{ℕ, _+_, _*_, _/_, _%_, _≤_, _<_}
+use native.Mathlib.Nat.{eq-or-lt-of-le}
+use native.Mathlib.Omega.{arith}
+use lib.Dec.{eqb, ltb}
+use borrow.Author.Tests.{ltb-true, ltb-false, lt-ltb, le-ltb}
+use Rattle.refusal.proofs.Laws.Tests.{by-test}
+use Rattle.tape.specs.declared.Step.{Step}
+use Rattle.tape.specs.declared.Step.the-variants.{Mul, Div, Swp}
+use Rattle.tape.specs.declared.Decoded.the-variants.{Action, Bad}
+use Rattle.tape.specs.Steps.{Sound}
+use Rattle.tape.specs.Words.{kindOf, payloadOf, actionIn, swapIn, kindsOf, decoded, stepWord, encoded}
+use Rattle.tape.specs.Layout.{sortOf, stepOf}
+use Rattle.tape.proofs.Laws.Payloads.{action-good, swap-good}
+use Rattle.tape.proofs.Laws.Words.{decoded-lawful, step-sound, word-again}
+
+-- ---- how many kinds take two registers
+
+module _ (t s : ℕ) where
+  pub kinds-below : t < s → kindsOf t s ≡ 3
+  unfolding kindsOf
+  kinds-below h = rw (lt-ltb t s h)
+
+  pub kinds-above : s < t → kindsOf t s ≡ 2
+  unfolding kindsOf
+  kinds-above h = rw (le-ltb t s (omega arith), lt-ltb s t h)
+
+  pub kinds-none : t ≡ s → kindsOf t s ≡ 0
+  unfolding kindsOf
+  kinds-none e = rw (le-ltb t s (omega arith), le-ltb s t (omega arith))
+
+  pub kinds-not-below : s ≤ t → kindsOf t s ≤ 2
+  unfolding kindsOf
+  kinds-not-below h = rw (le-ltb t s h) (by-test (ltb s t) (λ e. rw e (omega arith)) (λ e. rw e (omega arith)))
+
+  pub kinds-most : kindsOf t s ≤ 3
+  kinds-most =
+      by-test (ltb t s)
+      (λ e. omega (arith, kinds-below (ltb-true t s e)))
+      (λ e. omega (arith, kinds-not-below (ltb-false t s e)))
+
+  -- two that differ are taken by mul and div
+  kinds-apart : (t ≡ s → ⊥) → 1 < kindsOf t s
+  kinds-apart apart =
+      by-test (ltb t s)
+      (λ e. omega (arith, kinds-below (ltb-true t s e)))
+      (λ e.
+      by-test (ltb s t)
+      (λ f. omega (arith, kinds-above (ltb-true s t f)))
+      (λ f. absurd (apart (omega (arith, ltb-false t s e, ltb-false s t f)))))
+
+-- ---- the shape of a step's word
+
+pub record Shape (w : ℕ) : Type 0 where
+  pub pair : payloadOf w < 16
+  pub first : 5 ≤ kindOf w
+  pub taken : kindOf w < 5 + kindsOf (payloadOf w % 4) (payloadOf w / 4)
+
+of-word : (t s kind w : ℕ) → t < 4 → s < 4 → 5 ≤ kind → kind < 5 + kindsOf t s → kind * 268435456 + (t + 4 * s) ≡ w → Shape w
+of-word t s kind w target source first taken e =
+    let p : payloadOf w ≡ t + 4 * s = omega (arith, e) in
+    let k : kindOf w ≡ kind = omega (arith, e) in
+    let t-is : payloadOf w % 4 ≡ t = omega (arith, p) in
+    let s-is : payloadOf w / 4 ≡ s = omega (arith, p) in
+    record { pair = omega (arith, p); first = omega (arith, k); taken = rw (k, t-is, s-is) taken }
+
+of-step : (x : Step) (w : ℕ) → Sound x → stepWord x ≡ w → Shape w
+unfolding stepWord
+of-step (Mul t s) w a e = of-word t s 5 w (a .target-is-one) (a .source-is-one) (omega arith) (omega (arith, kinds-apart t s (a .differ))) e
+of-step (Div t s) w a e = of-word t s 6 w (a .target-is-one) (a .source-is-one) (omega arith) (omega (arith, kinds-apart t s (a .differ))) e
+of-step (Swp t s) w a e = of-word t s 7 w (a .0 .target-is-one) (a .0 .source-is-one) (omega arith) (omega (arith, kinds-below t s (a .1))) e
+
+pub step-shape : (w : ℕ) → sortOf (decoded w) ≡ 5 → Shape w
+unfolding encoded
+step-shape w e = of-step (stepOf (decoded w)) w (step-sound (decoded w) (decoded-lawful w)) (word-again w e (λ z. omega arith))
+
+-- ---- what a word of that shape means, by its kind
+
+pub kind-7 : (kind : ℕ) → 5 ≤ kind → (kind ≡ 5 → ⊥) → (kind ≡ 6 → ⊥) → 7 ≤ kind
+kind-7 kind first not-5 not-6 =
+    ⊎-elim (λ e. absurd (not-5 (sym e))) (λ h. ⊎-elim (λ e. absurd (not-6 (sym e))) (λ k. k) (eq-or-lt-of-le h)) (eq-or-lt-of-le first)
+
+module _ (w : ℕ) (shape : Shape w) where
+  differ : payloadOf w % 4 ≡ payloadOf w / 4 → ⊥
+  differ e = omega (arith, kinds-none (payloadOf w % 4) (payloadOf w / 4) e, shape .taken, shape .first)
+
+  order : 7 ≤ kindOf w → payloadOf w % 4 < payloadOf w / 4
+  order last =
+      let t = payloadOf w % 4 in
+      let s = payloadOf w / 4 in
+      by-test (ltb t s) (ltb-true t s) (λ e. absurd (omega (arith, kinds-not-below t s (ltb-false t s e), shape .taken)))
+
+  pub means-5 : kindOf w ≡ 5 → decoded w ≡ Action (Mul (payloadOf w % 4) (payloadOf w / 4))
+  unfolding decoded
+  means-5 k = rw k (action-good Mul (payloadOf w) (shape .pair) differ)
+
+  pub means-6 : kindOf w ≡ 6 → decoded w ≡ Action (Div (payloadOf w % 4) (payloadOf w / 4))
+  unfolding decoded
+  means-6 k = rw k (action-good Div (payloadOf w) (shape .pair) differ)
+
+  pub means-7 : 7 ≤ kindOf w → decoded w ≡ Action (Swp (payloadOf w % 4) (payloadOf w / 4))
+  unfolding decoded
+  means-7 last =
+      let k : kindOf w ≡ 7 = omega (arith, kinds-most (payloadOf w % 4) (payloadOf w / 4), shape .taken) in
+      rw k (swap-good (payloadOf w) (shape .pair) (order last))
+
+  pub shape-sort : sortOf (decoded w) ≡ 5
+  shape-sort =
+      ⊎-elim (λ e. ap sortOf (means-5 (sym e)))
+      (λ h. ⊎-elim (λ e. ap sortOf (means-6 (sym e))) (λ last. ap sortOf (means-7 last)) (eq-or-lt-of-le h))
+      (eq-or-lt-of-le (shape .first))
+
+-- ---- a word of a step's kind that isn't one
+
+-- a guarded step that isn't one
+guarded-bad : (t : Bool) (x : Step) → (sortOf (cond t (Action x) Bad) ≡ 5 → ⊥) → cond t (Action x) Bad ≡ Bad
+guarded-bad true x other = absurd (other refl)
+guarded-bad false x other = refl
+
+module _ (w : ℕ) (other : sortOf (decoded w) ≡ 5 → ⊥) where
+  pub bad-5 : kindOf w ≡ 5 → decoded w ≡ Bad
+  unfolding decoded actionIn
+  bad-5 k = rw k (guarded-bad (ltb (payloadOf w) 16 && not (eqb (payloadOf w % 4) (payloadOf w / 4))) (Mul (payloadOf w % 4) (payloadOf w / 4)) (rw k at other))
+
+  pub bad-6 : kindOf w ≡ 6 → decoded w ≡ Bad
+  unfolding decoded actionIn
+  bad-6 k = rw k (guarded-bad (ltb (payloadOf w) 16 && not (eqb (payloadOf w % 4) (payloadOf w / 4))) (Div (payloadOf w % 4) (payloadOf w / 4)) (rw k at other))
+
+  pub bad-7 : kindOf w ≡ 7 → decoded w ≡ Bad
+  unfolding decoded swapIn
+  bad-7 k = rw k (guarded-bad (ltb (payloadOf w) 16 && ltb (payloadOf w % 4) (payloadOf w / 4)) (Swp (payloadOf w % 4) (payloadOf w / 4)) (rw k at other))
