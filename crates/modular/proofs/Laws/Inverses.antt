@@ -4,7 +4,7 @@ use mathlib.Core.Path.{_≡_, sym, _∙_, ap, ap₂, subst}
 use mathlib.Core.Logic.{⊎-elim}
 use mathlib.Core.Bool.{Bool, true, false, _&&_, _||_}
 use Prim.Native.Nat.{ℕ, _*_, _-_, _%_, _≤_, _<_, _∣_}
-use native.Mathlib.Nat.{dvd-mod-iff, dvd-mul-right-of-dvd, dvd-of-mod-eq-zero, eq-one-of-dvd-one, eq-zero-or-pos, le-of-dvd, mod-eq-of-lt, mod-eq-zero-of-dvd, mod-one, mul-comm, mul-one, one-dvd, one-mul, pos-of-dvd-of-pos}
+use native.Mathlib.Nat.{dvd-mod-iff, dvd-mul-right-of-dvd, dvd-of-mod-eq-zero, eq-one-of-dvd-one, eq-zero-or-pos, le-of-dvd, mod-eq-of-lt, mod-eq-zero-of-dvd, mod-one, mul-comm, mul-one, one-dvd, one-mul, pos-of-dvd-of-pos, zero-mod, zero-mul}
 use native.Mathlib.Omega.{arith}
 use lib.Dec.{leb, ltb, eqb}
 use borrow.Author.Tests.{eqb-true, eqb-false, eq-eqb, ne-eqb, leb-false, lt-leb, ltb-false, le-ltb}
@@ -64,6 +64,14 @@ inverse-none m x shared =
 pub inverse-small : (m x : ℕ) → m < 2 → inverse m x ≡ 0
 unfolding inverse
 inverse-small m x small = omega (arith, greatest-at-most (λ (y : ℕ). eqb (x * y % m) 1) (m - 1))
+
+-- nor is there one of 0
+pub inverse-zero : (m : ℕ) → inverse m 0 ≡ 0
+inverse-zero m =
+    ⊎-elim
+    (λ e. e)
+    (λ some. absurd (omega (arith, inverse-found m 0 some .one, ap (λ (n : ℕ). n % m) (zero-mul (inverse m 0)), zero-mod m)))
+    (eq-zero-or-pos (inverse m 0))
 
 pub inverse-mod : (m x : ℕ) → inverse m (x % m) ≡ inverse m x
 unfolding inverse
