@@ -1,6 +1,7 @@
 -- Laws of steps, of going from one position to another, and of whole exponents.
 pub mod Steps
 pub mod Runs
+pub mod Carried
 pub mod Lists
 pub mod Integers
 pub mod Exponents

@@ -4,7 +4,9 @@ mod whole;
 ghost use mathlib.Core.Path.{_≡_};
 ghost use mathlib.Core.List.{[], _∷_};
 ghost use lib.ListN.{set};
+ghost use Rattle.modular.specs.Residues.{times};
 ghost use Rattle.machine.specs.Machine.{valuesOf, reg, apply, opposite};
+ghost use Rattle.machine.specs.Carried.{firstFour, inverses, applyWith};
 ghost use Rattle.machine.specs.Exponents.{exponentsOf, shiftOutcome, tracedOf};
 use modular::inverse_or_zero;
 use modular::product;
@@ -37,24 +39,69 @@ pub enum Trace {
     Refused(Refusal),
 }
 
+// What the four registers hold, by their numbers.
+pub fn values_of(registers: Registers) -> [u32; 4]
+    ensures { λ r. ⌜ r ≡ valuesOf registers ⌝ }
+{
+    [registers.c, registers.d, registers.e, registers.f]
+}
+
+// The registers that hold the first four of some values; 0 stands for one that is missing.
+pub fn registers_of(values: &[u32]) -> Registers
+    ensures { λ r. ⌜ valuesOf r ≡ firstFour (now (values .entry)) ⌝ }
+{
+    Registers {
+        c: register(values, 0),
+        d: register(values, 1),
+        e: register(values, 2),
+        f: register(values, 3),
+    }
+}
+
+// The inverses of the registers; 0 where there is none.
+pub fn inverses(registers: Registers, p: u32) -> [u32; 4]
+    ensures { λ r. ⌜ r ≡ inverses p (valuesOf registers) ⌝ }
+{
+    [
+        inverse_or_zero(registers.c, p),
+        inverse_or_zero(registers.d, p),
+        inverse_or_zero(registers.e, p),
+        inverse_or_zero(registers.f, p),
+    ]
+}
+
 // A step done. It is defined for every p and every pair of numbers, as `apply` is; a tape holds only registers 0 to 3.
 pub fn apply(registers: Registers, p: u32, step: Step) -> Registers
     ensures { λ r. ⌜ valuesOf r ≡ apply p step (valuesOf registers) ⌝ }
 {
+    let mut values = values_of(registers);
+    let mut beside = inverses(registers, p);
+    apply_with(&mut values, &mut beside, p, step);
+    registers_of(&values)
+}
+
+// A step done on values whose inverses stand beside them, so that a division is a product, and on the inverses, so that they remain
+// the inverses. The values lie in a row because a register's number is then its place.
+pub fn apply_with(values: &mut [u32], inverses: &mut [u32], p: u32, step: Step)
+    ensures { λ _. ⌜ now (values .exit) ≡ applyWith p step (now (values .entry)) (now (inverses .entry)) ⌝ }
+    ensures { λ _. ⌜ now (inverses .exit) ≡ applyWith p step (now (inverses .entry)) (now (values .entry)) ⌝ }
+{
     match step {
         Step::Mul(t, s) => {
-            let x = product(register(registers, t), register(registers, s), p);
-            with_register(registers, t, x)
+            let x = register(values, s);
+            let y = register(inverses, s);
+            multiply(values, t, x, p);
+            multiply(inverses, t, y, p)
         }
         Step::Div(t, s) => {
-            let inverse = inverse_or_zero(register(registers, s), p);
-            let x = product(register(registers, t), inverse, p);
-            with_register(registers, t, x)
+            let x = register(values, s);
+            let y = register(inverses, s);
+            multiply(values, t, y, p);
+            multiply(inverses, t, x, p)
         }
         Step::Swp(t, s) => {
-            let x = register(registers, t);
-            let y = register(registers, s);
-            with_register(with_register(registers, t, y), s, x)
+            exchange(values, t, s);
+            exchange(inverses, t, s)
         }
     }
 }
@@ -94,49 +141,41 @@ pub fn shift(exponents: Exponents, step: Step) -> Trace
     }
 }
 
-// The register of a number; past the four there is none, and 0 stands for it.
-fn register(registers: Registers, i: u32) -> u32
-    ensures { λ x. ⌜ x ≡ reg (valuesOf registers) i ⌝ }
+// The register of a number; past the last there is none, and 0 stands for it.
+fn register(values: &[u32], i: u32) -> u32
+    ensures { λ x. ⌜ x ≡ reg (now (values .entry)) i ⌝ }
 {
-    match i {
-        0 => registers.c,
-        1 => registers.d,
-        2 => registers.e,
-        3 => registers.f,
-        _ => 0,
+    let at = i as usize;
+    if at < values.len() {
+        return values[at];
+    }
+    0
+}
+
+// One register changed; past the last there is none to change.
+fn set_register(values: &mut [u32], i: u32, x: u32)
+    ensures { λ _. ⌜ now (values .exit) ≡ set (now (values .entry)) i x ⌝ }
+{
+    let at = i as usize;
+    if at < values.len() {
+        values[at] = x;
     }
 }
 
-// The registers with one of them changed.
-fn with_register(registers: Registers, i: u32, x: u32) -> Registers
-    ensures { λ r. ⌜ valuesOf r ≡ set (valuesOf registers) i x ⌝ }
+// One register multiplied.
+fn multiply(values: &mut [u32], t: u32, y: u32, p: u32)
+    ensures { λ _. ⌜ now (values .exit) ≡ set (now (values .entry)) t (times p (reg (now (values .entry)) t) y) ⌝ }
 {
-    let g = registers;
-    match i {
-        0 => Registers {
-            c: x,
-            d: g.d,
-            e: g.e,
-            f: g.f,
-        },
-        1 => Registers {
-            c: g.c,
-            d: x,
-            e: g.e,
-            f: g.f,
-        },
-        2 => Registers {
-            c: g.c,
-            d: g.d,
-            e: x,
-            f: g.f,
-        },
-        3 => Registers {
-            c: g.c,
-            d: g.d,
-            e: g.e,
-            f: x,
-        },
-        _ => g,
-    }
+    let x = product(register(values, t), y, p);
+    set_register(values, t, x)
+}
+
+// Two registers exchanged.
+fn exchange(values: &mut [u32], t: u32, s: u32)
+    ensures { λ _. ⌜ now (values .exit) ≡ set (set (now (values .entry)) t (reg (now (values .entry)) s)) s (reg (now (values .entry)) t) ⌝ }
+{
+    let x = register(values, t);
+    let y = register(values, s);
+    set_register(values, t, y);
+    set_register(values, s, x)
 }
