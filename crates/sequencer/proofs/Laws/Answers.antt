@@ -19,11 +19,12 @@ use Rattle.tape.specs.Steps.{AllSound}
 use Rattle.tape.proofs.Laws.Rows.{all-steps-sound, slice-from}
 use Rattle.tape.proofs.Laws.Reading.{length-most}
 use Rattle.tape.proofs.Laws.Layout.{laid-out-long}
-use Rattle.machine.specs.Machine.{run, start}
+use Rattle.machine.specs.Machine.{run, Good, start}
+use Rattle.machine.proofs.Laws.Steps.{good-four}
 use Rattle.program.specs.Services.{checkRules, checkOutcome}
 use Rattle.program.proofs.Laws.Checking.{accepted}
 use Rattle.program.proofs.Laws.Accepting.{accepted-prime}
-use Rattle.sequencer.specs.Services.{badRegister, loadOutcome, runRules, runOutcome, cutRules, cutOutcome, cutStart, cutCount}
+use Rattle.sequencer.specs.Services.{badRegister, badRegisters, loadOutcome, runRules, runOutcome, cutRules, cutOutcome, cutStart, cutCount}
 use Rattle.sequencer.specs.Lists.{Request, answerTo}
 use Rattle.sequencer.specs.Demand.{AsSaid, EachAsSaid}
 use Rattle.sequencer.proofs.Laws.Cases.{good-cut}
@@ -34,6 +35,15 @@ unfolding badRegister
 good-register p x good =
     let n = neither (eqb x 0) (leb p x) good in
     record { low = omega (arith, eqb-false x 0 (n .0)); high = leb-false p x (n .1) }
+
+pub good-registers : (p c d e f : ℕ) → badRegisters p (c ∷ d ∷ e ∷ f ∷ []) ≡ false → Good p (c ∷ d ∷ e ∷ f ∷ [])
+unfolding badRegisters
+good-registers p c d e f good =
+    let first = neither (badRegister p c) _ good in
+    let second = neither (badRegister p d) _ (first .1) in
+    let third = neither (badRegister p e) _ (second .1) in
+    let fourth = neither (badRegister p f) _ (third .1) in
+    good-four p c d e f (good-register p c (first .0)) (good-register p d (second .0)) (good-register p e (third .0)) (good-register p f (fourth .0))
 
 -- the steps of a tape are sound, and an accepted tape's p is prime
 pub steps-sound : (tape : List ℕ) → AllSound (stepsOf tape)

@@ -12,15 +12,16 @@ use Rattle.refusal.specs.Refusals.{numberOf}
 use Rattle.refusal.specs.Outcomes.{Outcome, Rule, refused, answered, outcome, numberIn, _given-if_, gives, passes, answers}
 use Rattle.refusal.proofs.Laws.Rules.{refused-before, passed-before}
 use Rattle.refusal.proofs.Laws.Tests.{neither}
+use Rattle.modular.specs.Primes.{Prime}
 use Rattle.tape.specs.declared.Header.{Header}
 use Rattle.tape.specs.Layout.{headerOf, stepIndex, stepWords, part, stepsOf}
 use Rattle.tape.proofs.Laws.Rows.{part-inside}
 use Rattle.tape.proofs.Laws.Layout.{laid-out-long}
 use Rattle.machine.specs.Machine.{run, start}
 use Rattle.machine.specs.Exponents.{startExponents, exponentsAt, staysInRange, shiftOutcome}
-use Rattle.named.proofs.Laws.Parameters.{good-modulus}
 use Rattle.program.specs.Services.{checkRules, acceptOutcome}
 use Rattle.program.proofs.Laws.Checking.{accepted, header-is, steps-are}
+use Rattle.program.proofs.Laws.Accepting.{accepted-prime}
 use Rattle.sequencer.specs.Services.{badRegister, badRegisters, allowed, badBase, badCut, loadOutcome, runOutcome, runRules, traceOutcome, cutRules, cutOutcome, cutPart}
 
 -- ---- the tests
@@ -106,8 +107,8 @@ module _ (tape : List ℕ) (n : ℕ) (e : acceptOutcome tape ≡ refused n) wher
 -- ---- accepted
 
 module _ (tape : List ℕ) (h : Header) (e : acceptOutcome tape ≡ answered h) where
-  pub modulus-some : 3 ≤ h .modulus
-  modulus-some = rw (header-is tape h e) (good-modulus _ (accepted (headerOf tape) tape e .modulus) .low)
+  pub modulus-prime : Prime (h .modulus)
+  modulus-prime = rw (header-is tape h e) (accepted-prime tape (accepted (headerOf tape) tape e))
 
   module _ (a : ℕ) where
     load-rules : loadOutcome tape a

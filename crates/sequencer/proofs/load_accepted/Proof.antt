@@ -2,7 +2,7 @@
 use mathlib.Core.Path.{sym, _∙_}
 use native.Mathlib.Omega.{arith}
 use borrow.Author.Needs.{needs}
-use Rattle.sequencer.proofs.Laws.Cases.{modulus-some, load-register, load-base, load-start}
+use Rattle.sequencer.proofs.Laws.Cases.{modulus-prime, load-register, load-base, load-start}
 use Rattle.sequencer.proofs.load_accepted.Statement.{statement}
 use Rattle.sequencer.proofs.load_accepted.Tie as tie
 
@@ -13,7 +13,7 @@ returns : tie.Need-returns
 returns c = sym (load-register _ _ (c .before .before .before .pre) _ (sym (c .before .is-bad-register .ensures) ∙ c .if1 .taken))
 
 is-bad-base-requires : tie.Need-is-bad-base-requires
-is-bad-base-requires c κs = let some = modulus-some _ _ (c .before .before .before .pre) in omega arith
+is-bad-base-requires c κs = omega (arith, modulus-prime _ _ (c .before .before .before .pre) .least)
 
 returns-2 : tie.Need-returns-2
 returns-2 c =

@@ -3,7 +3,8 @@ use mathlib.Core.Path.{sym, _∙_}
 use native.Mathlib.Omega.{arith}
 use borrow.Author.Needs.{needs}
 use Rattle.program.proofs.Laws.Checking.{steps-are}
-use Rattle.sequencer.proofs.Laws.Cases.{run-register, run-from, run-goal, run-there}
+use Rattle.sequencer.proofs.Laws.Cases.{modulus-prime, run-register, run-from, run-goal, run-there}
+use Rattle.sequencer.proofs.Laws.Answers.{good-registers}
 use Rattle.sequencer.proofs.run_accepted.Statement.{statement}
 use Rattle.sequencer.proofs.run_accepted.Tie as tie
 
@@ -25,8 +26,10 @@ returns-3 c =
 
 travel-requires : tie.Need-travel-requires
 travel-requires c κs =
-    let steps = steps-are _ _ (c .before .before .before .before .before .before .before .pre) in
-    (omega arith, omega arith)
+    let tested = c .before .before .before .before in
+    let accept = tested .before .before .before .pre in
+    let steps = steps-are _ _ accept in
+    (omega arith, omega arith, modulus-prime _ _ accept, good-registers _ _ _ _ _ (sym (tested .before .is-some-bad .ensures) ∙ tested .if1 .left))
 
 returns-4 : tie.Need-returns-4
 returns-4 c =

@@ -1,34 +1,32 @@
--- `travel::forward` meets its contract: what the steps from the start do is what those that are left do to the registers so far.
-use mathlib.Core.Path.{_≡_, refl, sym, ap, _∙_}
+-- `travel::forward` meets its contract: what the steps from the start do is what those that are left do to the registers so far, which
+-- are carried with their inverses.
+use mathlib.Core.Path.{_≡_, refl, sym, _∙_}
 use Prim.Native.Nat.{_-_, _≤_}
 use native.Mathlib.Omega.{arith}
 use borrow.Author.Needs.{needs}
 use lib.Seq.{slice}
-use Rattle.tape.specs.Layout.{stepOf, stepsOf}
-use Rattle.machine.specs.Machine.{valuesOf, doAll}
+use Rattle.tape.specs.Layout.{stepsOf}
+use Rattle.machine.specs.Machine.{doAll}
+use Rattle.machine.specs.Carried.{Carried}
 use Rattle.machine.proofs.Laws.Runs.{do-none}
-use Rattle.sequencer.proofs.Laws.Travel.{forward-next}
+use Rattle.sequencer.proofs.Laws.Travel.{forward-next, beside-four}
 use Rattle.sequencer.proofs.travel.forward.Statement.{statement}
 use Rattle.sequencer.proofs.travel.forward.Tie as tie
 
 abbrev Inv-loop : tie.InvT-loop
-Inv-loop tape p from to after₀ i₀ after i =
-    (i ≤ to) × (doAll p (slice i to (stepsOf tape)) (valuesOf after) ≡ doAll p (slice from to (stepsOf tape)) (valuesOf after₀))
+Inv-loop tape p values₀ inverses₀ from to i₀ values inverses i =
+    (i ≤ to)
+    × (doAll p (slice i to (stepsOf tape)) values ≡ doAll p (slice from to (stepsOf tape)) values₀)
+    × Carried p values inverses
 
 abbrev μ-loop : tie.MeasureT-loop
-μ-loop tape p from to after₀ i₀ after i = to - i
+μ-loop tape p values₀ inverses₀ from to i₀ values inverses i = to - i
 
 loop-holds : tie.Need-loop-holds Inv-loop μ-loop
-loop-holds c = (omega arith, refl)
+loop-holds c = (omega arith, refl, c .before .before .before .pre .3)
 
-step-at-requires : tie.Need-step-at-requires Inv-loop μ-loop
-step-at-requires c κs = search needs
-
-step-of-requires : tie.Need-step-of-requires Inv-loop μ-loop
-step-of-requires c κs = search needs
-
-apply-requires : tie.Need-apply-requires Inv-loop μ-loop
-apply-requires c κs = search needs
+carry-requires : tie.Need-carry-requires Inv-loop μ-loop
+carry-requires c κs = let at = c .before .before .before in (at .before .before .before .before .pre .2, at .loop .inv .2)
 
 add-i : tie.Need-add-i Inv-loop μ-loop
 add-i c = search needs
@@ -38,15 +36,29 @@ loop-less c = search needs
 
 loop-again : tie.Need-loop-again Inv-loop μ-loop
 loop-again c =
-    let at = c .before .before .before .before in
-    let start = at .before .before in
-    let read = c .before .step-of .ensures ∙ ap stepOf (c .before .before .step-at .ensures) in
-    (omega arith, forward-next (start .args .tape .now) _ _ (at .loop .i) (start .args .to) _ read _ (omega arith) (start .pre .1) (c .apply .ensures) ∙ at .loop .inv .1)
+    let done = c .before .before .before .before in
+    let at = done .before .before .before .before in
+    let start = at .before .before .before .before in (
+      omega arith,
+      forward-next (start .args .tape .now) _ _ (at .loop .i) (start .args .to) _ (omega arith) (start .pre .1) (done .carry .ensures .0) ∙ at .loop .inv .1,
+      done .carry .ensures .1,
+    )
+
+same-length : tie.Need-same-length Inv-loop μ-loop
+same-length c =
+    let at = c .before in
+    at .loop .inv .2 .good .four ∙ sym (at .before .before .before .before .pre .3 .good .four)
+
+same-length-2 : tie.Need-same-length-2 Inv-loop μ-loop
+same-length-2 c =
+    let at = c .before in
+    beside-four _ _ _ (at .loop .inv .2) ∙ sym (beside-four _ _ _ (at .before .before .before .before .pre .3))
 
 returns : tie.Need-returns Inv-loop μ-loop
 returns c =
-    let there : c .before .loop .i ≡ c .before .before .before .args .to = omega arith in
-    sym (do-none _ _ _ _ _ there) ∙ c .before .loop .inv .1
+    let at = c .before in
+    let there : at .loop .i ≡ at .before .before .before .before .args .to = omega arith in
+    sym (do-none _ _ _ _ _ there) ∙ at .loop .inv .1
 
 pub forward-spec : {M : Type 1} → statement M
 forward-spec =
@@ -55,10 +67,10 @@ forward-spec =
     Inv-loop
     μ-loop
     loop-holds
-    step-at-requires
-    step-of-requires
-    apply-requires
+    carry-requires
     add-i
     loop-less
     loop-again
+    same-length
+    same-length-2
     returns)
