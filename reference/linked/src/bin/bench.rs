@@ -321,7 +321,7 @@ impl Service {
             | Service::Trace
             | Service::Cut
             | Service::Listing => "primes, forms, inverse",
-            Service::RunForward | Service::RunBackward => "primes, forms, inverse, division",
+            Service::RunForward | Service::RunBackward => "primes, forms, inverse, product",
             Service::Inverse => "inverse",
             Service::Places => "forms",
             Service::Hofstadter => "G",
