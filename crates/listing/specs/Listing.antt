@@ -1,7 +1,7 @@
 -- A tape's listing: the tape that bytes give, its refusals, its lines, and what the service answers.
-use mathlib.Core.Bool.{Bool, not, _||_}
+use mathlib.Core.Bool.{Bool, not, _||_, cond}
 use mathlib.Core.List.{List, [], _∷_, _++_}
-use Prim.Native.Nat.{ℕ, _+_, _*_, _%_}
+use Prim.Native.Nat.{ℕ, _+_, _*_, _/_, _%_}
 use lib.Dec.{ltb, eqb}
 use lib.ListN.{length, getD}
 use Rattle.refusal.specs.declared.Refusal.the-variants.{Length}
@@ -36,9 +36,18 @@ tapeOf (a ∷ b ∷ []) = []
 tapeOf (a ∷ b ∷ c ∷ []) = []
 tapeOf (a ∷ b ∷ c ∷ d ∷ bytes) = wordOf a b c d ∷ tapeOf bytes
 
+-- and back: the bytes of words
+unfoldable pub bytesOf : List ℕ → List ℕ
+bytesOf [] = []
+bytesOf (w ∷ words) = w % 256 ∷ w / 256 % 256 ∷ w / 65536 % 256 ∷ w / 16777216 % 256 ∷ bytesOf words
+
 -- above 2048 bytes, or not a multiple of 4
 unfoldable pub noTape : List ℕ → Bool
 noTape bytes = ltb mostBytes (length bytes) || not (eqb (length bytes % wordBytes) 0)
+
+-- the tape that bytes give; those that are no tape give the empty one, which check refuses with 6 too (`listing-words` of Laws/Cases)
+unfoldable pub tapeIn : List ℕ → List ℕ
+tapeIn bytes = cond (noTape bytes) [] (tapeOf bytes)
 
 -- which is treated as refusal 6; then check's refusals
 unfoldable pub listingRules : List ℕ → List Rule
@@ -58,9 +67,12 @@ listingNumber bytes = numberIn (listingOutcome bytes)
 abbrev pub refusedLine : ℕ → List ℕ
 refusedLine n = line (ascii "refused" ∷ decimal n ∷ [])
 
--- free, basic, dual or hybrid, by the variant's number
+-- the variants' names, by their numbers
+abbrev pub variantNames : List (List ℕ)
+variantNames = ascii "free" ∷ ascii "basic" ∷ ascii "dual" ∷ ascii "hybrid" ∷ []
+
 abbrev pub variantName : ℕ → List ℕ
-variantName variant = getD (ascii "free" ∷ ascii "basic" ∷ ascii "dual" ∷ ascii "hybrid" ∷ []) variant []
+variantName variant = getD variantNames variant []
 
 -- the variant's name, p, r, k and the step count, the numbers behind their labels
 abbrev pub firstLine : Header → List ℕ

@@ -9,7 +9,7 @@ ghost use Rattle.refusal.specs.Outcomes.{answered, numberIn};
 ghost use Rattle.tape.specs.Layout.{stepsOf};
 ghost use Rattle.program.specs.Services.{acceptOutcome};
 ghost use Rattle.text.specs.Rows.{Put};
-ghost use Rattle.listing.specs.Listing.{listingNumber, listingOf, listingAnswer, listingRow, refusedLine, linesFor};
+ghost use Rattle.listing.specs.Listing.{tapeIn, listingNumber, listingOf, listingAnswer, listingRow, refusedLine, linesFor};
 use lines::first_line;
 use lines::refused_line;
 use lines::step_lines;
@@ -32,7 +32,7 @@ pub const MOST_WRITTEN: usize = 6137;
 pub const MOST_BYTES: usize = 2048;
 
 // The most words of a tape.
-const MOST_WORDS: usize = 512;
+pub const MOST_WORDS: usize = 512;
 
 // The bytes of a word.
 const WORD_BYTES: usize = 4;
@@ -55,19 +55,27 @@ pub fn listing(bytes: &[u8], lines: &mut [u8]) -> Listed
     made
 }
 
+// The words of a tape that is given as bytes, from the row's start: how many they are. Bytes that are no tape give none, and a tape
+// of no words gets refusal 6 from every service.
+pub fn tape_words(bytes: &[u8], row: &mut [u32; MOST_WORDS]) -> usize
+    ensures { λ count. ⌜ Put (now (row .entry)) 0 (tapeIn (now (bytes .entry))) count (now (row .exit)) ⌝ }
+{
+    if MOST_BYTES < bytes.len() {
+        return 0;
+    }
+    if bytes.len() % WORD_BYTES != 0 {
+        return 0;
+    }
+    words(bytes, row)
+}
+
 // The listing of bytes, from the row's start.
 fn list_bytes(bytes: &[u8], row: &mut [u8]) -> Listed
     ensures { λ r. ⌜ Put (now (row .entry)) 0 (listingOf (now (bytes .entry))) (r .written) (now (row .exit)) ⌝ }
     ensures { λ r. ⌜ r .number ≡ listingNumber (now (bytes .entry)) ⌝ }
 {
-    if MOST_BYTES < bytes.len() {
-        return list_refusal(Refusal::Length, row);
-    }
-    if bytes.len() % WORD_BYTES != 0 {
-        return list_refusal(Refusal::Length, row);
-    }
     let mut tape = [0u32; MOST_WORDS];
-    let count = words(bytes, &mut tape);
+    let count = tape_words(bytes, &mut tape);
     list_tape(&tape[..count], row)
 }
 

@@ -1,33 +1,60 @@
 -- A listing by cases: what is no tape gets 6, else check decides; and the service by its room.
 use mathlib.Core.Path.{_≡_, sym, ap, ap₂}
-use mathlib.Core.List.{List, _++_}
+use mathlib.Core.List.{List, [], _++_}
 use Prim.Native.Nat.{ℕ, _%_, _≤_, _<_}
 use native.Mathlib.Decide.{decLt}
 use native.Mathlib.Omega.{arith}
+use lib.Dec.{ltb}
 use lib.ListN.{length, drop}
-use borrow.Author.Tests.{lt-ltb, le-ltb, eq-eqb, ne-eqb}
-use Rattle.refusal.specs.Outcomes.{Outcome, refused, answered, gives, passes, row-kept, row-written}
+use borrow.Author.Tests.{ltb-false, lt-ltb, le-ltb, eq-eqb, ne-eqb}
+use Rattle.refusal.specs.Outcomes.{Outcome, answered, outcome, row-kept, row-written}
+use Rattle.refusal.proofs.Laws.Tests.{by-test, neither}
 use Rattle.tape.specs.declared.Header.{Header}
-use Rattle.tape.specs.Layout.{headerOf, stepsOf}
-use Rattle.program.specs.Services.{acceptOutcome}
+use Rattle.tape.specs.Layout.{headerOf, stepsOf, isLength}
+use Rattle.program.specs.Services.{acceptOutcome, checkRules}
 use Rattle.program.proofs.Laws.Building.{short, enough}
 use Rattle.program.proofs.Laws.Checking.{accepted, header-is}
 use Rattle.listing.specs.declared.Listed.{Listed}
-use Rattle.listing.specs.Listing.{tapeOf, noTape, listingRules, listingOutcome, listingNumber, linesFor, listingOf, listedAs, listingAnswer, listingRow}
+use Rattle.listing.proofs.Laws.Tapes.{tape-length}
+use Rattle.listing.specs.Listing.{tapeOf, noTape, tapeIn, listingRules, listingOutcome, listingNumber, linesFor, listingOf, listedAs, listingAnswer, listingRow}
 
 module _ (bytes : List ℕ) where
-  pub too-long : 2048 < length bytes → listingOutcome bytes ≡ refused 6
-  unfolding listingRules noTape
-  too-long h = gives _ _ _ (rw (lt-ltb 2048 (length bytes) h))
+  pub words-long : 2048 < length bytes → tapeIn bytes ≡ []
+  unfolding tapeIn noTape
+  words-long h = rw (lt-ltb 2048 (length bytes) h)
 
   module _ (most : length bytes ≤ 2048) where
-    pub no-words : ¬ (length bytes % 4 ≡ 0) → listingOutcome bytes ≡ refused 6
-    unfolding listingRules noTape
-    no-words h = gives _ _ _ (rw (le-ltb 2048 (length bytes) most, ne-eqb (length bytes % 4) 0 h))
+    pub words-odd : ¬ (length bytes % 4 ≡ 0) → tapeIn bytes ≡ []
+    unfolding tapeIn noTape
+    words-odd h = rw (le-ltb 2048 (length bytes) most, ne-eqb (length bytes % 4) 0 h)
 
-    pub some-words : length bytes % 4 ≡ 0 → listingOutcome bytes ≡ acceptOutcome (tapeOf bytes)
-    unfolding listingRules noTape
-    some-words h = passes _ _ _ (rw (le-ltb 2048 (length bytes) most, eq-eqb (length bytes % 4) 0 h))
+    pub words-whole : length bytes % 4 ≡ 0 → tapeIn bytes ≡ tapeOf bytes
+    unfolding tapeIn noTape
+    words-whole h = rw (le-ltb 2048 (length bytes) most, eq-eqb (length bytes % 4) 0 h)
+
+  -- at most 512 of them
+  pub words-most : length (tapeIn bytes) ≤ 512
+  unfolding tapeIn noTape
+  words-most =
+      by-test (noTape bytes)
+      (λ no. rw no (omega arith))
+      (λ some. rw some (omega (arith, tape-length bytes, ltb-false 2048 (length bytes) (neither (ltb 2048 (length bytes)) _ some .0))))
+
+  -- a tape of no words is refused with 6, as bytes are that are no tape
+  pub listing-words : listingOutcome bytes ≡ acceptOutcome (tapeIn bytes)
+  unfolding listingRules tapeIn outcome checkRules isLength
+  listing-words =
+      by-test (noTape bytes)
+      (λ no. rw no)
+      (λ some. rw some)
+
+  -- so the listing is that of the tape
+  pub listing-lines : listingOf bytes ≡ linesFor (acceptOutcome (tapeIn bytes)) (stepsOf (tapeIn bytes))
+  unfolding listingOf listingRules tapeIn outcome checkRules isLength
+  listing-lines =
+      by-test (noTape bytes)
+      (λ no. rw no)
+      (λ some. rw some)
 
   pub listing-by : {o : Outcome Header} → listingOutcome bytes ≡ o → listingOf bytes ≡ linesFor o (stepsOf (tapeOf bytes))
   unfolding listingOf

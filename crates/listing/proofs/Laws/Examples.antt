@@ -1,7 +1,7 @@
 -- Document 01's case A: the bytes of its words, and the listing that it prints.
 use mathlib.Core.Path.{_≡_, refl}
 use mathlib.Core.List.{List, [], _∷_}
-use Prim.Native.Nat.{ℕ, _/_, _%_}
+use Prim.Native.Nat.{ℕ}
 use Rattle.refusal.specs.Outcomes.{outcome}
 use Rattle.modular.specs.Search.{greatest}
 use Rattle.modular.specs.Primes.{isPrime}
@@ -16,12 +16,7 @@ use Rattle.named.specs.Named.{basicSteps, namedSteps}
 use Rattle.named.specs.Parameters.{badModulus, badOrder}
 use Rattle.program.specs.Services.{sameWords, checkRules}
 use Rattle.text.specs.Text.{ascii, decimalWithin, decimal, line}
-use Rattle.listing.specs.Listing.{tapeOf, noTape, listingRules, stepLines, listingOf}
-
--- a word's four bytes, least significant first
-abbrev bytesOf : List ℕ → List ℕ
-bytesOf [] = []
-bytesOf (w ∷ words) = w % 256 ∷ w / 256 % 256 ∷ w / 65536 % 256 ∷ w / 16777216 ∷ bytesOf words
+use Rattle.listing.specs.Listing.{tapeOf, bytesOf, noTape, listingRules, stepLines, listingOf}
 
 abbrev pub case-a : List ℕ
 case-a =
@@ -31,7 +26,7 @@ case-a =
 
 pub case-a-listing : listingOf case-a
     ≡ ascii "basic p=3 r=2 k=1 steps=11\n1 mul 0 1\n2 swp 0 1\n3 mul 2 1\n4 swp 0 1\n5 div 0 1\n6 swp 1 2\n7 mul 0 1\n8 swp 0 1\n9 div 2 1\n10 swp 0 1\n11 div 0 1\n"
-unfolding tapeOf noTape listingRules stepLines listingOf decimalWithin decimal line wordsOf encoded stepWord namedSteps basicSteps basic ascend back opposite pad zeckendorf greedy fib inverse greatest decoded headingIn actionIn swapIn outcome checkRules isLength isHeader isFreeOrNamed allSteps isEnd laidOut badModulus isPrime badOrder badExponent gcd sameWords
+unfolding tapeOf bytesOf noTape listingRules stepLines listingOf decimalWithin decimal line wordsOf encoded stepWord namedSteps basicSteps basic ascend back opposite pad zeckendorf greedy fib inverse greatest decoded headingIn actionIn swapIn outcome checkRules isLength isHeader isFreeOrNamed allSteps isEnd laidOut badModulus isPrime badOrder badExponent gcd sameWords
 case-a-listing = refl
 
 -- five bytes are no tape
