@@ -1,0 +1,2 @@
+-- The laws of the tool's lines and calls.
+pub mod Laws
