@@ -325,7 +325,7 @@ impl Service {
             Service::Inverse => "inverse",
             Service::Places => "forms",
             Service::Hofstadter => "G",
-            Service::Number | Service::Fibonacci => "",
+            Service::Number | Service::Fibonacci => "weights",
         }
     }
 
