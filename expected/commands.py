@@ -13,7 +13,7 @@ with redirect_stdout(io.StringIO()):          # these print their own output
 
 REASONS = [None, "p isn't a prime from 3 to 268435455", "r < 2, or (except in the inverse service) r doesn't divide p-1",
     "k isn't from 1 to r-1, or shares a factor above 1 with r", "build: not 1 to 3; check: above 3",
-    "the lent buffer is shorter than the result", "a tape outside 5 to 512 words",
+    "the row is shorter than the result", "a tape outside 5 to 512 words",
     "a word, its place or the end's count breaks the layout",
     "a named program's steps aren't those built for its p, r, k, variant", "a register or base is 0 or at least p",
     "a position above the step count; in a cut also first above last", "named program, a^r isn't 1",

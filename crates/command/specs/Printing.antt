@@ -37,7 +37,7 @@ exponentsLine values = line (map whole values)
 
 -- ---- refusals
 
--- what each refusal is given for, by its number: document 01's table
+-- what each refusal is given for, by its number: document 01's table; a row is its lent buffer
 unfoldable pub reasons : List (List ℕ)
 reasons =
     []
@@ -45,7 +45,7 @@ reasons =
     ∷ ascii "r < 2, or (except in the inverse service) r doesn't divide p-1"
     ∷ ascii "k isn't from 1 to r-1, or shares a factor above 1 with r"
     ∷ ascii "build: not 1 to 3; check: above 3"
-    ∷ ascii "the lent buffer is shorter than the result"
+    ∷ ascii "the row is shorter than the result"
     ∷ ascii "a tape outside 5 to 512 words"
     ∷ ascii "a word, its place or the end's count breaks the layout"
     ∷ ascii "a named program's steps aren't those built for its p, r, k, variant"

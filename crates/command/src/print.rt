@@ -25,8 +25,8 @@ use text::put_whole;
 use text::word;
 
 // What each refusal is given for, by its number, a zero byte after each.
-const REASONS: [u8; 681] =
-    *b"\0p isn't a prime from 3 to 268435455\0r < 2, or (except in the inverse service) r doesn't divide p-1\0k isn't from 1 to r-1, or shares a factor above 1 with r\0build: not 1 to 3; check: above 3\0the lent buffer is shorter than the result\0a tape outside 5 to 512 words\0a word, its place or the end's count breaks the layout\0a named program's steps aren't those built for its p, r, k, variant\0a register or base is 0 or at least p\0a position above the step count; in a cut also first above last\0named program, a^r isn't 1\0an exponent of the trace leaves -2^62 to 2^62, or a sum of places exceeds 64 bits\0Fibonacci index above 93, or a list that isn't a Zeckendorf form of places 1 to 92\0";
+const REASONS: [u8; 673] =
+    *b"\0p isn't a prime from 3 to 268435455\0r < 2, or (except in the inverse service) r doesn't divide p-1\0k isn't from 1 to r-1, or shares a factor above 1 with r\0build: not 1 to 3; check: above 3\0the row is shorter than the result\0a tape outside 5 to 512 words\0a word, its place or the end's count breaks the layout\0a named program's steps aren't those built for its p, r, k, variant\0a register or base is 0 or at least p\0a position above the step count; in a cut also first above last\0named program, a^r isn't 1\0an exponent of the trace leaves -2^62 to 2^62, or a sum of places exceeds 64 bits\0Fibonacci index above 93, or a list that isn't a Zeckendorf form of places 1 to 92\0";
 
 const REFUSED: [u8; 8] = *b"refused ";
 
