@@ -1,2 +1,0 @@
--- The laws of the tool's lines and calls.
-pub mod Laws
