@@ -2,3 +2,4 @@
 pub mod Refusals
 pub mod Outcomes
 pub mod Rows
+pub mod Reasons
