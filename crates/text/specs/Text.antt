@@ -1,6 +1,6 @@
 -- The bytes of a text, of a number, of a whole number and of a line.
 use mathlib.Core.Bool.{cond}
-use mathlib.Core.List.{List, [], _∷_, _++_}
+use mathlib.Core.List.{List, [], _∷_, _++_, map}
 use Prim.Native.Nat.{ℕ, zero, suc, _+_, _/_, _%_}
 use Prim.Native.Char.{code}
 use Prim.Native.String.{String, len, charAt}
@@ -39,3 +39,10 @@ unfoldable pub line : List (List ℕ) → List ℕ
 line [] = newline ∷ []
 line (w ∷ []) = w ++ newline ∷ []
 line (w ∷ v ∷ words) = w ++ blank ∷ [] ++ line (v ∷ words)
+
+-- numbers on a line
+abbrev pub numbersLine : List ℕ → List ℕ
+numbersLine values = line (map decimal values)
+
+abbrev pub numberLine : ℕ → List ℕ
+numberLine n = numbersLine (n ∷ [])

@@ -1,4 +1,6 @@
 // Text as bytes: put into a lent row, and read.
+mod numbers;
+mod quoting;
 mod words;
 
 ghost use mathlib.Core.Path.{_≡_};
@@ -6,8 +8,11 @@ ghost use mathlib.Core.List.{[], _∷_, _++_};
 ghost use lib.IntN.{natAbs};
 ghost use lib.ListN.{length, getD};
 ghost use Rattle.text.specs.Text.{decimal, whole};
-ghost use Rattle.text.specs.Reading.{numberFrom, numberIn, wordsOf};
+ghost use Rattle.text.specs.Reading.{numberIn, wordsOf};
 ghost use Rattle.text.specs.Rows.{Put};
+use numbers::in_base;
+use numbers::is_hexadecimal;
+pub use quoting::put_quoted;
 use words::next_word;
 use words::word_begin;
 use words::word_end;
@@ -25,10 +30,6 @@ pub const BLANK: u8 = b' ';
 pub const NEWLINE: u8 = 10;
 
 const MINUS: u8 = b'-';
-
-const ZERO: u8 = b'0';
-
-const NINE: u8 = b'9';
 
 // Puts a text from `at` on, as much of it as fits, and answers the index past it.
 pub fn put(row: &mut [u8], at: usize, text: &[u8]) -> usize
@@ -104,44 +105,14 @@ fn magnitude(n: i64) -> u64
     n as u64
 }
 
-// Reads a whole number in decimal: one digit or more, nothing else, and none above `most`.
+// Reads a whole number: hexadecimal digits behind `0x`, or decimal ones; one or more, nothing else, and none above `most`.
 pub fn number(text: &[u8], most: u64) -> Parsed
     ensures { λ r. ⌜ r ≡ numberIn most (now (text .entry)) ⌝ }
 {
-    if text.len() == 0 {
-        return Parsed::NoNumber;
+    if is_hexadecimal(text) {
+        return in_base(&text[2..], most, 16);
     }
-    let mut n: u64 = 0;
-    let mut i: usize = 0;
-    while i < text.len() {
-        let read = with_digit(n, text[i], most);
-        match read {
-            Parsed::Number(next) => n = next,
-            Parsed::NoNumber => return Parsed::NoNumber,
-        }
-        i += 1;
-    }
-    Parsed::Number(n)
-}
-
-// The number with one digit more behind it. It is tested before it is made, since it may not fit a u64.
-fn with_digit(n: u64, byte: u8, most: u64) -> Parsed
-    ensures { λ r. ⌜ r ≡ numberFrom most n (byte ∷ []) ⌝ }
-{
-    if byte < ZERO {
-        return Parsed::NoNumber;
-    }
-    if NINE < byte {
-        return Parsed::NoNumber;
-    }
-    let digit = (byte - ZERO) as u64;
-    if most < digit {
-        return Parsed::NoNumber;
-    }
-    if (most - digit) / 10 < n {
-        return Parsed::NoNumber;
-    }
-    Parsed::Number(10 * n + digit)
+    in_base(text, most, 10)
 }
 
 // How many words arguments have.

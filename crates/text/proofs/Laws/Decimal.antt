@@ -104,6 +104,12 @@ pub decimal-length : (k n : ℕ) → n < 10 ^ suc k → length (decimal n) ≤ s
 unfolding decimal
 decimal-length k n h = within-length (suc n) k n h
 
+pub decimal-32 : (n : ℕ) → n < 4294967296 → length (decimal n) ≤ 10
+decimal-32 n h = decimal-length 9 n (omega arith)
+
+pub decimal-64 : (n : ℕ) → n < 18446744073709551616 → length (decimal n) ≤ 20
+decimal-64 n h = decimal-length 19 n (omega arith)
+
 pub decimal-some : (n : ℕ) → 0 < length (decimal n)
 unfolding decimal decimalWithin
 decimal-some n = omega (arith, length-append (cond (ltb n 10) [] (decimalWithin n (n / 10))) (last n))

@@ -1,86 +1,61 @@
--- `number` meets its contract: with i digits read, the text comes to what its rest does behind their number.
+-- `number` meets its contract: a text that begins with `0x` is read from its third byte on.
 use mathlib.Core.Path.{_≡_, sym, ap, _∙_}
-use Prim.Native.Nat.{_+_, _-_, _≤_}
+use mathlib.Core.Bool.{true}
+use Prim.Native.Nat.{_-_, _≤_}
 use native.Mathlib.Omega.{arith}
+use lib.ListN.{length, drop, length-drop}
+use lib.Seq.{take-all}
+use Rattle.text.specs.Reading.{inBase, isHexadecimal}
+use Rattle.text.proofs.Laws.Digits.{hexadecimal-long, number-hexadecimal, number-decimal}
 use borrow.Author.Needs.{needs}
-use lib.ListN.{length, drop, drop-of-length-le}
-use Rattle.text.specs.declared.Parsed.{Parsed}
-use Rattle.text.specs.Reading.{numberFrom, numberIn}
-use Rattle.text.proofs.Laws.Digits.{behind, number-end, number-drop, number-is, number-some, number-none}
 use Rattle.text.proofs.number.Statement.{statement}
 use Rattle.text.proofs.number.Tie as tie
 
-abbrev Inv-loop : tie.InvT-loop
-Inv-loop text most n₀ i₀ n i = (i ≤ length text) × (n ≤ most) × (numberIn most text ≡ numberFrom most n (drop i text))
+is-hexadecimal-requires : tie.Need-is-hexadecimal-requires
+is-hexadecimal-requires c κs = search needs
 
-abbrev μ-loop : tie.MeasureT-loop
-μ-loop text most n₀ i₀ n i = length text - i
+hexadecimal : (c : tie.Then1) → isHexadecimal (c .before .before .before .args .text .now) ≡ true
+hexadecimal c = sym (c .before .is-hexadecimal .ensures) ∙ c .if1 .taken
 
-returns : tie.Need-returns Inv-loop μ-loop
-returns c = sym (number-none _ _ (c .if1 .taken))
+long : (c : tie.Then1) → 2 ≤ length (c .before .before .before .args .text .now)
+long c = hexadecimal-long _ (hexadecimal c)
 
-loop-holds : tie.Need-loop-holds Inv-loop μ-loop
-loop-holds c = (omega arith, omega arith, number-some _ _ (omega arith))
+sub-in-base : tie.Need-sub-in-base
+sub-in-base c = long c
 
-shared-slice-read-with-digit : tie.Need-shared-slice-read-with-digit Inv-loop μ-loop
-shared-slice-read-with-digit c = search needs
+part-in-base-start : tie.Need-part-in-base-start
+part-in-base-start c = omega (arith, long c)
 
-with-digit-requires : tie.Need-with-digit-requires Inv-loop μ-loop
-with-digit-requires c κs = search needs
+part-in-base-end : tie.Need-part-in-base-end
+part-in-base-end c = search needs
 
-enum-known-read : tie.Need-enum-known-read Inv-loop μ-loop
-enum-known-read c = search needs
+in-base-requires : tie.Need-in-base-requires
+in-base-requires c κs = search needs
 
-enum-told : tie.Need-enum-told Inv-loop μ-loop
-enum-told c = search needs
+returns : tie.Need-returns
+returns c =
+    let text = c .before .before .before .before .before .args .text .now in
+    c .in-base .ensures
+    ∙ ap (inBase 16 _) (take-all (length text - 2) (drop 2 text) (omega (arith, length-drop 2 text)))
+    ∙ sym (number-hexadecimal _ text (hexadecimal (c .before .before)))
 
--- the digit at i: what reading it gave decides what the text comes to
-step : (c : tie.After-with-digit Inv-loop μ-loop)
-    → let l = c .before .before .before in
-    let a = l .before .before .before .args in
-    numberIn (a .most) (a .text .now) ≡ behind (a .most) (c .with-digit .result) (drop (l .loop .i + 1) (a .text .now))
-step c =
-    let l = c .before .before .before in
-    let a = l .before .before .before .args in
-    l .loop .inv .2
-    ∙ number-drop (a .most) (l .loop .n) (a .text .now) (l .loop .i) (omega arith)
-    ∙ ap (λ (p : Parsed). behind (a .most) p (drop (l .loop .i + 1) (a .text .now))) (sym (c .with-digit .ensures))
+in-base-requires-2 : tie.Need-in-base-requires-2
+in-base-requires-2 c κs = search needs
 
-returns-2 : tie.Need-returns-2 Inv-loop μ-loop
-returns-2 c = sym (rw (c .enum-told .given .1) at (step (c .before .before)))
-
-add-i : tie.Need-add-i Inv-loop μ-loop
-add-i c = search needs
-
-loop-less : tie.Need-loop-less Inv-loop μ-loop
-loop-less c = search needs
-
-loop-again : tie.Need-loop-again Inv-loop μ-loop
-loop-again c =
-    let digit = c .before .before .before in
-    let read = c .before .read .given .1 in
-    (omega arith, number-is _ _ _ _ (sym (digit .with-digit .ensures) ∙ read) .1, rw read at (step digit))
-
-returns-3 : tie.Need-returns-3 Inv-loop μ-loop
-returns-3 c =
-    let l = c .before in
-    let text = l .before .before .before .args .text .now in
-    sym (rw (drop-of-length-le text {i = l .loop .i} (omega arith)) at (l .loop .inv .2) ∙ number-end _ _ (l .loop .inv .1))
+returns-2 : tie.Need-returns-2
+returns-2 c =
+    let other = c .before in
+    c .in-base2 .ensures ∙ sym (number-decimal _ _ (sym (other .before .is-hexadecimal .ensures) ∙ other .if1 .left))
 
 pub number-spec : {M : Type 1} → statement M
 number-spec =
     tie.close
     (tie.spec
-    Inv-loop
-    μ-loop
+    is-hexadecimal-requires
+    sub-in-base
+    part-in-base-start
+    part-in-base-end
+    in-base-requires
     returns
-    loop-holds
-    shared-slice-read-with-digit
-    with-digit-requires
-    enum-known-read
-    enum-told
-    returns-2
-    add-i
-    loop-less
-    loop-again
-    returns-3)
+    in-base-requires-2
+    returns-2)
