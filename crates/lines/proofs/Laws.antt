@@ -1,0 +1,2 @@
+-- A line of numbers.
+pub mod Numbers
