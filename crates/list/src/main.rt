@@ -1,7 +1,7 @@
 // The listing program: reads a tape as bytes from standard input and prints its listing.
+use encoding::MOST_BYTES;
 use libc::STDIN_FILENO;
 use libc::STDOUT_FILENO;
-use listing::MOST_BYTES;
 use listing::MOST_WRITTEN;
 use listing::listing;
 

@@ -1,5 +1,4 @@
--- The words that bytes give, lines, and a listing by cases and by its length.
-pub mod Tapes
+-- Lines, and a listing by cases and by its length.
 pub mod Lines
 pub mod Cases
 pub mod Lengths

@@ -1,55 +1,22 @@
--- A tape's listing: the tape that bytes give, its refusals, its lines, and what the service answers.
-use mathlib.Core.Bool.{Bool, not, _||_, cond}
+-- A tape's listing: its refusals, its lines, and what the service answers.
 use mathlib.Core.List.{List, [], _∷_, _++_}
-use Prim.Native.Nat.{ℕ, _+_, _*_, _/_, _%_}
-use lib.Dec.{ltb, eqb}
-use lib.ListN.{length, getD}
+use Prim.Native.Nat.{ℕ, _+_, _*_}
+use lib.ListN.{length}
 use Rattle.refusal.specs.declared.Refusal.the-variants.{Length}
 use Rattle.refusal.specs.Outcomes.{Outcome, Rule, refused, answered, outcome, _given-if_, numberIn, rowAfter}
 use Rattle.tape.specs.declared.Step.{Step}
 use Rattle.tape.specs.declared.Step.the-variants.{Mul, Div, Swp}
 use Rattle.tape.specs.declared.Header.{Header}
 use Rattle.tape.specs.Layout.{headerOf, stepsOf}
+use Rattle.encoding.specs.Encoding.{tapeOf, noTape}
+use Rattle.named.specs.Named.{variantName}
 use Rattle.program.specs.Services.{roomOutcome, checkRules}
 use Rattle.listing.specs.declared.Listed.{Listed}
 use Rattle.text.specs.Text.{ascii, decimal, line}
 
--- ---- a tape as bytes
+-- ---- its refusals
 
--- the most bytes of a tape
-abbrev pub mostBytes : ℕ
-mostBytes = 2048
-
--- the bytes of a word
-abbrev pub wordBytes : ℕ
-wordBytes = 4
-
--- four bytes, least significant first
-abbrev pub wordOf : ℕ → ℕ → ℕ → ℕ → ℕ
-wordOf a b c d = a + 256 * (b + 256 * (c + 256 * d))
-
--- words of four bytes each; up to three bytes left over are no word
-unfoldable pub tapeOf : List ℕ → List ℕ
-tapeOf [] = []
-tapeOf (a ∷ []) = []
-tapeOf (a ∷ b ∷ []) = []
-tapeOf (a ∷ b ∷ c ∷ []) = []
-tapeOf (a ∷ b ∷ c ∷ d ∷ bytes) = wordOf a b c d ∷ tapeOf bytes
-
--- and back: the bytes of words
-unfoldable pub bytesOf : List ℕ → List ℕ
-bytesOf [] = []
-bytesOf (w ∷ words) = w % 256 ∷ w / 256 % 256 ∷ w / 65536 % 256 ∷ w / 16777216 % 256 ∷ bytesOf words
-
--- above 2048 bytes, or not a multiple of 4
-unfoldable pub noTape : List ℕ → Bool
-noTape bytes = ltb mostBytes (length bytes) || not (eqb (length bytes % wordBytes) 0)
-
--- the tape that bytes give; those that are no tape give the empty one, which check refuses with 6 too (`listing-words` of Laws/Cases)
-unfoldable pub tapeIn : List ℕ → List ℕ
-tapeIn bytes = cond (noTape bytes) [] (tapeOf bytes)
-
--- which is treated as refusal 6; then check's refusals
+-- bytes that are no tape are treated as refusal 6; then check's refusals
 unfoldable pub listingRules : List ℕ → List Rule
 listingRules bytes = (Length given-if noTape bytes) ∷ checkRules (tapeOf bytes)
 
@@ -66,13 +33,6 @@ listingNumber bytes = numberIn (listingOutcome bytes)
 -- a refusal prints its number
 abbrev pub refusedLine : ℕ → List ℕ
 refusedLine n = line (ascii "refused" ∷ decimal n ∷ [])
-
--- the variants' names, by their numbers
-abbrev pub variantNames : List (List ℕ)
-variantNames = ascii "free" ∷ ascii "basic" ∷ ascii "dual" ∷ ascii "hybrid" ∷ []
-
-abbrev pub variantName : ℕ → List ℕ
-variantName variant = getD variantNames variant []
 
 -- the variant's name, p, r, k and the step count, the numbers behind their labels
 abbrev pub firstLine : Header → List ℕ

@@ -1,6 +1,5 @@
 // Document 01, "Listing": what a tape holds, line by line.
 mod lines;
-mod words;
 
 ghost use mathlib.Core.Path.{_≡_};
 ghost use lib.ListN.{length};
@@ -9,7 +8,9 @@ ghost use Rattle.refusal.specs.Outcomes.{answered, numberIn};
 ghost use Rattle.tape.specs.Layout.{stepsOf};
 ghost use Rattle.program.specs.Services.{acceptOutcome};
 ghost use Rattle.text.specs.Rows.{Put};
-ghost use Rattle.listing.specs.Listing.{tapeIn, listingNumber, listingOf, listingAnswer, listingRow, refusedLine, linesFor};
+ghost use Rattle.listing.specs.Listing.{listingNumber, listingOf, listingAnswer, listingRow, refusedLine, linesFor};
+use encoding::MOST_WORDS;
+use encoding::tape_words;
 use lines::first_line;
 use lines::refused_line;
 use lines::step_lines;
@@ -17,7 +18,6 @@ use refusal::Refusal;
 use tape::Header;
 use tape::Reading;
 use text::put;
-use words::words;
 
 // How many bytes were written, and the refusal's number, which is 0 where the tape is accepted.
 pub struct Listed {
@@ -25,17 +25,8 @@ pub struct Listed {
     pub number: u32,
 }
 
-// The most bytes of a listing (`listing-most`).
+// The most bytes of a listing (`tape-listing-most`).
 pub const MOST_WRITTEN: usize = 6137;
-
-// The most bytes of a tape.
-pub const MOST_BYTES: usize = 2048;
-
-// The most words of a tape.
-pub const MOST_WORDS: usize = 512;
-
-// The bytes of a word.
-const WORD_BYTES: usize = 4;
 
 // Writes the listing of a tape that is given as bytes; a refusal is one line. 5 where the row is shorter than the listing.
 pub fn listing(bytes: &[u8], lines: &mut [u8]) -> Listed
@@ -55,18 +46,16 @@ pub fn listing(bytes: &[u8], lines: &mut [u8]) -> Listed
     made
 }
 
-// The words of a tape that is given as bytes, from the row's start: how many they are. Bytes that are no tape give none, and a tape
-// of no words gets refusal 6 from every service.
-pub fn tape_words(bytes: &[u8], row: &mut [u32; MOST_WORDS]) -> usize
-    ensures { λ count. ⌜ Put (now (row .entry)) 0 (tapeIn (now (bytes .entry))) count (now (row .exit)) ⌝ }
+// Puts the listing of a tape, from the row's start: check's refusal on one line, else the tape's lines. What doesn't fit the row is
+// dropped; one of `MOST_WRITTEN` bytes holds every listing (`tape-listing-most`).
+pub fn list_tape(tape: &[u32], row: &mut [u8]) -> Listed
+    ensures { λ r. ⌜ Put (now (row .entry)) 0 (linesFor (acceptOutcome (now (tape .entry))) (stepsOf (now (tape .entry)))) (r .written) (now (row .exit)) ⌝ }
+    ensures { λ r. ⌜ r .number ≡ numberIn (acceptOutcome (now (tape .entry))) ⌝ }
 {
-    if MOST_BYTES < bytes.len() {
-        return 0;
+    match program::accept(tape) {
+        Reading::Refused(e) => list_refusal(e, row),
+        Reading::Laid(header) => list_accepted(tape, header, row),
     }
-    if bytes.len() % WORD_BYTES != 0 {
-        return 0;
-    }
-    words(bytes, row)
 }
 
 // The listing of bytes, from the row's start.
@@ -77,17 +66,6 @@ fn list_bytes(bytes: &[u8], row: &mut [u8]) -> Listed
     let mut tape = [0u32; MOST_WORDS];
     let count = tape_words(bytes, &mut tape);
     list_tape(&tape[..count], row)
-}
-
-// The listing of a tape: check's refusals, else its lines.
-fn list_tape(tape: &[u32], row: &mut [u8]) -> Listed
-    ensures { λ r. ⌜ Put (now (row .entry)) 0 (linesFor (acceptOutcome (now (tape .entry))) (stepsOf (now (tape .entry)))) (r .written) (now (row .exit)) ⌝ }
-    ensures { λ r. ⌜ r .number ≡ numberIn (acceptOutcome (now (tape .entry))) ⌝ }
-{
-    match program::accept(tape) {
-        Reading::Refused(e) => list_refusal(e, row),
-        Reading::Laid(header) => list_accepted(tape, header, row),
-    }
 }
 
 // The listing of an accepted tape.

@@ -1,11 +1,12 @@
 // The lines of a listing. Each function writes from `at` on and answers the index past what it wrote.
 ghost use mathlib.Core.Path.{_≡_};
 ghost use mathlib.Core.List.{[], _∷_, _++_};
-ghost use Prim.Native.Nat.{_≤_};
 ghost use Rattle.tape.specs.Layout.{stepCount, stepsOf};
 ghost use Rattle.text.specs.Text.{decimal, blank};
 ghost use Rattle.text.specs.Rows.{Put};
-ghost use Rattle.listing.specs.Listing.{refusedLine, variantName, firstLine, namedLine, stepLine, stepLines};
+ghost use Rattle.named.specs.Named.{variantName};
+ghost use Rattle.listing.specs.Listing.{refusedLine, firstLine, namedLine, stepLine, stepLines};
+use named::VARIANT_NAMES;
 use tape::Header;
 use tape::Step;
 use tape::step_at;
@@ -15,16 +16,9 @@ use text::NEWLINE;
 use text::put;
 use text::put_number_then;
 use text::put_then;
+use text::word;
 
 const REFUSED: [u8; 7] = *b"refused";
-
-const FREE: [u8; 4] = *b"free";
-
-const BASIC: [u8; 5] = *b"basic";
-
-const DUAL: [u8; 4] = *b"dual";
-
-const HYBRID: [u8; 6] = *b"hybrid";
 
 const P: [u8; 2] = *b"p=";
 
@@ -50,7 +44,6 @@ pub(crate) fn refused_line(row: &mut [u8], at: usize, n: u32) -> usize
 
 // The first line: the variant's name, p, r, k and the step count.
 pub(crate) fn first_line(row: &mut [u8], at: usize, header: Header) -> usize
-    requires { ⌜ header .variant ≤ 3 ⌝ }
     ensures { λ next. ⌜ Put (now (row .entry)) at (firstLine header) next (now (row .exit)) ⌝ }
 {
     let b = variant_name(row, at, header.variant);
@@ -97,15 +90,9 @@ fn named_line(row: &mut [u8], at: usize, n: u32, name: &[u8], target: u32, sourc
 
 // The name of a variant, and a blank.
 fn variant_name(row: &mut [u8], at: usize, variant: u32) -> usize
-    requires { ⌜ variant ≤ 3 ⌝ }
     ensures { λ next. ⌜ Put (now (row .entry)) at (variantName variant ++ blank ∷ []) next (now (row .exit)) ⌝ }
 {
-    match variant {
-        0 => put_then(row, at, &FREE, BLANK),
-        1 => put_then(row, at, &BASIC, BLANK),
-        2 => put_then(row, at, &DUAL, BLANK),
-        _ => put_then(row, at, &HYBRID, BLANK),
-    }
+    put_then(row, at, word(&VARIANT_NAMES, variant as usize), BLANK)
 }
 
 // A number behind its label, and a byte.

@@ -1,8 +1,10 @@
 -- The named programs: the variant picks the forms.
 use mathlib.Core.Bool.{Bool, cond}
-use mathlib.Core.List.{List, []}
+use mathlib.Core.List.{List, [], _∷_}
 use Prim.Native.Nat.{ℕ, suc, _*_, _%_}
 use lib.Dec.{eqb}
+use lib.ListN.{getD}
+use Rattle.text.specs.Text.{ascii}
 use Rattle.modular.specs.Inverses.{inverse}
 use Rattle.fibonacci.specs.Fibonacci.{fib}
 use Rattle.fibonacci.specs.Forms.{pad, zeckendorf}
@@ -31,6 +33,13 @@ hybridSteps r k = hybrid (zeckendorf (k * fib (suc (oddHeight r)))) (pad (oddHei
 
 abbrev pub lastVariant : ℕ
 lastVariant = 3
+
+-- the variants' names, by their numbers; 0 is a free program, which nothing generates
+abbrev pub variantNames : List (List ℕ)
+variantNames = ascii "free" ∷ ascii "basic" ∷ ascii "dual" ∷ ascii "hybrid" ∷ []
+
+abbrev pub variantName : ℕ → List ℕ
+variantName variant = getD variantNames variant []
 
 -- the steps of a named program; no other number names one
 unfoldable pub namedSteps : ℕ → ℕ → ℕ → List Step

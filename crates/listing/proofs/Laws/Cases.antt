@@ -1,45 +1,20 @@
 -- A listing by cases: what is no tape gets 6, else check decides; and the service by its room.
 use mathlib.Core.Path.{_≡_, sym, ap, ap₂}
-use mathlib.Core.List.{List, [], _++_}
-use Prim.Native.Nat.{ℕ, _%_, _≤_, _<_}
+use mathlib.Core.List.{List, _++_}
+use Prim.Native.Nat.{ℕ, _≤_, _<_}
 use native.Mathlib.Decide.{decLt}
 use native.Mathlib.Omega.{arith}
-use lib.Dec.{ltb}
 use lib.ListN.{length, drop}
-use borrow.Author.Tests.{ltb-false, lt-ltb, le-ltb, eq-eqb, ne-eqb}
-use Rattle.refusal.specs.Outcomes.{Outcome, answered, outcome, row-kept, row-written}
-use Rattle.refusal.proofs.Laws.Tests.{by-test, neither}
-use Rattle.tape.specs.declared.Header.{Header}
-use Rattle.tape.specs.Layout.{headerOf, stepsOf, isLength}
+use Rattle.refusal.specs.Outcomes.{Outcome, outcome, row-kept, row-written}
+use Rattle.refusal.proofs.Laws.Tests.{by-test}
+use Rattle.tape.specs.Layout.{stepsOf, isLength}
+use Rattle.encoding.specs.Encoding.{noTape, tapeIn}
 use Rattle.program.specs.Services.{acceptOutcome, checkRules}
 use Rattle.program.proofs.Laws.Building.{short, enough}
-use Rattle.program.proofs.Laws.Checking.{accepted, header-is}
 use Rattle.listing.specs.declared.Listed.{Listed}
-use Rattle.listing.proofs.Laws.Tapes.{tape-length}
-use Rattle.listing.specs.Listing.{tapeOf, noTape, tapeIn, listingRules, listingOutcome, listingNumber, linesFor, listingOf, listedAs, listingAnswer, listingRow}
+use Rattle.listing.specs.Listing.{listingRules, listingOutcome, listingNumber, linesFor, listingOf, listedAs, listingAnswer, listingRow}
 
 module _ (bytes : List ℕ) where
-  pub words-long : 2048 < length bytes → tapeIn bytes ≡ []
-  unfolding tapeIn noTape
-  words-long h = rw (lt-ltb 2048 (length bytes) h)
-
-  module _ (most : length bytes ≤ 2048) where
-    pub words-odd : ¬ (length bytes % 4 ≡ 0) → tapeIn bytes ≡ []
-    unfolding tapeIn noTape
-    words-odd h = rw (le-ltb 2048 (length bytes) most, ne-eqb (length bytes % 4) 0 h)
-
-    pub words-whole : length bytes % 4 ≡ 0 → tapeIn bytes ≡ tapeOf bytes
-    unfolding tapeIn noTape
-    words-whole h = rw (le-ltb 2048 (length bytes) most, eq-eqb (length bytes % 4) 0 h)
-
-  -- at most 512 of them
-  pub words-most : length (tapeIn bytes) ≤ 512
-  unfolding tapeIn noTape
-  words-most =
-      by-test (noTape bytes)
-      (λ no. rw no (omega arith))
-      (λ some. rw some (omega (arith, tape-length bytes, ltb-false 2048 (length bytes) (neither (ltb 2048 (length bytes)) _ some .0))))
-
   -- a tape of no words is refused with 6, as bytes are that are no tape
   pub listing-words : listingOutcome bytes ≡ acceptOutcome (tapeIn bytes)
   unfolding listingRules tapeIn outcome checkRules isLength
@@ -55,10 +30,6 @@ module _ (bytes : List ℕ) where
       by-test (noTape bytes)
       (λ no. rw no)
       (λ some. rw some)
-
-  pub listing-by : {o : Outcome Header} → listingOutcome bytes ≡ o → listingOf bytes ≡ linesFor o (stepsOf (tapeOf bytes))
-  unfolding listingOf
-  listing-by e = ap (λ (o : Outcome Header). linesFor o (stepsOf (tapeOf bytes))) e
 
   -- ---- the service
 
@@ -92,9 +63,3 @@ module _ (bytes : List ℕ) where
 
 pub listed-as : (l : Listed) {written number : ℕ} → l .written ≡ written → l .number ≡ number → l ≡ record { written = written; number = number }
 listed-as l e f = ap₂ (λ (w n : ℕ). record { written = w; number = n }) e f
-
--- ---- an accepted tape
-
-module _ (tape : List ℕ) (h : Header) (e : acceptOutcome tape ≡ answered h) where
-  pub accepted-variant : h .variant ≤ 3
-  accepted-variant = rw (header-is tape h e) (accepted (headerOf tape) tape e .variant)

@@ -16,7 +16,8 @@ use Rattle.named.specs.Named.{basicSteps, namedSteps}
 use Rattle.named.specs.Parameters.{badModulus, badOrder}
 use Rattle.program.specs.Services.{sameWords, checkRules}
 use Rattle.text.specs.Text.{ascii, decimalWithin, decimal, line}
-use Rattle.listing.specs.Listing.{tapeOf, bytesOf, noTape, listingRules, stepLines, listingOf}
+use Rattle.encoding.specs.Encoding.{tapeOf, bytesOf, noTape}
+use Rattle.listing.specs.Listing.{listingRules, stepLines, listingOf}
 
 abbrev pub case-a : List ℕ
 case-a =

@@ -7,7 +7,7 @@ use native.Mathlib.Decide.{decLt}
 use native.Mathlib.Omega.{arith}
 use lib.ListN.{length, getD, drop, length-append}
 use Rattle.refusal.specs.Outcomes.{Outcome, refused, answered, after}
-use Rattle.refusal.proofs.Laws.Rules.{passed, refused-range}
+use Rattle.refusal.proofs.Laws.Rules.{refused-range}
 use Rattle.tape.specs.declared.Step.{Step}
 use Rattle.tape.specs.declared.Step.the-variants.{Mul, Div, Swp}
 use Rattle.tape.specs.declared.Header.{Header}
@@ -17,15 +17,17 @@ use Rattle.tape.proofs.Laws.Words.{decoded-lawful, value-small}
 use Rattle.tape.proofs.Laws.Reading.{length-most}
 use Rattle.tape.proofs.Laws.Rows.{all-steps-sound}
 use Rattle.tape.proofs.Laws.Layout.{steps-count}
-use Rattle.program.specs.Services.{roomOutcome, acceptOutcome}
+use Rattle.encoding.specs.Encoding.{tapeOf, tapeIn}
+use Rattle.named.specs.Named.{variantName}
+use Rattle.program.specs.Services.{roomOutcome, checkRules, acceptOutcome}
 use Rattle.program.proofs.Laws.Building.{short, enough}
 use Rattle.program.proofs.Laws.Checking.{accepted, header-is}
 use Rattle.text.specs.Text.{ascii, decimal, line}
 use Rattle.listing.specs.declared.Listed.{Listed}
-use Rattle.listing.specs.Listing.{tapeOf, listingRules, listingOutcome, refusedLine, variantName, firstLine, namedLine, stepLine, stepLines, linesFor, listingNumber, listingOf, listingAnswer, mostWritten}
+use Rattle.listing.specs.Listing.{listingOutcome, refusedLine, firstLine, namedLine, stepLine, stepLines, linesFor, listingNumber, listingOf, listingAnswer, mostWritten}
 use Rattle.text.proofs.Laws.Decimal.{decimal-length}
 use Rattle.text.proofs.Laws.Lines.{line-length}
-use Rattle.listing.proofs.Laws.Cases.{listing-by, Promised, row-enough}
+use Rattle.listing.proofs.Laws.Cases.{listing-lines, Promised, row-enough}
 
 line-some : (w : List ℕ) (words : List (List ℕ)) → 1 ≤ length (line (w ∷ words))
 line-some w words = omega (arith, line-length w words)
@@ -92,13 +94,17 @@ accepted-most tape h e =
       steps-most 1 (stepsOf tape) (omega arith) (all-steps-sound (stepWords tape 0 (stepCount tape))),
     ))
 
-lines-most : (bytes : List ℕ) (o : Outcome Header) → listingOutcome bytes ≡ o → length (listingOf bytes) ≤ mostWritten
-unfolding listingRules
-lines-most bytes (refused n) e = rw (listing-by bytes e) (omega (arith, refused-most n (refused-range (listingRules bytes) (headerOf (tapeOf bytes)) e .1)))
-lines-most bytes (answered h) e = rw (listing-by bytes e) (accepted-most (tapeOf bytes) h (passed _ _ _ _ _ e .1))
+lines-most : (tape : List ℕ) (o : Outcome Header) → acceptOutcome tape ≡ o → length (linesFor o (stepsOf tape)) ≤ mostWritten
+lines-most tape (refused n) e = omega (arith, refused-most n (refused-range (checkRules tape) (headerOf tape) e .1))
+lines-most tape (answered h) e = accepted-most tape h e
 
+-- of a tape's words
+pub tape-listing-most : (tape : List ℕ) → length (linesFor (acceptOutcome tape) (stepsOf tape)) ≤ mostWritten
+tape-listing-most tape = lines-most tape (acceptOutcome tape) refl
+
+-- and of bytes
 pub listing-most : (bytes : List ℕ) → length (listingOf bytes) ≤ mostWritten
-listing-most bytes = lines-most bytes (listingOutcome bytes) refl
+listing-most bytes = rw listing-lines (tape-listing-most (tapeIn bytes))
 
 -- refusal 5 is never given into a row of that length
 pub never-short : (bytes row : List ℕ) → mostWritten ≤ length row

@@ -9,8 +9,8 @@ use Rattle.tape.specs.Words.{decoded}
 use Rattle.tape.specs.Layout.{stepCount, stepAt, stepOf, stepsOf}
 use Rattle.tape.proofs.Laws.Rows.{steps-at}
 use Rattle.tape.proofs.Laws.Layout.{steps-count}
+use Rattle.encoding.proofs.Laws.Tapes.{drop-next}
 use Rattle.listing.specs.Listing.{stepLine, stepLines}
-use Rattle.listing.proofs.Laws.Tapes.{drop-next}
 
 -- the lines from step i + 1 on: that step's, and those from the next on
 pub lines-next : (tape : List ℕ) (i : ℕ) → i < stepCount tape

@@ -3,12 +3,11 @@ use mathlib.Core.Path.{refl}
 use borrow.Author.Needs.{needs}
 use Rattle.program.proofs.Laws.Checking.{steps-are}
 use Rattle.text.proofs.Laws.Puts.{puts-join}
-use Rattle.listing.proofs.Laws.Cases.{accepted-variant}
 use Rattle.listing.proofs.list_accepted.Statement.{statement}
 use Rattle.listing.proofs.list_accepted.Tie as tie
 
 first-line-requires : tie.Need-first-line-requires
-first-line-requires c κs = accepted-variant _ _ (c .before .before .before .pre)
+first-line-requires c κs = search needs
 
 step-lines-requires : tie.Need-step-lines-requires
 step-lines-requires c κs = steps-are _ _ (c .before .before .before .before .before .before .before .pre)

@@ -9,8 +9,9 @@ use lib.Seq.{length-take-le}
 use Rattle.text.proofs.Laws.Puts.{put-taken, put-inside}
 use Rattle.program.specs.Services.{acceptOutcome}
 use Rattle.refusal.specs.Outcomes.{numberIn}
-use Rattle.listing.specs.Listing.{tapeIn}
-use Rattle.listing.proofs.Laws.Cases.{words-most, listing-words, listing-lines}
+use Rattle.encoding.specs.Encoding.{tapeIn}
+use Rattle.encoding.proofs.Laws.Cases.{words-most}
+use Rattle.listing.proofs.Laws.Cases.{listing-words, listing-lines}
 use Rattle.listing.proofs.list_bytes.Statement.{statement}
 use Rattle.listing.proofs.list_bytes.Tie as tie
 

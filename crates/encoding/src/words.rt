@@ -3,7 +3,7 @@ ghost use mathlib.Core.Path.{_≡_};
 ghost use Prim.Native.Nat.{_≤_, _/_};
 ghost use lib.ListN.{length};
 ghost use Rattle.text.specs.Rows.{Put};
-ghost use Rattle.listing.specs.Listing.{wordOf, tapeOf};
+ghost use Rattle.encoding.specs.Encoding.{wordOf, tapeOf};
 use crate::WORD_BYTES;
 
 // Writes the words from the row's start, and answers how many they are; up to three bytes left over are no word.

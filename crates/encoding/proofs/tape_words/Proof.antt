@@ -1,9 +1,9 @@
 -- `tape_words` meets its contract: what is no tape gives no words, else the words of the bytes.
 use borrow.Author.Needs.{needs}
 use Rattle.text.proofs.Laws.Puts.{put-none}
-use Rattle.listing.proofs.Laws.Cases.{words-long, words-odd, words-whole}
-use Rattle.listing.proofs.tape_words.Statement.{statement}
-use Rattle.listing.proofs.tape_words.Tie as tie
+use Rattle.encoding.proofs.Laws.Cases.{words-long, words-odd, words-whole}
+use Rattle.encoding.proofs.tape_words.Statement.{statement}
+use Rattle.encoding.proofs.tape_words.Tie as tie
 
 returns : tie.Need-returns
 returns c = rw (words-long _ (c .if1 .taken)) (put-none _ 0)

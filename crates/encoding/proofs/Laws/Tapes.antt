@@ -5,7 +5,7 @@ use Prim.Native.Nat.{ℕ, suc, _+_, _/_, _≤_, _<_}
 use native.Mathlib.Omega.{arith}
 use lib.ListN.{length, getD, drop, length-drop}
 use lib.Seq.{drop-cons}
-use Rattle.listing.specs.Listing.{wordOf, tapeOf}
+use Rattle.encoding.specs.Encoding.{wordOf, tapeOf}
 
 -- the elements from an index on: the one there, and those from the next on
 pub drop-next : {A : Type 0} (l : List A) (i next : ℕ) (d : A) → next ≡ i + 1 → i < length l → drop i l ≡ getD l i d ∷ drop next l

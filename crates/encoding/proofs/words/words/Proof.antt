@@ -7,10 +7,10 @@ use borrow.Author.Needs.{needs}
 use lib.ListN.{length, drop, length-set}
 use Rattle.text.specs.Rows.{Put}
 use Rattle.text.proofs.Laws.Puts.{Left, all-left, nothing-left, left-next, put-one, put-length}
-use Rattle.listing.specs.Listing.{tapeOf}
-use Rattle.listing.proofs.Laws.Tapes.{tape-next, tape-end}
-use Rattle.listing.proofs.words.words.Statement.{statement}
-use Rattle.listing.proofs.words.words.Tie as tie
+use Rattle.encoding.specs.Encoding.{tapeOf}
+use Rattle.encoding.proofs.Laws.Tapes.{tape-next, tape-end}
+use Rattle.encoding.proofs.words.words.Statement.{statement}
+use Rattle.encoding.proofs.words.words.Tie as tie
 
 abbrev Inv-loop : tie.InvT-loop
 Inv-loop bytes row₀ count i₀ row i =

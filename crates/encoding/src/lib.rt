@@ -1,0 +1,62 @@
+// A tape as bytes: the one way from bytes to words and back.
+mod words;
+
+ghost use mathlib.Core.Path.{_≡_};
+ghost use mathlib.Core.List.{[], _∷_};
+ghost use Prim.Native.Nat.{_%_};
+ghost use Rattle.text.specs.Rows.{Put};
+ghost use Rattle.encoding.specs.Encoding.{bytesOf, tapeIn};
+use text::put_byte;
+use words::words;
+
+// The most bytes of a tape.
+pub const MOST_BYTES: usize = 2048;
+
+// The most words of a tape.
+pub const MOST_WORDS: usize = 512;
+
+// The bytes of a word.
+pub const WORD_BYTES: usize = 4;
+
+// The words of a tape that is given as bytes, from the row's start: how many they are. Bytes that are no tape give none, and a tape
+// of no words gets refusal 6 from every service.
+pub fn tape_words(bytes: &[u8], row: &mut [u32; MOST_WORDS]) -> usize
+    ensures { λ count. ⌜ Put (now (row .entry)) 0 (tapeIn (now (bytes .entry))) count (now (row .exit)) ⌝ }
+{
+    if MOST_BYTES < bytes.len() {
+        return 0;
+    }
+    if bytes.len() % WORD_BYTES != 0 {
+        return 0;
+    }
+    words(bytes, row)
+}
+
+// The bytes of words, least significant first, from `at` on: the index past them. What doesn't fit the row is dropped.
+pub fn tape_bytes(row: &mut [u8], at: usize, words: &[u32]) -> usize
+    ensures { λ next. ⌜ Put (now (row .entry)) at (bytesOf (now (words .entry))) next (now (row .exit)) ⌝ }
+{
+    let mut next = at;
+    let mut i: usize = 0;
+    while i < words.len() {
+        next = word_bytes(row, next, words[i]);
+        i += 1;
+    }
+    next
+}
+
+// A word's four bytes.
+fn word_bytes(row: &mut [u8], at: usize, word: u32) -> usize
+    ensures { λ next. ⌜ Put (now (row .entry)) at (bytesOf (word ∷ [])) next (now (row .exit)) ⌝ }
+{
+    let a = put_byte(row, at, low(word));
+    let b = put_byte(row, a, low(word / 0x100));
+    let c = put_byte(row, b, low(word / 0x10000));
+    put_byte(row, c, low(word / 0x1000000))
+}
+
+fn low(word: u32) -> u8
+    ensures { λ byte. ⌜ byte ≡ word % 256 ⌝ }
+{
+    (word % 0x100) as u8
+}
