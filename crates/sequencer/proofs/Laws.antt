@@ -1,8 +1,9 @@
--- Load, run and trace by cases, what their answers say, and demand 3.
+-- Load, run and trace by cases, what their answers say, forward, and demand 3.
 pub mod Cases
 pub mod Travel
 pub mod Requests
 pub mod Answers
+pub mod Forward
 pub mod Chains
 pub mod Rewinds
 pub mod Tracing

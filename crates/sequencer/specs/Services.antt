@@ -57,6 +57,15 @@ runRules tape v from goal =
 unfoldable pub runOutcome : List ℕ → List ℕ → ℕ → ℕ → Outcome (List ℕ)
 runOutcome tape v from goal = outcome (runRules tape v from goal) (run (headerOf tape .modulus) (stepsOf tape) from goal v)
 
+-- what comes next where the first is not refused
+abbrev pub andThen : {A B : Type 0} → Outcome A → (A → Outcome B) → Outcome B
+andThen (refused n) next = refused n
+andThen (answered x) next = next x
+
+-- forward: load, then run from 0 to the step count
+unfoldable pub forwardOutcome : List ℕ → ℕ → Outcome (List ℕ)
+forwardOutcome tape a = andThen (loadOutcome tape a) (λ (v : List ℕ). runOutcome tape v 0 (headerOf tape .steps))
+
 -- trace: each register's whole exponent at a position, refused where any position up to that one leaves the range
 unfoldable pub traceOutcome : List ℕ → ℕ → Outcome (List ℤ)
 traceOutcome tape position =

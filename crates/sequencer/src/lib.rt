@@ -8,7 +8,7 @@ ghost use Rattle.refusal.specs.Outcomes.{answered, numberIn};
 ghost use Rattle.machine.specs.Machine.{valuesOf};
 ghost use Rattle.machine.specs.Exponents.{tracedOf};
 ghost use Rattle.program.specs.Services.{acceptOutcome};
-ghost use Rattle.sequencer.specs.Services.{standingOf, loadOutcome, runOutcome, traceOutcome, cutOutcome, cutPart};
+ghost use Rattle.sequencer.specs.Services.{standingOf, loadOutcome, runOutcome, forwardOutcome, traceOutcome, cutOutcome, cutPart};
 ghost use Rattle.sequencer.specs.Lists.{afterAll, requestsOf};
 ghost use Rattle.sequencer.specs.Demand.{ChainEnds, RewindEnds};
 ghost use Rattle.sequencer.specs.Tracing.{NeverOutside, MeansPowers};
@@ -53,6 +53,16 @@ pub fn run(tape: &[u32], registers: Registers, from: u32, to: u32) -> Standing
     match program::accept(tape) {
         Reading::Refused(e) => Standing::Refused(e),
         Reading::Laid(header) => run_accepted(tape, header, registers, from, to),
+    }
+}
+
+// Load, then run from 0 to the step count: load's refusals. Of a named program, register 1 is then the power.
+pub fn forward(tape: &[u32], base: u32) -> Standing
+    ensures { λ answer. ⌜ standingOf answer ≡ forwardOutcome (now (tape .entry)) base ⌝ }
+{
+    match program::accept(tape) {
+        Reading::Refused(e) => Standing::Refused(e),
+        Reading::Laid(header) => forward_accepted(tape, header, base),
     }
 }
 
@@ -135,6 +145,17 @@ fn run_accepted(tape: &[u32], header: Header, registers: Registers, from: u32, t
         return Standing::Refused(Refusal::Position);
     }
     Standing::At(travel(tape, header.modulus, registers, from as usize, to as usize))
+}
+
+// Forward through a program that is accepted: load's refusals, and run has none left.
+fn forward_accepted(tape: &[u32], header: Header, base: u32) -> Standing
+    requires { ⌜ acceptOutcome (now tape) ≡ answered header ⌝ }
+    ensures { λ answer. ⌜ standingOf answer ≡ forwardOutcome (now (tape .entry)) base ⌝ }
+{
+    match load_accepted(tape, header, base) {
+        Standing::Refused(e) => Standing::Refused(e),
+        Standing::At(registers) => run_accepted(tape, header, registers, 0, header.steps),
+    }
 }
 
 // Trace of a program that is accepted: 10, 12.

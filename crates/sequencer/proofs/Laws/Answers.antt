@@ -10,7 +10,7 @@ use lib.ListN.{length, take, drop}
 use lib.Seq.{length-slice}
 use borrow.Author.Tests.{leb-false, eqb-false}
 use Rattle.refusal.specs.Outcomes.{answered, numberIn, after}
-use Rattle.refusal.proofs.Laws.Rules.{passed, answered-before, answer-is, refused-where, zero-answered, other-refused}
+use Rattle.refusal.proofs.Laws.Rules.{passed, still-answered, answered-before, answer-is, refused-where, zero-answered, other-refused}
 use Rattle.modular.specs.Primes.{Prime}
 use Rattle.modular.specs.Residues.{Residue}
 use Rattle.refusal.proofs.Laws.Tests.{neither}
@@ -21,10 +21,10 @@ use Rattle.tape.proofs.Laws.Reading.{length-most}
 use Rattle.tape.proofs.Laws.Layout.{laid-out-long}
 use Rattle.machine.specs.Machine.{run, Good, start}
 use Rattle.machine.proofs.Laws.Steps.{good-four}
-use Rattle.program.specs.Services.{checkRules, checkOutcome}
+use Rattle.program.specs.Services.{checkRules, checkOutcome, acceptOutcome}
 use Rattle.program.proofs.Laws.Checking.{accepted}
 use Rattle.program.proofs.Laws.Accepting.{accepted-prime}
-use Rattle.sequencer.specs.Services.{badRegister, badRegisters, loadOutcome, runRules, runOutcome, cutRules, cutOutcome, cutStart, cutCount}
+use Rattle.sequencer.specs.Services.{badRegister, badRegisters, badBase, loadOutcome, runRules, runOutcome, cutRules, cutOutcome, cutStart, cutCount}
 use Rattle.sequencer.specs.Lists.{Request, answerTo}
 use Rattle.sequencer.specs.Demand.{AsSaid, EachAsSaid}
 use Rattle.sequencer.proofs.Laws.Cases.{good-cut}
@@ -53,14 +53,22 @@ pub prime-of : (tape : List ℕ) → checkOutcome tape ≡ answered 0 → Prime 
 prime-of tape e = accepted-prime tape (accepted 0 tape e)
 
 pub record Loaded (tape : List ℕ) (a : ℕ) (v : List ℕ) : Type 0 where
+  pub accepted : acceptOutcome tape ≡ answered (headerOf tape)
   pub base : Residue (headerOf tape .modulus) a
+  pub power : badBase (headerOf tape) a ≡ false
   pub registers : v ≡ start a
 
 pub load-answered : (tape : List ℕ) (a : ℕ) (v : List ℕ) → loadOutcome tape a ≡ answered v → Loaded tape a v
 unfolding loadOutcome
 load-answered tape a v e =
     let parts = answered-before (checkRules tape) _ (start a) e in
-    record { base = good-register _ a (passed _ _ _ _ _ (parts .1) .0); registers = answer-is _ (start a) e }
+    let register = passed _ _ _ _ _ (parts .1) in
+    record {
+      accepted = still-answered (start a) (headerOf tape) (checkRules tape) (parts .0);
+      base = good-register _ a (register .0);
+      power = passed _ _ _ _ _ (register .1) .0;
+      registers = answer-is _ (start a) e;
+    }
 
 pub run-answered : (tape v : List ℕ) (from goal : ℕ) (w : List ℕ) → runOutcome tape v from goal ≡ answered w
     → w ≡ run (headerOf tape .modulus) (stepsOf tape) from goal v

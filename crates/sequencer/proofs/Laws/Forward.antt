@@ -1,0 +1,68 @@
+-- Load and run forward: what load refuses is refused, and where load answers, run passes each of its rules. A named program's steps, done
+-- from first to last, raise the base to the power k.
+use mathlib.Core.Path.{_≡_, refl, sym, ap, _∙_}
+use mathlib.Core.Bool.{true, false}
+use mathlib.Core.List.{List}
+use Prim.Native.Nat.{ℕ, _%_, _^_}
+use native.Mathlib.Omega.{arith}
+use borrow.Author.Tests.{lt-leb, ne-eqb, eqb-true, eqb-false, not-true, not-false}
+use Rattle.refusal.specs.Outcomes.{refused, answered}
+use Rattle.modular.specs.Primes.{Prime}
+use Rattle.modular.specs.Residues.{Residue}
+use Rattle.modular.proofs.Laws.Group.{residue-one}
+use Rattle.tape.specs.Layout.{headerOf, stepsOf}
+use Rattle.tape.proofs.Laws.Layout.{steps-count}
+use Rattle.machine.specs.Machine.{run, start}
+use Rattle.machine.proofs.Laws.Steps.{good-start}
+use Rattle.machine.proofs.Laws.Runs.{run-forward}
+use Rattle.program.specs.Services.{isNamed}
+use Rattle.program.proofs.Laws.Checking.{accepted-named}
+use Rattle.program.proofs.Laws.Accepting.{accepted-raises}
+use Rattle.sequencer.specs.Services.{badRegister, badRegisters, loadOutcome, runOutcome, forwardOutcome}
+use Rattle.sequencer.proofs.Laws.Cases.{modulus-prime, base-named, registers-others, registers-last, run-there}
+use Rattle.sequencer.proofs.Laws.Answers.{steps-sound, load-answered}
+
+-- ---- the two outcomes of load
+
+module _ (tape : List ℕ) (a : ℕ) where
+  pub forward-refused : {n : ℕ} → loadOutcome tape a ≡ refused n → forwardOutcome tape a ≡ refused n
+  unfolding forwardOutcome
+  forward-refused e = rw e
+
+  pub forward-loaded : {v : List ℕ} → loadOutcome tape a ≡ answered v → forwardOutcome tape a ≡ runOutcome tape v 0 (headerOf tape .steps)
+  unfolding forwardOutcome
+  forward-loaded e = rw e
+
+-- ---- run is not refused then
+
+residue-good : (p x : ℕ) → Residue p x → badRegister p x ≡ false
+unfolding badRegister
+residue-good p x r = rw (ne-eqb x 0 (λ e. omega arith), lt-leb p x (r .high))
+
+start-good : (p : ℕ) → Prime p → (a : ℕ) → Residue p a → badRegisters p (start a) ≡ false
+start-good p pr a r =
+    let one = residue-good p 1 (residue-one p pr) in
+    registers-others p 1 _ one ∙ registers-others p a _ (residue-good p a r) ∙ registers-others p 1 _ one ∙ registers-last p 1 ∙ one
+
+module _ (tape : List ℕ) (a : ℕ) {v : List ℕ} (e : loadOutcome tape a ≡ answered v) where
+  pub forward-answered : forwardOutcome tape a ≡ answered (run (headerOf tape .modulus) (stepsOf tape) 0 (headerOf tape .steps) (start a))
+  forward-answered =
+      let load = load-answered tape a v e in
+      let pr = modulus-prime tape (headerOf tape) (load .accepted) in
+      forward-loaded tape a e
+      ∙ ap (λ (w : List ℕ). runOutcome tape w 0 (headerOf tape .steps)) (load .registers)
+      ∙ run-there tape (headerOf tape) (load .accepted) (start a) 0 (headerOf tape .steps) (start-good _ pr a (load .base)) (omega arith) (omega arith) _ refl
+
+  -- of a named program, (1, a^k, 1, 1)
+  pub forward-power : isNamed (headerOf tape) ≡ true → forwardOutcome tape a ≡ answered (start (a ^ (headerOf tape .exponent) % headerOf tape .modulus))
+  forward-power is =
+      let h = headerOf tape in
+      let load = load-answered tape a v e in
+      let pr = modulus-prime tape h (load .accepted) in
+      let some = eqb-false (h .variant) 0 (not-true _ is) in
+      let power = eqb-true _ 1 (not-false _ (sym (base-named h a some) ∙ load .power)) in
+      forward-answered
+      ∙ ap answered
+      (ap (λ (n : ℕ). run (h .modulus) (stepsOf tape) 0 n (start a)) (sym (steps-count tape))
+      ∙ run-forward (h .modulus) pr (stepsOf tape) (steps-sound tape) (start a) (good-start (h .modulus) pr a (load .base))
+      ∙ accepted-raises tape (accepted-named h tape (load .accepted) some) a (load .base) power)

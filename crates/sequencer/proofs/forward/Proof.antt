@@ -1,0 +1,37 @@
+-- `forward` meets its contract: what check refuses, load refuses, and an accepted tape is `forward_accepted`'s.
+use mathlib.Core.Path.{sym, ap, _∙_}
+use Rattle.tape.specs.Layout.{readingOf}
+use Rattle.sequencer.proofs.Laws.Cases.{load-unaccepted}
+use Rattle.sequencer.proofs.Laws.Forward.{forward-refused}
+use borrow.Author.Needs.{needs}
+use Rattle.sequencer.proofs.forward.Statement.{statement}
+use Rattle.sequencer.proofs.forward.Tie as tie
+
+accept-requires : tie.Need-accept-requires
+accept-requires c κs = search needs
+
+enum-known-e : tie.Need-enum-known-e
+enum-known-e c = search needs
+
+enum-known-header : tie.Need-enum-known-header
+enum-known-header c = search needs
+
+forward-accepted-requires : tie.Need-forward-accepted-requires
+forward-accepted-requires c κs = sym (c .before .before .before .accept .ensures) ∙ ap readingOf (c .before .header .given .1)
+
+returns : tie.Need-returns
+returns c = sym (forward-refused _ _ (load-unaccepted _ _ (sym (c .before .before .before .accept .ensures) ∙ ap readingOf (c .before .e .given .1)) _))
+
+returns-2 : tie.Need-returns-2
+returns-2 c = search needs
+
+pub forward-spec : {M : Type 1} → statement M
+forward-spec =
+    tie.close
+    (tie.spec
+    accept-requires
+    enum-known-e
+    enum-known-header
+    forward-accepted-requires
+    returns
+    returns-2)
