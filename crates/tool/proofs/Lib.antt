@@ -1,0 +1,2 @@
+-- The laws of the tool's definitions.
+pub mod Laws

@@ -1,0 +1,160 @@
+-- The reply to a command line: a status and a text, which goes to standard output where the call is answered, else to standard error.
+use mathlib.Core.Bool.{Bool, false, not, _&&_, cond}
+use mathlib.Core.List.{List, [], _∷_}
+use Prim.Native.Nat.{ℕ, _*_, _^_, _%_}
+use lib.Dec.{eqb}
+use lib.ListN.{length, getD, drop}
+use Rattle.refusal.specs.Outcomes.{Outcome, refused, answered}
+use Rattle.text.specs.Text.{numberLine, numbersLine}
+use Rattle.modular.specs.Residues.{remainder}
+use Rattle.modular.specs.Primes.{isPrime}
+use Rattle.modular.specs.Inverses.{inverseOutcome}
+use Rattle.fibonacci.specs.Hofstadter.{G}
+use Rattle.fibonacci.specs.Height.{height}
+use Rattle.fibonacci.specs.Services.{fibonacciOutcome, placesOf, numberOutcome}
+use Rattle.tape.specs.Words.{decoded}
+use Rattle.tape.specs.Layout.{stepsOf}
+use Rattle.encoding.specs.Encoding.{bytesOf, tapeIn, wordBytes}
+use Rattle.named.specs.Named.{namedWords}
+use Rattle.program.specs.Services.{buildOutcome, checkOutcome, acceptOutcome}
+use Rattle.sequencer.specs.Services.{loadOutcome, runOutcome, forwardOutcome, traceOutcome, cutOutcome}
+use Rattle.sequencer.specs.Lists.{afterAll, requestsOf}
+use Rattle.listing.specs.Listing.{linesFor}
+use Rattle.tool.specs.declared.TapeVerb.{TapeVerb}
+use Rattle.tool.specs.declared.TapeVerb.the-variants.{Check, Listing, Load, Run, Power, Trace, Cut, Play}
+use Rattle.tool.specs.declared.NumberVerb.{NumberVerb}
+use Rattle.tool.specs.declared.NumberVerb.the-variants.{Decode, Fibonacci, Places, NumberOf, Hofstadter, Inverse, Height, Prime, MulMod, PowMod}
+use Rattle.tool.specs.declared.Verb.{Verb}
+use Rattle.tool.specs.declared.Verb.the-variants.{Unknown, Build, Script, Help, Version, OnTape, OnNumbers, InScript}
+use Rattle.tool.specs.declared.Row.{Row}
+use Rattle.tool.specs.Verbs.{takesTape, takesLines, givesTape}
+use Rattle.tool.specs.Calls.{Asked, noWord, noVerb, wrongCount, unread, known, askedBy}
+use Rattle.tool.specs.Texts.{exponentsLine, powerLines, meaning, versionLine, refusalLine, noVerbLine, wrongCountLine, unreadLine, scriptLine, usage}
+
+pub record Replied : Type 0 where
+  -- 0 answered, 1 refused, 2 not understood
+  pub status : ℕ
+  pub text : List ℕ
+
+abbrev pub answers : List ℕ → Replied
+answers text = record { status = 0; text = text }
+
+abbrev pub refuses : ℕ → ℕ → Replied
+refuses own n = record { status = 1; text = refusalLine own n }
+
+abbrev pub complains : List ℕ → Replied
+complains text = record { status = 2; text = text }
+
+-- what a service comes to: its refusal, else its answer as it is shown
+abbrev pub printed : {A : Type 0} → ℕ → Outcome A → (A → List ℕ) → Replied
+printed own (refused n) show = refuses own n
+printed own (answered x) show = answers (show x)
+
+-- ---- the two streams
+
+abbrev pub standardOutput : Replied → List ℕ
+standardOutput r = cond (eqb (r .status) 0) (r .text) []
+
+abbrev pub standardError : Replied → List ℕ
+standardError r = cond (eqb (r .status) 0) [] (r .text)
+
+-- ---- what each verb prints for its parameters
+
+-- a parameter by its place
+abbrev pub at : List ℕ → ℕ → ℕ
+at values place = getD values place 0
+
+-- the first four parameters, which are registers
+abbrev pub registersIn : List ℕ → List ℕ
+registersIn v = at v 0 ∷ at v 1 ∷ at v 2 ∷ at v 3 ∷ []
+
+-- a truth as a number
+abbrev pub bit : Bool → ℕ
+bit b = cond b 1 0
+
+-- the most words of a tape
+abbrev pub mostWords : ℕ
+mostWords = 512
+
+-- the tape's bytes
+unfoldable pub built : ℕ → List ℕ → Replied
+built own v =
+    printed own (buildOutcome (at v 0) (at v 1) (at v 2) (at v 3) mostWords) (λ (n : ℕ). bytesOf (namedWords (at v 0) (at v 1) (at v 2) (at v 3)))
+
+unfoldable pub onNumbers : NumberVerb → ℕ → List ℕ → Replied
+onNumbers Decode own v = answers (meaning (decoded (at v 0)))
+onNumbers Fibonacci own v = printed own (fibonacciOutcome (at v 0)) numberLine
+onNumbers Places own v = answers (numbersLine (placesOf (at v 0)))
+onNumbers NumberOf own v = printed own (numberOutcome v) numberLine
+onNumbers Hofstadter own v = answers (numberLine (G (at v 0)))
+onNumbers Inverse own v = printed own (inverseOutcome (at v 0) (at v 1)) numberLine
+onNumbers Height own v = answers (numberLine (height (at v 0)))
+onNumbers Prime own v = answers (numberLine (bit (isPrime (at v 0))))
+onNumbers MulMod own v = answers (numberLine (remainder (at v 0 * at v 1) (at v 2)))
+onNumbers PowMod own v = answers (numberLine (remainder (at v 0 ^ at v 1) (at v 2)))
+
+-- on a tape; a list of runs is on a row of tapes
+unfoldable pub onTape : TapeVerb → ℕ → List ℕ → List ℕ → List ℕ → Replied
+onTape Check own v tape tapes = printed own (checkOutcome tape) numberLine
+onTape Listing own v tape tapes = answers (linesFor (acceptOutcome tape) (stepsOf tape))
+onTape Load own v tape tapes = printed own (loadOutcome tape (at v 0)) numbersLine
+onTape Run own v tape tapes = printed own (runOutcome tape (registersIn v) (at v 4) (at v 5)) numbersLine
+onTape Power own v tape tapes = printed own (forwardOutcome tape (at v 0)) powerLines
+onTape Trace own v tape tapes = printed own (traceOutcome tape (at v 0)) exponentsLine
+onTape Cut own v tape tapes = printed own (cutOutcome tape (at v 0) (at v 1)) numbersLine
+onTape Play own v tape tapes = answers (numbersLine (afterAll (requestsOf tapes (drop 4 v)) (registersIn v)))
+
+abbrev pub means : Verb → ℕ → List ℕ → List ℕ → List ℕ → Replied
+means Unknown own v tape tapes = complains usage
+means Build own v tape tapes = built own v
+means Script own v tape tapes = complains scriptLine
+means Help own v tape tapes = answers usage
+means Version own v tape tapes = answers versionLine
+means (OnTape verb) own v tape tapes = onTape verb own v tape tapes
+means (OnNumbers verb) own v tape tapes = onNumbers verb own v
+means (InScript verb) own v tape tapes = complains usage
+
+-- ---- the reply
+
+-- the refusal whose reason is not the usual one: 6 where a tape was to come and its bytes weren't whole words
+abbrev pub ownIn : Row → Bool → ℕ
+ownIn row isWhole = cond (takesTape (row .verb) && not isWhole) 6 (row .own)
+
+-- to what is asked, with the tape at hand and the row of tapes
+abbrev pub replyTo : Asked → Bool → List ℕ → List ℕ → Replied
+replyTo noWord isWhole tape tapes = complains usage
+replyTo (noVerb word) isWhole tape tapes = complains (noVerbLine word)
+replyTo (wrongCount name row given) isWhole tape tapes = complains (wrongCountLine name row given)
+replyTo (unread word row place) isWhole tape tapes = complains (unreadLine word row place)
+replyTo (known row values) isWhole tape tapes = means (row .verb) (ownIn row isWhole) values tape tapes
+
+-- bytes that are whole words
+abbrev pub isWhole : List ℕ → Bool
+isWhole bytes = eqb (length bytes % wordBytes) 0
+
+-- the reply of the tool to the words after its name, and standard input
+unfoldable pub reply : List (List ℕ) → List ℕ → Replied
+reply words input = replyTo (askedBy false words) (isWhole input) (tapeIn input) (tapeIn input)
+
+-- the verb, where one is known
+abbrev pub verbOf : Asked → Verb
+verbOf noWord = Unknown
+verbOf (noVerb word) = Unknown
+verbOf (wrongCount name row given) = Unknown
+verbOf (unread word row place) = Unknown
+verbOf (known row values) = row .verb
+
+abbrev pub verbIn : List (List ℕ) → Verb
+verbIn words = verbOf (askedBy false words)
+
+-- standard input is read for a tape
+unfoldable pub readsTape : List (List ℕ) → Bool
+readsTape words = takesTape (verbIn words)
+
+-- standard input is a script
+unfoldable pub readsScript : List (List ℕ) → Bool
+readsScript words = takesLines (verbIn words)
+
+-- what is answered is a tape
+unfoldable pub writesTape : List (List ℕ) → Bool
+writesTape words = givesTape (verbIn words)

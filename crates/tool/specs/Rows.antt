@@ -1,0 +1,61 @@
+-- What the code's answers stand for; for contracts.
+use mathlib.Core.Path.{_≡_}
+use mathlib.Core.Bool.{Bool}
+use mathlib.Core.List.{List, []}
+use Prim.Native.Nat.{ℕ, _≤_, _-_}
+use lib.ListN.{length, getD, take, drop}
+use Rattle.text.specs.Rows.{Put}
+use Rattle.tool.specs.declared.Row.{Row}
+use Rattle.tool.specs.declared.Reply.{Reply}
+use Rattle.tool.specs.declared.Call.{Call}
+use Rattle.tool.specs.declared.Call.the-variants.{NoWord, NoVerb, WrongCount, Unread, Known}
+use Rattle.tool.specs.Verbs.{mostParameters, largest64, limitOf}
+use Rattle.tool.specs.Calls.{Asked, noWord, noVerb, wrongCount, unread, known, numbersFrom, withNumbers, askedBy}
+use Rattle.tool.specs.Replies.{Replied}
+
+-- no text of a reply is longer
+abbrev pub mostText : ℕ
+mostText = 8192
+
+-- a reply stands in a row from its start: its status, its text, which is never too long, and how many bytes it has. Where the row is
+-- shorter, what doesn't fit is dropped.
+pub record Told (before : List ℕ) (r : Replied) (told : Reply) (after : List ℕ) : Type 0 where
+  pub status : told .status ≡ r .status
+  pub text : Put before 0 (r .text) (told .length) after
+  pub short : length (r .text) ≤ mostText
+
+-- all of a row are at most a number
+abbrev pub Within : ℕ → List ℕ → Type 0
+Within most values = (i : ℕ) → getD values i 0 ≤ most
+
+-- what a call of the code asks for, with the words and the row of parameters beside it
+abbrev pub askedFor : Call → List (List ℕ) → List ℕ → Asked
+askedFor NoWord words values = noWord
+askedFor NoVerb words values = noVerb (getD words 0 [])
+askedFor (WrongCount row given) words values = wrongCount (getD words 0 []) row given
+askedFor (Unread row index) words values = unread (getD words index []) row (index - 1)
+askedFor (Known row count) words values = known row (take count values)
+
+-- the bytes of the longest name
+abbrev pub longestName : ℕ
+longestName = 10
+
+-- a name is one of the table, and parameters are in the row and in their range
+abbrev pub InRange : Call → List (List ℕ) → List ℕ → Type 0
+InRange NoWord words values = 0 ≤ 0
+InRange NoVerb words values = 0 ≤ 0
+InRange (WrongCount row given) words values =
+    (length (getD words 0 []) ≤ longestName) × (row .least ≤ mostParameters) × (row .most ≤ mostParameters) × (given ≤ largest64)
+InRange (Unread row index) words values = (1 ≤ index) × (row .largest ≤ largest64)
+InRange (Known row count) words values = (count ≤ mostParameters) × Within (limitOf (row .verb)) (take count values)
+
+pub record Understood (inScript : Bool) (words : List (List ℕ)) (r : Call) (values : List ℕ) : Type 0 where
+  pub asked : askedFor r words values ≡ askedBy inScript words
+  pub inRange : InRange r words values
+  pub size : length values ≡ mostParameters
+
+-- the same of a verb whose count of parameters is right
+pub record Gathered (row : Row) (words : List (List ℕ)) (r : Call) (values : List ℕ) : Type 0 where
+  pub asked : askedFor r words values ≡ withNumbers row (drop 1 words) (numbersFrom row 0 (drop 1 words))
+  pub inRange : InRange r words values
+  pub size : length values ≡ mostParameters
