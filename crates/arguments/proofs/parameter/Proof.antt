@@ -1,0 +1,27 @@
+-- `parameter` meets its contract: the definition's own test tells a variant from a number.
+use mathlib.Core.Path.{sym, _∙_}
+use Rattle.tool.specs.Verbs.{parameterIn}
+use borrow.Author.Needs.{needs}
+use Rattle.arguments.proofs.parameter.Statement.{statement}
+use Rattle.arguments.proofs.parameter.Tie as tie
+
+is-variant-requires : tie.Need-is-variant-requires
+is-variant-requires c κs = search needs
+
+variant-requires : tie.Need-variant-requires
+variant-requires c κs = search needs
+
+returns : tie.Need-returns
+unfolding parameterIn
+returns c = rw (sym (c .before .before .is-variant .ensures) ∙ c .before .if1 .taken) (c .variant .ensures)
+
+number-requires : tie.Need-number-requires
+number-requires c κs = search needs
+
+returns-2 : tie.Need-returns-2
+unfolding parameterIn
+returns-2 c = rw (sym (c .before .before .is-variant .ensures) ∙ c .before .if1 .left) (c .number .ensures)
+
+pub parameter-spec : {M : Type 1} → statement M
+parameter-spec =
+    tie.close (tie.spec is-variant-requires variant-requires returns number-requires returns-2)

@@ -1,0 +1,132 @@
+// A command line is read: its verb and its parameters.
+ghost use mathlib.Core.Path.{_≡_};
+ghost use Prim.Native.Nat.{_-_, _≤_};
+ghost use lib.ListN.{length};
+ghost use Rattle.text.specs.Reading.{wordsOf};
+ghost use Rattle.tool.specs.Verbs.{indexIn, rowNamed, limitOf, variantIn, parameterIn, mostParameters};
+ghost use Rattle.tool.specs.Rows.{Understood, Gathered};
+use named::VARIANT_NAMES;
+use text::Parsed;
+use text::number;
+use text::word;
+use text::word_count;
+use tool::Call;
+use tool::CommandLine;
+use tool::LARGEST_32;
+use tool::MOST_PARAMETERS;
+use tool::NAMES;
+use tool::NO_ROW;
+use tool::ROWS;
+use tool::Row;
+use tool::TABLE;
+use verbs::is_hidden;
+use verbs::is_variant;
+
+// How many variants have a name.
+const VARIANTS: usize = 4;
+
+// What the words ask for, in a script or outside, with its parameters.
+pub fn understand(arguments: &[u8], in_script: bool) -> CommandLine
+    ensures { λ r. ⌜ Understood in_script (wordsOf (now (arguments .entry))) (r .call) (r .values) ⌝ }
+{
+    let words = word_count(arguments);
+    if words == 0 {
+        return without_parameters(Call::NoWord);
+    }
+    let row = row_named(word(arguments, 0));
+    let verb = row.verb;
+    if is_hidden(in_script, verb) {
+        return without_parameters(Call::NoVerb);
+    }
+    let given = words - 1;
+    if given < row.least {
+        return without_parameters(Call::WrongCount { row, given });
+    }
+    if row.most < given {
+        return without_parameters(Call::WrongCount { row, given });
+    }
+    parameters(arguments, row, given)
+}
+
+fn without_parameters(call: Call) -> CommandLine
+    ensures { λ r. ⌜ (r .call ≡ call) × (length (r .values) ≡ mostParameters) ⌝ }
+{
+    CommandLine {
+        call,
+        values: [0u64; MOST_PARAMETERS],
+    }
+}
+
+// The numbers of the words after the verb, up to the first that is none.
+fn parameters(arguments: &[u8], row: Row, count: usize) -> CommandLine
+    requires { ⌜ (count ≤ mostParameters) × (count ≡ length (wordsOf (now arguments)) - 1) × (row .largest ≤ limitOf (row .verb)) ⌝ }
+    ensures { λ r. ⌜ Gathered row (wordsOf (now (arguments .entry))) (r .call) (r .values) ⌝ }
+{
+    let mut values = [0u64; MOST_PARAMETERS];
+    let mut i: usize = 0;
+    while i < count {
+        let index = i + 1;
+        match parameter(row, i, word(arguments, index)) {
+            Parsed::Number(n) => values[i] = n,
+            Parsed::NoNumber => {
+                return CommandLine {
+                    call: Call::Unread { row, index },
+                    values,
+                };
+            }
+        }
+        i += 1;
+    }
+    CommandLine {
+        call: Call::Known { row, count },
+        values,
+    }
+}
+
+// A parameter: a number, and for build a variant by its name or number.
+fn parameter(row: Row, place: usize, word: &[u8]) -> Parsed
+    ensures { λ r. ⌜ r ≡ parameterIn row place (now (word .entry)) ⌝ }
+{
+    let verb = row.verb;
+    if is_variant(verb, place) {
+        return variant(word);
+    }
+    number(word, row.largest)
+}
+
+// A variant by its name or its number.
+fn variant(word: &[u8]) -> Parsed
+    ensures { λ r. ⌜ r ≡ variantIn (now (word .entry)) ⌝ }
+{
+    let variant = find(word, &VARIANT_NAMES);
+    if variant < VARIANTS {
+        return Parsed::Number(variant as u64);
+    }
+    number(word, LARGEST_32)
+}
+
+// The row of a verb by its name.
+fn row_named(name: &[u8]) -> Row
+    ensures { λ r. ⌜ r ≡ rowNamed (now (name .entry)) ⌝ }
+{
+    let index = find(name, &NAMES);
+    if ROWS <= index {
+        return NO_ROW;
+    }
+    TABLE[index]
+}
+
+// The index of the first name that is the word; past the last where there is none.
+fn find(word: &[u8], names: &[u8]) -> usize
+    ensures { λ r. ⌜ r ≡ indexIn (now (word .entry)) (wordsOf (now (names .entry))) ⌝ }
+{
+    let count = word_count(names);
+    let mut i: usize = 0;
+    while i < count {
+        if check::same(word, text::word(names, i)) {
+            return i;
+        }
+        i += 1;
+    }
+    i
+}
