@@ -1,0 +1,2 @@
+-- Replies put part by part.
+pub mod Parts

@@ -1,0 +1,75 @@
+-- `complaints::put_unread` meets its contract: its parts one after another, by what the parameter of the place is.
+use mathlib.Core.Path.{sym, _∙_}
+use mathlib.Core.List.{[], _∷_, _++_}
+use Rattle.text.specs.Text.{ascii, decimal, newline}
+use Rattle.text.proofs.Laws.Puts.{puts-join}
+use Rattle.tool.specs.Texts.{unreadText, unreadLine}
+use Rattle.printing.proofs.Laws.Parts.{puts-then}
+use borrow.Author.Needs.{needs}
+use Rattle.printing.proofs.complaints.put_unread.Statement.{statement}
+use Rattle.printing.proofs.complaints.put_unread.Tie as tie
+
+slice-aggregate-put : tie.Need-slice-aggregate-put
+slice-aggregate-put c = search needs
+
+put-requires : tie.Need-put-requires
+put-requires c κs = search needs
+
+put-quoted-requires : tie.Need-put-quoted-requires
+put-quoted-requires c κs = search needs
+
+is-variant-requires : tie.Need-is-variant-requires
+is-variant-requires c κs = search needs
+
+slice-aggregate-put-then : tie.Need-slice-aggregate-put-then
+slice-aggregate-put-then c = search needs
+
+put-then-requires : tie.Need-put-then-requires
+put-then-requires c κs = search needs
+
+same-length : tie.Need-same-length
+same-length c = search needs
+
+returns : tie.Need-returns
+unfolding unreadText unreadLine
+returns c =
+    rw (sym (c .before .before .before .before .before .before .is-variant .ensures) ∙ c .before .before .before .before .before .if1 .taken)
+    (puts-then (ascii ": no variant; basic, dual, hybrid or 1 to 3") (newline ∷ []) (puts-join (c .before .before .before .before .before .before .before .before .before .before .before .before .before .put .ensures) (c .before .before .before .before .before .before .before .before .before .put-quoted .ensures)) (c .before .before .put-then .ensures))
+
+slice-aggregate-put-2 : tie.Need-slice-aggregate-put-2
+slice-aggregate-put-2 c = search needs
+
+put-requires-2 : tie.Need-put-requires-2
+put-requires-2 c κs = search needs
+
+put-number-then-requires : tie.Need-put-number-then-requires
+put-number-then-requires c κs = search needs
+
+same-length-2 : tie.Need-same-length-2
+same-length-2 c = search needs
+
+returns-2 : tie.Need-returns-2
+unfolding unreadText unreadLine
+returns-2 c =
+    let last = decimal (c .before .before .before .before .before .before .before .before .before .before .before .before .before .before .before .before .before .before .before .before .before .before .args .verb .largest) in
+    let text = ascii ": not a whole number from 0 to " in
+    rw (sym (c .before .before .before .before .before .before .before .before .before .before .is-variant .ensures) ∙ c .before .before .before .before .before .before .before .before .before .if1 .left)
+    (puts-then (text ++ last) (newline ∷ []) (puts-join (c .before .before .before .before .before .before .before .before .before .before .before .before .before .before .before .before .before .put .ensures) (c .before .before .before .before .before .before .before .before .before .before .before .before .before .put-quoted .ensures)) (puts-then last (newline ∷ []) (c .before .before .before .before .before .before .put2 .ensures) (c .before .before .put-number-then .ensures)))
+
+pub put-unread-spec : {M : Type 1} → statement M
+put-unread-spec =
+    tie.close
+    (tie.spec
+    slice-aggregate-put
+    put-requires
+    put-quoted-requires
+    is-variant-requires
+    slice-aggregate-put-then
+    put-then-requires
+    same-length
+    returns
+    slice-aggregate-put-2
+    put-requires-2
+    put-number-then-requires
+    same-length-2
+    returns-2)

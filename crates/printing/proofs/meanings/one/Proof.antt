@@ -1,0 +1,25 @@
+-- `meanings::one` meets its contract: a line of two words, the number of at most 10 digits.
+use mathlib.Core.Path.{refl}
+use native.Mathlib.Omega.{arith}
+use Rattle.printing.proofs.Laws.Parts.{one-put, one-short}
+use borrow.Author.Needs.{needs}
+use Rattle.printing.proofs.meanings.one.Statement.{statement}
+use Rattle.printing.proofs.meanings.one.Tie as tie
+
+put-then-requires : tie.Need-put-then-requires
+put-then-requires c κs = search needs
+
+put-number-then-requires : tie.Need-put-number-then-requires
+put-number-then-requires c κs = search needs
+
+same-length : tie.Need-same-length
+same-length c = search needs
+
+returns : tie.Need-returns
+returns c =
+    let name = c .before .before .before .before .before .before .before .before .before .before .args .name .now in
+    let n = c .before .before .before .before .before .before .before .before .before .before .args .n in
+    record { status = refl; text = one-put name n (c .before .before .before .before .before .before .put-then .ensures) (c .before .before .put-number-then .ensures); short = one-short name n (c .before .before .before .before .before .before .before .before .before .before .pre) (omega (arith, c .before .before .before .before .before .before .before .before .before .before .fits .n)) }
+
+pub one-spec : {M : Type 1} → statement M
+one-spec = tie.close (tie.spec put-then-requires put-number-then-requires same-length returns)

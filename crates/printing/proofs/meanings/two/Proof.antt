@@ -1,0 +1,41 @@
+-- `meanings::two` meets its contract: a line of three words, the numbers of at most 10 digits each.
+use mathlib.Core.Path.{refl}
+use native.Mathlib.Omega.{arith}
+use Rattle.printing.proofs.Laws.Parts.{two-put, two-short}
+use borrow.Author.Needs.{needs}
+use Rattle.printing.proofs.meanings.two.Statement.{statement}
+use Rattle.printing.proofs.meanings.two.Tie as tie
+
+put-then-requires : tie.Need-put-then-requires
+put-then-requires c κs = search needs
+
+put-number-then-requires : tie.Need-put-number-then-requires
+put-number-then-requires c κs = search needs
+
+put-number-then-requires-2 : tie.Need-put-number-then-requires-2
+put-number-then-requires-2 c κs = search needs
+
+same-length : tie.Need-same-length
+same-length c = search needs
+
+returns : tie.Need-returns
+returns c =
+    let start = c .before .before .before .before .before .before .before .before .before .before .before .before .before .before in
+    let name = start .args .name .now in
+    let m = start .args .m in
+    let n = start .args .n in
+    record {
+      status = refl;
+      text = two-put name m n (c .before .before .before .before .before .before .before .before .before .before .put-then .ensures) (c .before .before .before .before .before .before .put-number-then .ensures) (c .before .before .put-number-then2 .ensures);
+      short = two-short name m n (start .pre) (omega (arith, start .fits .m)) (omega (arith, start .fits .n));
+    }
+
+pub two-spec : {M : Type 1} → statement M
+two-spec =
+    tie.close
+    (tie.spec
+    put-then-requires
+    put-number-then-requires
+    put-number-then-requires-2
+    same-length
+    returns)

@@ -1,0 +1,68 @@
+-- `put_reason` meets its contract: the reason is the word of the refusal's number, in the service's own table or in that of all.
+use borrow.Author.Tests.{eq-eqb, ne-eqb}
+use mathlib.Core.List.{[], map}
+use mathlib.Core.Path.{_≡_}
+use lib.ListN.{getD}
+use Rattle.refusal.specs.Reasons.{reasons, ownReasons}
+use Rattle.text.specs.Text.{ascii}
+use Rattle.text.specs.Reading.{wordsOf}
+use Rattle.tool.specs.Texts.{reasonFor}
+use borrow.Author.Needs.{needs}
+use Rattle.printing.proofs.put_reason.Statement.{statement}
+use Rattle.printing.proofs.put_reason.Tie as tie
+
+-- the code's tables have the texts of the definitions
+own-reason : (c : tie.After-word) → c .word .result .now ≡ getD (map ascii ownReasons) (c .before .before .before .before .before .args .number) []
+unfolding ownReasons wordsOf
+own-reason c = c .word .ensures
+
+reason : (c : tie.After-word2) → c .word2 .result .now ≡ getD (map ascii reasons) (c .before .before .before .before .before .args .number) []
+unfolding reasons wordsOf
+reason c = c .word2 .ensures
+
+slice-aggregate-word : tie.Need-slice-aggregate-word
+slice-aggregate-word c = search needs
+
+word-requires : tie.Need-word-requires
+word-requires c κs = search needs
+
+put-then-requires : tie.Need-put-then-requires
+put-then-requires c κs = search needs
+
+same-length : tie.Need-same-length
+same-length c = search needs
+
+returns : tie.Need-returns
+unfolding reasonFor
+returns c = let args = c .before .before .before .before .before .before .before .before .args in rw (eq-eqb (args .number) (args .own) (c .before .before .before .before .before .before .if1 .taken)) (rw (own-reason (c .before .before .before)) at (c .before .before .put-then .ensures))
+
+slice-aggregate-word-2 : tie.Need-slice-aggregate-word-2
+slice-aggregate-word-2 c = search needs
+
+word-requires-2 : tie.Need-word-requires-2
+word-requires-2 c κs = search needs
+
+put-then-requires-2 : tie.Need-put-then-requires-2
+put-then-requires-2 c κs = search needs
+
+same-length-2 : tie.Need-same-length-2
+same-length-2 c = search needs
+
+returns-2 : tie.Need-returns-2
+unfolding reasonFor
+returns-2 c = let args = c .before .before .before .before .before .before .before .before .args in rw (ne-eqb (args .number) (args .own) (c .before .before .before .before .before .before .if1 .left)) (rw (reason (c .before .before .before)) at (c .before .before .put-then2 .ensures))
+
+pub put-reason-spec : {M : Type 1} → statement M
+put-reason-spec =
+    tie.close
+    (tie.spec
+    slice-aggregate-word
+    word-requires
+    put-then-requires
+    same-length
+    returns
+    slice-aggregate-word-2
+    word-requires-2
+    put-then-requires-2
+    same-length-2
+    returns-2)

@@ -1,0 +1,101 @@
+// Replies into a row: what the services answer and refuse.
+mod complaints;
+mod meanings;
+mod results;
+
+pub use complaints::put_no_verb;
+pub use complaints::put_unread;
+pub use complaints::put_usage;
+pub use complaints::put_wrong_count;
+pub use meanings::meaning;
+pub use results::exponents;
+pub use results::number;
+pub use results::power;
+pub use results::registers;
+ghost use mathlib.Core.List.{[], _∷_, _++_};
+ghost use Rattle.refusal.specs.Outcomes.{outcomeOf};
+ghost use Rattle.text.specs.Text.{newline, numberLine, numbersLine};
+ghost use Rattle.text.specs.Rows.{Put};
+ghost use Rattle.machine.specs.Exponents.{tracedOf};
+ghost use Rattle.sequencer.specs.Services.{standingOf};
+ghost use Rattle.tool.specs.Texts.{exponentsLine, powerLines, reasonFor};
+ghost use Rattle.tool.specs.Replies.{refuses, printed};
+ghost use Rattle.tool.specs.Rows.{Told};
+use machine::Trace;
+use refusal::Answer;
+use refusal::OWN_REASONS;
+use refusal::REASONS;
+use sequencer::Standing;
+use text::NEWLINE;
+use text::put;
+use text::put_number;
+use text::put_then;
+use text::word;
+use tool::REFUSED;
+use tool::Reply;
+
+const REFUSED_TEXT: [u8; 16] = *b"fibexp: refused ";
+
+// A refusal, with what it is given for.
+pub fn refuse(row: &mut [u8], own: u32, number: u32) -> Reply
+    ensures { λ r. ⌜ Told (now (row .entry)) (refuses own number) r (now (row .exit)) ⌝ }
+{
+    let a = put(row, 0, &REFUSED_TEXT);
+    let b = put_number(row, a, number as u64);
+    let c = put(row, b, b": ");
+    let length = put_reason(row, c, own, number);
+    Reply {
+        status: REFUSED,
+        length,
+    }
+}
+
+// What a refusal is given for, and the end of the line.
+fn put_reason(row: &mut [u8], at: usize, own: u32, number: u32) -> usize
+    ensures { λ next. ⌜ Put (now (row .entry)) at (reasonFor own number ++ newline ∷ []) next (now (row .exit)) ⌝ }
+{
+    if number == own {
+        return put_then(row, at, word(&OWN_REASONS, number as usize), NEWLINE);
+    }
+    put_then(row, at, word(&REASONS, number as usize), NEWLINE)
+}
+
+// One number, or the refusal.
+pub fn answer(row: &mut [u8], own: u32, answer: Answer) -> Reply
+    ensures { λ r. ⌜ Told (now (row .entry)) (printed own (outcomeOf answer) numberLine) r (now (row .exit)) ⌝ }
+{
+    match answer {
+        Answer::Value(n) => number(row, n),
+        Answer::Refused(e) => refuse(row, own, refusal::number(e)),
+    }
+}
+
+// Four registers, or the refusal.
+pub fn standing(row: &mut [u8], own: u32, answer: Standing) -> Reply
+    ensures { λ r. ⌜ Told (now (row .entry)) (printed own (standingOf answer) numbersLine) r (now (row .exit)) ⌝ }
+{
+    match answer {
+        Standing::At(values) => registers(row, values),
+        Standing::Refused(e) => refuse(row, own, refusal::number(e)),
+    }
+}
+
+// The same, with register 1 on a line of its own before them.
+pub fn forward(row: &mut [u8], own: u32, answer: Standing) -> Reply
+    ensures { λ r. ⌜ Told (now (row .entry)) (printed own (standingOf answer) powerLines) r (now (row .exit)) ⌝ }
+{
+    match answer {
+        Standing::At(values) => power(row, values),
+        Standing::Refused(e) => refuse(row, own, refusal::number(e)),
+    }
+}
+
+// Four exponents, or the refusal.
+pub fn trace(row: &mut [u8], own: u32, answer: Trace) -> Reply
+    ensures { λ r. ⌜ Told (now (row .entry)) (printed own (tracedOf answer) exponentsLine) r (now (row .exit)) ⌝ }
+{
+    match answer {
+        Trace::At(values) => exponents(row, values),
+        Trace::Refused(e) => refuse(row, own, refusal::number(e)),
+    }
+}

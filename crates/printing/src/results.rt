@@ -1,0 +1,76 @@
+// Answers of numbers.
+ghost use mathlib.Core.List.{[], _∷_, _++_};
+ghost use Prim.Native.Nat.{_≤_};
+ghost use lib.ListN.{length};
+ghost use Rattle.text.specs.Text.{whole, numberLine, numbersLine};
+ghost use Rattle.text.specs.Rows.{Put};
+ghost use Rattle.machine.specs.Machine.{valuesOf};
+ghost use Rattle.machine.specs.Exponents.{exponentsOf};
+ghost use Rattle.tool.specs.Texts.{exponentsLine, powerLines};
+ghost use Rattle.tool.specs.Replies.{answers};
+ghost use Rattle.tool.specs.Rows.{Told};
+use lines::number_line;
+use lines::numbers_line;
+use machine::Exponents;
+use machine::Registers;
+use text::BLANK;
+use text::NEWLINE;
+use text::put_byte;
+use text::put_whole;
+use tool::ANSWERED;
+use tool::Reply;
+
+// A number on a line of its own.
+pub fn number(row: &mut [u8], n: u64) -> Reply
+    ensures { λ r. ⌜ Told (now (row .entry)) (answers (numberLine n)) r (now (row .exit)) ⌝ }
+{
+    Reply {
+        status: ANSWERED,
+        length: number_line(row, 0, n),
+    }
+}
+
+// The four registers on one line.
+pub fn registers(row: &mut [u8], registers: Registers) -> Reply
+    ensures { λ r. ⌜ Told (now (row .entry)) (answers (numbersLine (valuesOf registers))) r (now (row .exit)) ⌝ }
+{
+    let values = [registers.c, registers.d, registers.e, registers.f];
+    Reply {
+        status: ANSWERED,
+        length: numbers_line(row, 0, &values),
+    }
+}
+
+// Register 1, and the four registers.
+pub fn power(row: &mut [u8], registers: Registers) -> Reply
+    ensures { λ r. ⌜ Told (now (row .entry)) (answers (powerLines (valuesOf registers))) r (now (row .exit)) ⌝ }
+{
+    let next = number_line(row, 0, registers.d as u64);
+    let values = [registers.c, registers.d, registers.e, registers.f];
+    Reply {
+        status: ANSWERED,
+        length: numbers_line(row, next, &values),
+    }
+}
+
+// Four exponents on one line.
+pub fn exponents(row: &mut [u8], exponents: Exponents) -> Reply
+    ensures { λ r. ⌜ Told (now (row .entry)) (answers (exponentsLine (exponentsOf exponents))) r (now (row .exit)) ⌝ }
+{
+    let c = put_exponent(row, 0, exponents.c, BLANK);
+    let d = put_exponent(row, c, exponents.d, BLANK);
+    let e = put_exponent(row, d, exponents.e, BLANK);
+    Reply {
+        status: ANSWERED,
+        length: put_exponent(row, e, exponents.f, NEWLINE),
+    }
+}
+
+// A whole number, and a byte.
+fn put_exponent(row: &mut [u8], at: usize, n: i64, last: u8) -> usize
+    ensures { λ next. ⌜ Put (now (row .entry)) at (whole n ++ last ∷ []) next (now (row .exit)) ⌝ }
+    ensures { λ _. ⌜ length (whole n) ≤ 21 ⌝ }
+{
+    let next = put_whole(row, at, n);
+    put_byte(row, next, last)
+}
