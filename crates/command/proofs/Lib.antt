@@ -1,0 +1,2 @@
+-- The laws of a verb's parameters.
+pub mod Laws

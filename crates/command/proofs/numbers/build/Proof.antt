@@ -1,0 +1,110 @@
+-- `numbers::build` meets its contract: what build answers stands in the row's front, and its bytes are put.
+use mathlib.Core.Path.{_≡_, refl, sym, ap, _∙_}
+use Prim.Native.Nat.{_≤_}
+use native.Mathlib.Omega.{arith}
+use lib.ListN.{length, take}
+use lib.Seq.{length-take-le}
+use Rattle.refusal.specs.Outcomes.{answered, outcomeOf}
+use Rattle.encoding.specs.Encoding.{bytesOf}
+use Rattle.encoding.proofs.Laws.Bytes.{bytes-length}
+use Rattle.named.specs.Named.{namedWords}
+use Rattle.program.specs.Services.{buildOutcome}
+use Rattle.program.proofs.Laws.Checking.{build-count, build-words}
+use Rattle.tool.specs.Replies.{built}
+use Rattle.tool.specs.Rows.{mostText}
+use borrow.Author.Needs.{needs}
+use Rattle.command.proofs.numbers.build.Statement.{statement}
+use Rattle.command.proofs.numbers.build.Tie as tie
+
+made : (c : tie.After-answer) → buildOutcome (c .before .before .before .before .before .before .before .before .small .result) (c .before .before .before .before .before .before .before .small2 .result) (c .before .before .before .before .before .before .small3 .result) (c .before .before .before .before .before .small4 .result) 512 ≡ answered (c .answer .given .0 .0)
+made c = sym (c .before .before .before .build .ensures .0) ∙ ap outcomeOf (c .answer .given .1)
+
+words : (c : tie.After-answer)
+    → take (c .answer .given .0 .0) (c .before .before .before .build .last .1 .1 .1 .1 .0) ≡ namedWords (c .before .before .before .before .before .before .before .before .small .result) (c .before .before .before .before .before .before .before .small2 .result) (c .before .before .before .before .before .before .small3 .result) (c .before .before .before .before .before .small4 .result)
+words c = ap (take (c .answer .given .0 .0)) (c .before .before .before .build .ensures .1) ∙ build-words _ _ _ _ _ _ (made c)
+
+fits : (c : tie.After-answer) → c .answer .given .0 .0 ≤ length (c .before .before .before .build .last .1 .1 .1 .1 .0)
+fits c = omega (arith, build-count _ _ _ _ _ _ (made c) .1, c .before .before .before .build .kept .1 .1 .1 .1 .0)
+
+-- no tape has more than 2048 bytes
+short : (c : tie.After-answer) → length (bytesOf (namedWords (c .before .before .before .before .before .before .before .before .small .result) (c .before .before .before .before .before .before .before .small2 .result) (c .before .before .before .before .before .before .small3 .result) (c .before .before .before .before .before .small4 .result))) ≤ mostText
+short c = rw (← words c, bytes-length (take (c .answer .given .0 .0) (c .before .before .before .build .last .1 .1 .1 .1 .0))) (omega (arith, length-take-le (c .answer .given .0 .0) (c .before .before .before .build .last .1 .1 .1 .1 .0) (fits c), build-count _ _ _ _ _ _ (made c) .1))
+
+small-requires : tie.Need-small-requires
+small-requires c κs = search needs
+
+small-requires-2 : tie.Need-small-requires-2
+small-requires-2 c κs = search needs
+
+small-requires-3 : tie.Need-small-requires-3
+small-requires-3 c κs = search needs
+
+small-requires-4 : tie.Need-small-requires-4
+small-requires-4 c κs = search needs
+
+slice-aggregate-build : tie.Need-slice-aggregate-build
+slice-aggregate-build c = search needs
+
+build-requires : tie.Need-build-requires
+build-requires c κs = search needs
+
+enum-known-answer : tie.Need-enum-known-answer
+enum-known-answer c = search needs
+
+array-share-prefix-row : tie.Need-array-share-prefix-row
+array-share-prefix-row c = fits (c .before .before)
+
+slice-aggregate-tape-bytes : tie.Need-slice-aggregate-tape-bytes
+slice-aggregate-tape-bytes c = sym (length-take-le _ _ (fits (c .before .before .before)))
+
+tape-bytes-requires : tie.Need-tape-bytes-requires
+tape-bytes-requires c κs = search needs
+
+enum-known-answer-2 : tie.Need-enum-known-answer-2
+enum-known-answer-2 c = search needs
+
+number-requires : tie.Need-number-requires
+number-requires c κs = search needs
+
+refuse-requires : tie.Need-refuse-requires
+refuse-requires c κs = search needs
+
+same-length : tie.Need-same-length
+same-length c = search needs
+
+returns : tie.Need-returns
+unfolding built
+returns c =
+    rw (← c .before .before .before .before .before .before .before .before .before .before .before .before .before .before .small .ensures, ← c .before .before .before .before .before .before .before .before .before .before .before .before .before .small2 .ensures, ← c .before .before .before .before .before .before .before .before .before .before .before .before .small3 .ensures, ← c .before .before .before .before .before .before .before .before .before .before .before .small4 .ensures, made (c .before .before .before .before .before .before))
+    (record { status = refl; text = rw (words (c .before .before .before .before .before .before)) at (c .before .before .tape-bytes .ensures); short = short (c .before .before .before .before .before .before) })
+
+same-length-2 : tie.Need-same-length-2
+same-length-2 c = search needs
+
+returns-2 : tie.Need-returns-2
+unfolding built
+returns-2 c =
+    rw (← c .before .before .before .before .before .before .before .before .before .before .before .before .before .before .small .ensures, ← c .before .before .before .before .before .before .before .before .before .before .before .before .before .small2 .ensures, ← c .before .before .before .before .before .before .before .before .before .before .before .before .small3 .ensures, ← c .before .before .before .before .before .before .before .before .before .before .before .small4 .ensures, sym (c .before .before .before .before .before .before .before .before .before .build .ensures .0) ∙ ap outcomeOf (c .before .before .before .before .before .before .answer2 .given .1), ← c .before .before .before .number .ensures)
+    (c .before .before .refuse .ensures)
+
+pub build-spec : {M : Type 1} → statement M
+build-spec =
+    tie.close
+    (tie.spec
+    small-requires
+    small-requires-2
+    small-requires-3
+    small-requires-4
+    slice-aggregate-build
+    build-requires
+    enum-known-answer
+    array-share-prefix-row
+    slice-aggregate-tape-bytes
+    tape-bytes-requires
+    enum-known-answer-2
+    number-requires
+    refuse-requires
+    same-length
+    returns
+    same-length-2
+    returns-2)

@@ -1,0 +1,19 @@
+-- `tapes::list` meets its contract: no listing is longer than a text may be.
+use mathlib.Core.Path.{refl}
+use native.Mathlib.Omega.{arith}
+use Rattle.listing.proofs.Laws.Lengths.{tape-listing-most}
+use borrow.Author.Needs.{needs}
+use Rattle.command.proofs.tapes.list.Statement.{statement}
+use Rattle.command.proofs.tapes.list.Tie as tie
+
+list-tape-requires : tie.Need-list-tape-requires
+list-tape-requires c κs = search needs
+
+same-length : tie.Need-same-length
+same-length c = search needs
+
+returns : tie.Need-returns
+returns c = record { status = refl; text = c .before .before .list-tape .ensures .0; short = omega (arith, tape-listing-most (c .before .before .before .before .before .before .args .tape .now)) }
+
+pub list-spec : {M : Type 1} → statement M
+list-spec = tie.close (tie.spec list-tape-requires same-length returns)

@@ -1,0 +1,63 @@
+-- `values::bytes` meets its contract: with i numbers copied, the first i stand in the row.
+use Prim.Native.Nat.{_-_, _≤_}
+use native.Mathlib.Omega.{arith}
+use lib.ListN.{length, take}
+use lib.Seq.{take-all}
+use Rattle.refusal.specs.Rows.{Wrote}
+use Rattle.refusal.proofs.Laws.Rows.{wrote-none, wrote-length}
+use Rattle.command.proofs.Laws.Values.{copied-next}
+use Rattle.command.proofs.values.bytes.Statement.{statement}
+use Rattle.command.proofs.values.bytes.Tie as tie
+
+abbrev Inv-loop : tie.InvT-loop
+Inv-loop values row₀ i₀ row i = (i ≤ length values) × Wrote row₀ 0 (take i values) i row
+
+abbrev μ-loop : tie.MeasureT-loop
+μ-loop values row₀ i₀ row i = length values - i
+
+loop-holds : tie.Need-loop-holds Inv-loop μ-loop
+loop-holds c = (omega arith, wrote-none _ 0)
+
+mul-byte : tie.Need-mul-byte Inv-loop μ-loop
+mul-byte c = omega arith
+
+shared-slice-read-byte : tie.Need-shared-slice-read-byte Inv-loop μ-loop
+shared-slice-read-byte c = omega arith
+
+byte-requires : tie.Need-byte-requires Inv-loop μ-loop
+byte-requires c κs = c .before .before .before .before .before .pre .1 (c .before .before .loop .i)
+
+slice-write-row : tie.Need-slice-write-row Inv-loop μ-loop
+slice-write-row c = omega (arith, c .before .before .before .before .before .before .pre .0, wrote-length (c .before .before .before .loop .inv .1))
+
+add-i : tie.Need-add-i Inv-loop μ-loop
+add-i c = omega arith
+
+loop-less : tie.Need-loop-less Inv-loop μ-loop
+loop-less c = omega arith
+
+loop-again : tie.Need-loop-again Inv-loop μ-loop
+loop-again c = (omega arith, copied-next (c .before .before .before .before .before .before .args .values .now) (c .before .before .before .loop .i) _ (omega arith) (c .byte .ensures) (c .before .before .before .loop .inv .1))
+
+same-length : tie.Need-same-length Inv-loop μ-loop
+same-length c = wrote-length (c .before .loop .inv .1)
+
+returns : tie.Need-returns Inv-loop μ-loop
+returns c = rw (take-all (c .before .loop .i) (c .before .before .before .before .args .values .now) (omega arith)) at (c .before .loop .inv .1)
+
+pub bytes-spec : {M : Type 1} → statement M
+bytes-spec =
+    tie.close
+    (tie.spec
+    Inv-loop
+    μ-loop
+    loop-holds
+    mul-byte
+    shared-slice-read-byte
+    byte-requires
+    slice-write-row
+    add-i
+    loop-less
+    loop-again
+    same-length
+    returns)

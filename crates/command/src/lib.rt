@@ -1,0 +1,186 @@
+// The command-line tool: its reply to a command line.
+mod numbers;
+mod tapes;
+mod values;
+
+ghost use mathlib.Core.Path.{_≡_};
+ghost use Prim.Native.Nat.{_≤_};
+ghost use lib.ListN.{length};
+ghost use Rattle.text.specs.Reading.{wordsOf};
+ghost use Rattle.tool.specs.Verbs.{mostParameters, limitOf};
+ghost use Rattle.tool.specs.Calls.{askedBy};
+ghost use Rattle.tool.specs.Replies.{means, ownIn, replyTo, reply, answers, verbIn, readsTape, readsScript, writesTape};
+ghost use Rattle.tool.specs.Texts.{usage, versionLine};
+ghost use Rattle.tool.specs.Rows.{Told, Within};
+use arguments::understand;
+use encoding::MOST_WORDS;
+use encoding::tape_words;
+use numbers::build;
+use numbers::on_numbers;
+use printing::put_no_verb;
+use printing::put_unread;
+use printing::put_usage;
+use printing::put_wrong_count;
+use refusal::Refusal;
+use tapes::on_tape;
+use text::put;
+use text::word;
+use tool::ANSWERED;
+use tool::Call;
+use tool::NOT_UNDERSTOOD;
+use tool::Reply;
+use tool::Row;
+use tool::Verb;
+use verbs::gives_tape;
+use verbs::takes_lines;
+use verbs::takes_tape;
+
+// The bytes of a word.
+const WORD_BYTES: usize = 4;
+
+// The tool's reply to a command line and standard input. The arguments are the words after the tool's name, a zero byte after each. The
+// text is put from the row's start; in a row of `tool::MOST_TEXT` bytes or more it stands whole.
+pub fn reply(arguments: &[u8], input: &[u8], text: &mut [u8]) -> Reply
+    ensures { λ r. ⌜ Told (now (text .entry)) (reply (wordsOf (now (arguments .entry))) (now (input .entry))) r (now (text .exit)) ⌝ }
+{
+    let mut row = [0u32; MOST_WORDS];
+    let count = tape_words(input, &mut row);
+    let whole = input.len() % WORD_BYTES == 0;
+    let tape = &row[..count];
+    reply_on(arguments, false, whole, tape, tape, text)
+}
+
+// The reply to a command line, in a script or outside, with the tape at hand and the row of tapes. Where the tape came as bytes,
+// `whole` says that they were whole words.
+pub fn reply_on(
+    arguments: &[u8],
+    in_script: bool,
+    whole: bool,
+    tape: &[u32],
+    tapes: &[u32],
+    text: &mut [u8],
+) -> Reply
+    ensures { λ r. ⌜ Told (now (text .entry)) (replyTo (askedBy in_script (wordsOf (now (arguments .entry)))) whole (now (tape .entry)) (now (tapes .entry))) r (now (text .exit)) ⌝ }
+{
+    let line = understand(arguments, in_script);
+    let call = line.call;
+    let values = line.values;
+    match call {
+        Call::NoWord => complaint(put_usage(text)),
+        Call::NoVerb => complaint(put_no_verb(text, word(arguments, 0))),
+        Call::WrongCount { row, given } => {
+            complaint(put_wrong_count(text, word(arguments, 0), row, given))
+        }
+        Call::Unread { row, index } => {
+            complaint(put_unread(text, word(arguments, index), row, index - 1))
+        }
+        Call::Known { row, count } => perform(row, whole, &values[..count], tape, tapes, text),
+    }
+}
+
+// Whether the tool reads a tape from standard input for a command line.
+pub fn reads_tape(arguments: &[u8]) -> bool
+    ensures { λ r. ⌜ r ≡ readsTape (wordsOf (now (arguments .entry))) ⌝ }
+{
+    takes_tape(verb_in(arguments))
+}
+
+// Whether it reads a script.
+pub fn reads_script(arguments: &[u8]) -> bool
+    ensures { λ r. ⌜ r ≡ readsScript (wordsOf (now (arguments .entry))) ⌝ }
+{
+    takes_lines(verb_in(arguments))
+}
+
+// Whether its reply, where it is answered, is the bytes of a tape.
+pub fn writes_tape(arguments: &[u8]) -> bool
+    ensures { λ r. ⌜ r ≡ writesTape (wordsOf (now (arguments .entry))) ⌝ }
+{
+    gives_tape(verb_in(arguments))
+}
+
+// The verb of a command line that is understood.
+fn verb_in(arguments: &[u8]) -> Verb
+    ensures { λ verb. ⌜ verb ≡ verbIn (wordsOf (now (arguments .entry))) ⌝ }
+{
+    let line = understand(arguments, false);
+    let call = line.call;
+    match call {
+        Call::Known { row, count } => row.verb,
+        Call::NoWord => Verb::Unknown,
+        Call::NoVerb => Verb::Unknown,
+        Call::WrongCount { row, given } => Verb::Unknown,
+        Call::Unread { row, index } => Verb::Unknown,
+    }
+}
+
+fn complaint(length: usize) -> Reply
+    ensures { λ r. ⌜ (r .status ≡ 2) × (r .length ≡ length) ⌝ }
+{
+    Reply {
+        status: NOT_UNDERSTOOD,
+        length,
+    }
+}
+
+// A verb on its parameters.
+fn perform(
+    row: Row,
+    whole: bool,
+    values: &[u64],
+    tape: &[u32],
+    tapes: &[u32],
+    text: &mut [u8],
+) -> Reply
+    requires { ⌜ (length (now values) ≤ mostParameters) × Within (limitOf (row .verb)) (now values) ⌝ }
+    ensures { λ r. ⌜ Told (now (text .entry)) (means (row .verb) (ownIn row whole) (now (values .entry)) (now (tape .entry)) (now (tapes .entry))) r (now (text .exit)) ⌝ }
+{
+    let own = own_in(row, whole);
+    let verb = row.verb;
+    match verb {
+        Verb::Build => build(own, values, text),
+        Verb::OnTape(v) => on_tape(v, own, values, tape, tapes, text),
+        Verb::OnNumbers(v) => on_numbers(v, own, values, text),
+        Verb::Help => help(text),
+        Verb::Version => version(text),
+        Verb::Script => complaint(put(
+            text,
+            0,
+            b"fibexp: script is a verb of the program fibexp alone\n",
+        )),
+        Verb::Unknown => complaint(put_usage(text)),
+        Verb::InScript(_) => complaint(put_usage(text)),
+    }
+}
+
+fn help(text: &mut [u8]) -> Reply
+    ensures { λ r. ⌜ Told (now (text .entry)) (answers usage) r (now (text .exit)) ⌝ }
+{
+    Reply {
+        status: ANSWERED,
+        length: put_usage(text),
+    }
+}
+
+fn version(text: &mut [u8]) -> Reply
+    ensures { λ r. ⌜ Told (now (text .entry)) (answers versionLine) r (now (text .exit)) ⌝ }
+{
+    Reply {
+        status: ANSWERED,
+        length: put(text, 0, b"fibexp 1.0.0\n"),
+    }
+}
+
+// The refusal whose reason is the verb's own: 6 where a tape was to come and its bytes weren't whole words.
+fn own_in(row: Row, whole: bool) -> u32
+    ensures { λ own. ⌜ own ≡ ownIn row whole ⌝ }
+{
+    if whole {
+        return row.own;
+    }
+    let verb = row.verb;
+    if takes_tape(verb) {
+        return refusal::number(Refusal::Length);
+    }
+    row.own
+}

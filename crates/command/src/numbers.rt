@@ -1,0 +1,111 @@
+// The verbs on numbers alone, and build.
+ghost use mathlib.Core.Path.{_≡_};
+ghost use mathlib.Core.List.{[], _∷_};
+ghost use Prim.Native.Nat.{_≤_};
+ghost use lib.ListN.{length};
+ghost use Rattle.tool.specs.Verbs.{largest8, largest32, mostParameters, limitOn};
+ghost use Rattle.tool.specs.Replies.{built, onNumbers, bit};
+ghost use Rattle.tool.specs.Rows.{Told, Within};
+use crate::values::bytes;
+use crate::values::large;
+use crate::values::small;
+use encoding::MOST_WORDS;
+use encoding::tape_bytes;
+use lines::bytes_line;
+use printing::answer;
+use printing::meaning;
+use printing::number;
+use printing::refuse;
+use refusal::Answer;
+use tool::ANSWERED;
+use tool::MOST_PARAMETERS;
+use tool::NumberVerb;
+use tool::Reply;
+
+// A verb on its parameters.
+pub(crate) fn on_numbers(verb: NumberVerb, own: u32, values: &[u64], text: &mut [u8]) -> Reply
+    requires { ⌜ (length (now values) ≤ mostParameters) × Within (limitOn verb) (now values) ⌝ }
+    ensures { λ r. ⌜ Told (now (text .entry)) (onNumbers verb own (now (values .entry))) r (now (text .exit)) ⌝ }
+{
+    match verb {
+        NumberVerb::Decode => meaning(text, tape::decode(small(values, 0))),
+        NumberVerb::Fibonacci => answer(text, own, fibonacci::fibonacci(small(values, 0))),
+        NumberVerb::Places => places(large(values, 0), text),
+        NumberVerb::NumberOf => number_of(own, values, text),
+        NumberVerb::Hofstadter => number(text, fibonacci::hofstadter(large(values, 0))),
+        NumberVerb::Inverse => answer(
+            text,
+            own,
+            modular::inverse(small(values, 0), small(values, 1)),
+        ),
+        NumberVerb::Height => number(text, fibonacci::height(small(values, 0)) as u64),
+        NumberVerb::Prime => number(text, bit(modular::is_prime(small(values, 0)))),
+        NumberVerb::MulMod => {
+            number(
+                text,
+                modular::product(small(values, 0), small(values, 1), small(values, 2)) as u64,
+            )
+        }
+        NumberVerb::PowMod => {
+            number(
+                text,
+                modular::power(small(values, 0), small(values, 1), small(values, 2)) as u64,
+            )
+        }
+    }
+}
+
+// A truth as a number.
+fn bit(truth: bool) -> u64
+    ensures { λ n. ⌜ n ≡ bit truth ⌝ }
+{
+    if truth {
+        return 1;
+    }
+    0
+}
+
+// The tape of a named program.
+pub(crate) fn build(own: u32, values: &[u64], text: &mut [u8]) -> Reply
+    requires { ⌜ Within largest32 (now values) ⌝ }
+    ensures { λ r. ⌜ Told (now (text .entry)) (built own (now (values .entry))) r (now (text .exit)) ⌝ }
+{
+    let mut row = [0u32; MOST_WORDS];
+    let p = small(values, 0);
+    let r = small(values, 1);
+    let k = small(values, 2);
+    let answer = program::build(p, r, k, small(values, 3), &mut row);
+    match answer {
+        Answer::Value(n) => {
+            let count = n as usize;
+            Reply {
+                status: ANSWERED,
+                length: tape_bytes(text, 0, &row[..count]),
+            }
+        }
+        Answer::Refused(e) => refuse(text, own, refusal::number(e)),
+    }
+}
+
+// The places of a number's Zeckendorf form.
+fn places(n: u64, text: &mut [u8]) -> Reply
+    ensures { λ r. ⌜ Told (now (text .entry)) (onNumbers NumberVerb.Places 0 (n ∷ [])) r (now (text .exit)) ⌝ }
+{
+    let form = fibonacci::zeckendorf(n);
+    let bytes = form.places;
+    let count = form.count;
+    Reply {
+        status: ANSWERED,
+        length: bytes_line(text, 0, &bytes[..count]),
+    }
+}
+
+// The number of a list of places.
+fn number_of(own: u32, values: &[u64], text: &mut [u8]) -> Reply
+    requires { ⌜ (length (now values) ≤ mostParameters) × Within largest8 (now values) ⌝ }
+    ensures { λ r. ⌜ Told (now (text .entry)) (onNumbers NumberVerb.NumberOf own (now (values .entry))) r (now (text .exit)) ⌝ }
+{
+    let mut row = [0u8; MOST_PARAMETERS];
+    let count = bytes(values, &mut row);
+    answer(text, own, fibonacci::number(&row[..count]))
+}

@@ -1,0 +1,98 @@
+// The verbs on a tape.
+ghost use Prim.Native.Nat.{_≤_};
+ghost use lib.ListN.{length, getD, drop};
+ghost use Rattle.text.specs.Text.{numbersLine};
+ghost use Rattle.tape.specs.Layout.{stepsOf};
+ghost use Rattle.program.specs.Services.{acceptOutcome};
+ghost use Rattle.sequencer.specs.Services.{runOutcome, cutOutcome};
+ghost use Rattle.sequencer.specs.Lists.{afterAll, requestsOf};
+ghost use Rattle.listing.specs.Listing.{linesFor};
+ghost use Rattle.tool.specs.Verbs.{largest32, mostParameters};
+ghost use Rattle.tool.specs.Replies.{answers, printed, registersIn, onTape};
+ghost use Rattle.tool.specs.Rows.{Told, Within};
+use crate::values::past_registers;
+use crate::values::registers;
+use crate::values::small;
+use crate::values::words;
+use lines::numbers_line;
+use listing::list_tape;
+use printing::answer;
+use printing::forward;
+use printing::refuse;
+use printing::standing;
+use tool::ANSWERED;
+use tool::MOST_PARAMETERS;
+use tool::Reply;
+use tool::TapeVerb;
+
+// A verb on the tape at hand; a list of runs is on the row of tapes.
+pub(crate) fn on_tape(
+    verb: TapeVerb,
+    own: u32,
+    values: &[u64],
+    tape: &[u32],
+    tapes: &[u32],
+    text: &mut [u8],
+) -> Reply
+    requires { ⌜ (length (now values) ≤ mostParameters) × Within largest32 (now values) ⌝ }
+    ensures { λ r. ⌜ Told (now (text .entry)) (onTape verb own (now (values .entry)) (now (tape .entry)) (now (tapes .entry))) r (now (text .exit)) ⌝ }
+{
+    match verb {
+        TapeVerb::Check => answer(text, own, program::check(tape)),
+        TapeVerb::Listing => list(tape, text),
+        TapeVerb::Load => standing(text, own, sequencer::load(tape, small(values, 0))),
+        TapeVerb::Run => run(own, values, tape, text),
+        TapeVerb::Power => forward(text, own, sequencer::forward(tape, small(values, 0))),
+        TapeVerb::Trace => printing::trace(text, own, sequencer::trace(tape, small(values, 0))),
+        TapeVerb::Cut => cut(own, tape, small(values, 0), small(values, 1), text),
+        TapeVerb::Play => play(values, tapes, text),
+    }
+}
+
+// The listing, which of a refused tape is the line of its refusal.
+fn list(tape: &[u32], text: &mut [u8]) -> Reply
+    ensures { λ r. ⌜ Told (now (text .entry)) (answers (linesFor (acceptOutcome (now (tape .entry))) (stepsOf (now (tape .entry))))) r (now (text .exit)) ⌝ }
+{
+    let listed = list_tape(tape, text);
+    Reply {
+        status: ANSWERED,
+        length: listed.written,
+    }
+}
+
+// Run, its registers the first four parameters.
+fn run(own: u32, values: &[u64], tape: &[u32], text: &mut [u8]) -> Reply
+    requires { ⌜ Within largest32 (now values) ⌝ }
+    ensures { λ r. ⌜ Told (now (text .entry)) (printed own (runOutcome (now (tape .entry)) (registersIn (now (values .entry))) (getD (now (values .entry)) 4 0) (getD (now (values .entry)) 5 0)) numbersLine) r (now (text .exit)) ⌝ }
+{
+    let at = registers(values);
+    let answer = sequencer::run(tape, at, small(values, 4), small(values, 5));
+    standing(text, own, answer)
+}
+
+// The step words of a part of the tape.
+fn cut(own: u32, tape: &[u32], first: u32, last: u32, text: &mut [u8]) -> Reply
+    ensures { λ r. ⌜ Told (now (text .entry)) (printed own (cutOutcome (now (tape .entry)) first last) numbersLine) r (now (text .exit)) ⌝ }
+{
+    let mut number: u32 = 0;
+    let part = sequencer::cut(tape, first, last, &mut number);
+    if number != 0 {
+        return refuse(text, own, number);
+    }
+    Reply {
+        status: ANSWERED,
+        length: numbers_line(text, 0, part),
+    }
+}
+
+// A list of runs: four registers, then the requests.
+fn play(values: &[u64], tapes: &[u32], text: &mut [u8]) -> Reply
+    requires { ⌜ (length (now values) ≤ mostParameters) × Within largest32 (now values) ⌝ }
+    ensures { λ r. ⌜ Told (now (text .entry)) (answers (numbersLine (afterAll (requestsOf (now (tapes .entry)) (drop 4 (now (values .entry)))) (registersIn (now (values .entry)))))) r (now (text .exit)) ⌝ }
+{
+    let mut row = [0u32; MOST_PARAMETERS];
+    let count = words(values, &mut row);
+    let requests = past_registers(&row[..count]);
+    let after = sequencer::play(tapes, requests, registers(values));
+    printing::registers(text, after)
+}
