@@ -1,0 +1,2 @@
+-- The laws of scripts.
+pub mod Laws

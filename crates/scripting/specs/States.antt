@@ -1,0 +1,56 @@
+-- The state of a script as the code holds it: a row of words, and marks in it; for contracts.
+use mathlib.Core.Path.{_≡_}
+use mathlib.Core.Bool.{cond}
+use mathlib.Core.List.{List, [], _∷_}
+use Prim.Native.Nat.{ℕ, min, _≤_}
+use lib.ListN.{length, take}
+use Rattle.refusal.specs.declared.Answer.{Answer}
+use Rattle.refusal.specs.declared.Answer.the-variants.{Value, Refused}
+use Rattle.text.specs.Rows.{Put}
+use Rattle.tool.specs.Verbs.{mostRoom}
+use Rattle.scripting.specs.declared.Marks.{Marks}
+use Rattle.scripting.specs.declared.Printed.{Printed}
+use Rattle.scripting.specs.Script.{State, Done, mostTapes, mostPrinted, mostCommanded}
+
+abbrev pub roomIn : Marks → List ℕ
+roomIn m = cond (m .roomed) (m .room ∷ []) []
+
+-- the state that marks in a row stand for, where they stand in it
+abbrev pub stateIn : Marks → List ℕ → State
+stateIn m row = record { tapes = take (m .end) row; begin = m .begin; room = roomIn m }
+
+pub record Inside (m : Marks) (row : List ℕ) : Type 0 where
+  pub size : length row ≤ mostTapes
+  pub begin : m .begin ≤ m .end
+  pub end : m .end ≤ length row
+  pub room : m .room ≤ mostRoom
+
+-- how many words of a row are used
+abbrev pub capacityOf : List ℕ → ℕ
+capacityOf row = min (length row) mostTapes
+
+-- marks brought into a row
+unfoldable pub insideOf : Marks → ℕ → Marks
+insideOf m capacity =
+    let end = min (m .end) capacity in
+    record { begin = min (m .begin) end; end = end; room = min (m .room) mostRoom; roomed = m .roomed }
+
+-- the words that an answer counts
+abbrev pub countIn : Answer → ℕ
+countIn (Value n) = n
+countIn (Refused e) = 0
+
+-- what a line did: the state that the code left, and what it printed, which is never too long. Where the row of the text is shorter, what
+-- doesn't fit is dropped.
+pub record DidWithin (most : ℕ) (done : Done) (text : List ℕ) (r : Printed) (row′ text′ : List ℕ) : Type 0 where
+  pub state : stateIn (r .marks) row′ ≡ done .state
+  pub inside : Inside (r .marks) row′
+  pub printed : Put text 0 (done .text) (r .length) text′
+  pub short : length (done .text) ≤ most
+
+-- a command, and any line
+abbrev pub Did : Done → List ℕ → Printed → List ℕ → List ℕ → Type 0
+Did = DidWithin mostCommanded
+
+abbrev pub DidLine : Done → List ℕ → Printed → List ℕ → List ℕ → Type 0
+DidLine = DidWithin mostPrinted

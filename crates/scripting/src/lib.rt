@@ -1,0 +1,36 @@
+// Scripts: command lines one after another, with a row of tapes kept between them. The definitions and the types that they name; the
+// functions over them are in the crates above.
+
+// Where the tape at hand begins in the row of tapes, where it ends, and the room that build, places and list get.
+pub struct Marks {
+    pub begin: usize,
+    pub end: usize,
+    pub room: usize,
+    pub roomed: bool,
+}
+
+// The marks that a line left, and how many bytes it printed.
+pub struct Printed {
+    pub marks: Marks,
+    pub length: usize,
+}
+
+// The most words of a row of tapes.
+pub const MOST_TAPES: usize = 4096;
+
+// The most bytes of a line. One byte more is enough to see that there are too many.
+pub const MOST_LINE: usize = 4095;
+
+// No line prints more.
+pub const MOST_PRINTED: usize = 65536;
+
+// The most elements of a buffer.
+pub const MOST_ROOM: usize = 4096;
+
+// At first there is no tape and no room.
+pub const START: Marks = Marks {
+    begin: 0,
+    end: 0,
+    room: 0,
+    roomed: false,
+};
