@@ -1,0 +1,65 @@
+-- `drop_words` meets its contract: the tape keeps its words but the last ones, or none where it has no more than those.
+use mathlib.Core.Path.{_≡_, ap}
+use Prim.Native.Nat.{_-_}
+use native.Mathlib.Omega.{arith}
+use lib.ListN.{getD}
+use borrow.Author.Needs.{needs}
+use Rattle.scripting.specs.declared.Marks.{Marks}
+use Rattle.scripting.proofs.Laws.Edits.{did-dropped}
+use Rattle.script.proofs.edits.drop_words.Statement.{statement}
+use Rattle.script.proofs.edits.drop_words.Tie as tie
+
+parameter-requires : tie.Need-parameter-requires
+parameter-requires c κs = search needs
+
+cast-count : tie.Need-cast-count
+cast-count c = search needs
+
+sub-if1 : tie.Need-sub-if1
+sub-if1 c = search needs
+
+ending-requires : tie.Need-ending-requires
+ending-requires c κs = search needs
+
+count-words-requires : tie.Need-count-words-requires
+count-words-requires c κs = omega (arith, ap (λ (m : Marks). m .begin) (c .before .ending .ensures), ap (λ (m : Marks). m .end) (c .before .ending .ensures))
+
+same-length : tie.Need-same-length
+same-length c = search needs
+
+returns : tie.Need-returns
+returns c = let n : c .before .before .before .before .before .before .before .parameter .result ≡ getD (c .before .before .before .before .before .before .before .before .before .before .before .args .values .now) 0 0 = c .before .before .before .before .before .before .before .parameter .ensures in
+    did-dropped (c .before .before .before .before .before .before .before .before .before .before .before .pre .0) (c .before .before .before .before .before .before .before .before .before .before .before .args .values .now) (c .before .before .before .before .before .before .before .before .before .before .before .args .marks .begin) (omega (arith, n, c .before .before .before .before .before .if1 .taken)) (c .before .before .before .before .ending .ensures) (c .before .before .count-words .ensures)
+
+sub-ending : tie.Need-sub-ending
+sub-ending c = search needs
+
+ending-requires-2 : tie.Need-ending-requires-2
+ending-requires-2 c κs = search needs
+
+count-words-requires-2 : tie.Need-count-words-requires-2
+count-words-requires-2 c κs = omega (arith, ap (λ (m : Marks). m .begin) (c .before .ending2 .ensures), ap (λ (m : Marks). m .end) (c .before .ending2 .ensures))
+
+same-length-2 : tie.Need-same-length-2
+same-length-2 c = search needs
+
+returns-2 : tie.Need-returns-2
+returns-2 c = let n : c .before .before .before .before .before .before .before .before .parameter .result ≡ getD (c .before .before .before .before .before .before .before .before .before .before .before .before .args .values .now) 0 0 = c .before .before .before .before .before .before .before .before .parameter .ensures in
+    did-dropped (c .before .before .before .before .before .before .before .before .before .before .before .before .pre .0) (c .before .before .before .before .before .before .before .before .before .before .before .before .args .values .now) (c .before .before .before .before .before .before .before .before .before .before .before .before .args .marks .end - c .before .before .before .before .before .before .before .before .parameter .result) (omega (arith, n, c .before .before .before .before .before .before .if1 .left, c .before .before .before .before .before .before .before .before .before .before .before .before .pre .0 .begin)) (c .before .before .before .before .ending2 .ensures) (c .before .before .count-words2 .ensures)
+
+pub drop-words-spec : {M : Type 1} → statement M
+drop-words-spec =
+    tie.close
+    (tie.spec
+    parameter-requires
+    cast-count
+    sub-if1
+    ending-requires
+    count-words-requires
+    same-length
+    returns
+    sub-ending
+    ending-requires-2
+    count-words-requires-2
+    same-length-2
+    returns-2)

@@ -1,0 +1,46 @@
+-- `is_line` meets its contract: each return is a case of the lengths, the last byte and the bytes in front of it.
+use mathlib.Core.Path.{sym}
+use native.Mathlib.Omega.{arith}
+use lib.ListN.{length}
+use lib.Seq.{length-take-le}
+use borrow.Author.Needs.{needs}
+use Rattle.scripting.proofs.Laws.Verdicts.{line-length, line-end, line-same}
+use Rattle.script.proofs.whole_line.is_line.Statement.{statement}
+use Rattle.script.proofs.whole_line.is_line.Tie as tie
+
+returns : tie.Need-returns
+returns c = sym (line-length (c .before .before .before .args .text .now) (c .before .before .before .args .line .now) (λ e. omega (arith, e, c .if1 .taken)))
+
+sub-if2 : tie.Need-sub-if2
+sub-if2 c = search needs
+
+returns-2 : tie.Need-returns-2
+returns-2 c = sym (line-length (c .before .before .before .before .args .text .now) (c .before .before .before .before .args .line .now) (λ e. c .if2 .taken (omega (arith, e))))
+
+shared-slice-read-if3 : tie.Need-shared-slice-read-if3
+shared-slice-read-if3 c = search needs
+
+returns-3 : tie.Need-returns-3
+returns-3 c = sym (line-end (c .before .before .before .before .before .before .args .text .now) (c .before .before .before .before .before .before .args .line .now) (c .if3 .taken))
+
+slice-aggregate-same : tie.Need-slice-aggregate-same
+slice-aggregate-same c = sym (length-take-le (length (c .before .before .before .before .before .before .before .args .line .now)) (c .before .before .before .before .before .before .before .args .text .now) (omega (arith, c .before .before .before .before .if1 .left)))
+
+same-requires : tie.Need-same-requires
+same-requires c κs = search needs
+
+returns-4 : tie.Need-returns-4
+returns-4 c = line-same (c .before .before .before .before .before .before .before .before .args .text .now) (c .before .before .before .before .before .before .before .before .args .line .now) (omega (arith, c .before .before .before .before .if2 .left, c .before .before .before .before .before .if1 .left)) (c .before .before .if3 .left) (c .same .result) (c .same .ensures)
+
+pub is-line-spec : {M : Type 1} → statement M
+is-line-spec =
+    tie.close
+    (tie.spec
+    returns
+    sub-if2
+    returns-2
+    shared-slice-read-if3
+    returns-3
+    slice-aggregate-same
+    same-requires
+    returns-4)
