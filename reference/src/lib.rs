@@ -12,8 +12,14 @@
 //! | running | each register travels with its inverse, so that a division costs no inversion |
 //!
 //! Each service answers `Err(number)` with document 01's refusal number, the first that applies.
+//!
+//! `tool` and `script` are a second implementation of docs/TOOL.md over these services. `drawing` makes
+//! inputs without a pattern for comparisons.
 
+pub mod drawing;
 pub mod refusal;
+pub mod script;
+pub mod tool;
 
 mod fibonacci;
 mod listing;
@@ -24,6 +30,7 @@ mod tape;
 
 pub use fibonacci::{fibonacci, height, hofstadter, number, places, write_places};
 pub use listing::listing;
-pub use machine::{cut, load, run, trace};
-pub use modular::inverse;
+pub use machine::{cut, load, play, run, trace};
+pub use modular::{inverse, is_prime, power, product};
 pub use program::{build, check};
+pub use tape::{decode, Meaning};

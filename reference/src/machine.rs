@@ -1,4 +1,4 @@
-//! Load, run, trace and cut: what the steps of an accepted tape do.
+//! Load, run, lists of runs, trace and cut: what the steps of an accepted tape do.
 
 use crate::modular::Modulus;
 use crate::program::accept;
@@ -71,6 +71,18 @@ pub fn cut(tape: &[u32], first: u32, last: u32) -> Result<&[u32], u32> {
     let program = accept(tape)?;
     let (first, last) = (position(&program, first)?, position(&program, last)?);
     program.steps.get(first..last).ok_or(refusal::POSITION)
+}
+
+/// A list of runs on tapes that stand in one row of words. A request is four numbers: where its tape
+/// begins and ends in the row, and two positions; numbers left over are no request. A tape that isn't
+/// inside the row is the empty one. Each run gets the registers as the runs before it left them, and a
+/// refused run leaves them.
+pub fn play(row: &[u32], requests: &[u32], registers: [u32; 4]) -> [u32; 4] {
+    requests.chunks_exact(4).fold(registers, |before, request| {
+        let (begin, end) = (request[0] as usize, request[1] as usize);
+        let tape = row.get(begin..end).unwrap_or_default();
+        run(tape, before, request[2], request[3]).unwrap_or(before)
+    })
 }
 
 /// A register with its inverse modulo p.

@@ -109,8 +109,25 @@ fn inverse_modulo_even(k: u64, r: u64) -> Option<u64> {
     Some((1 + r * (k - back)) / k)
 }
 
+/// x × y modulo m; 0 where m is 0.
+pub fn product(x: u32, y: u32, m: u32) -> u32 {
+    if m == 0 {
+        return 0;
+    }
+    // The product of two 32-bit numbers fits 64 bits, so it needs no reduction before.
+    Modulus::new(m).product(x as u64, y as u64) as u32
+}
+
+/// base^exponent modulo m; 0 where m is 0.
+pub fn power(base: u32, exponent: u32, m: u32) -> u32 {
+    if m == 0 {
+        return 0;
+    }
+    Modulus::new(m).power(base as u64, exponent as u64) as u32
+}
+
 /// Whether n is a prime, by Miller–Rabin; the bases 2, 7 and 61 decide every 32-bit number.
-pub(crate) fn is_prime(n: u32) -> bool {
+pub fn is_prime(n: u32) -> bool {
     if n < 3 || n.is_multiple_of(2) {
         return n == 2;
     }
@@ -178,6 +195,26 @@ mod tests {
         ] {
             assert!(!is_prime(n));
         }
+    }
+
+    #[test]
+    fn products_and_powers_agree_with_repeated_multiplication() {
+        for m in (1..40).chain([u32::MAX, u32::MAX - 4]) {
+            for base in [0, 1, 2, 3, 39, u32::MAX] {
+                let mut expected = 1 % m;
+                for exponent in 0..40 {
+                    assert_eq!(
+                        power(base, exponent, m),
+                        expected,
+                        "{base}^{exponent} mod {m}"
+                    );
+                    let next = (expected as u128 * base as u128 % m as u128) as u32;
+                    assert_eq!(product(expected, base, m), next);
+                    expected = next;
+                }
+            }
+        }
+        assert_eq!([product(3, 5, 0), power(2, 10, 0)], [0, 0]);
     }
 
     #[test]

@@ -95,6 +95,39 @@ pub(crate) fn read(tape: &[u32]) -> Result<Program<'_>, u32> {
     }
 }
 
+/// What a word means by itself.
+#[derive(Clone, Copy, Debug, PartialEq, Eq)]
+pub enum Meaning {
+    /// The variant, any that four bits hold: check refuses those above 3, not the word.
+    Heading(u32),
+    Modulus(u32),
+    Order(u32),
+    Exponent(u32),
+    Mul(u32, u32),
+    Div(u32, u32),
+    Swp(u32, u32),
+    End(u32),
+}
+
+/// The meaning of a word, if it has one: kinds 0 and 8 to 14, another format, bits without a meaning and
+/// steps that aren't lawful have none.
+pub fn decode(word: u32) -> Option<Meaning> {
+    let value = payload(word);
+    let (target, source) = (word & REGISTER_MASK, word >> SOURCE_SHIFT & REGISTER_MASK);
+    let variant = word >> VARIANT_SHIFT & VARIANT_MASK;
+    match kind(word) {
+        HEADING if word == heading(variant) => Some(Meaning::Heading(variant)),
+        MODULUS => Some(Meaning::Modulus(value)),
+        ORDER => Some(Meaning::Order(value)),
+        EXPONENT => Some(Meaning::Exponent(value)),
+        MUL if is_step(word) => Some(Meaning::Mul(target, source)),
+        DIV if is_step(word) => Some(Meaning::Div(target, source)),
+        SWP if is_step(word) => Some(Meaning::Swp(target, source)),
+        END => Some(Meaning::End(value)),
+        _ => None,
+    }
+}
+
 /// A step word: target and source differ, a swp's target is the smaller, other bits are 0.
 fn is_step(word: u32) -> bool {
     let (target, source) = (word & REGISTER_MASK, word >> SOURCE_SHIFT & REGISTER_MASK);

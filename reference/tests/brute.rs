@@ -218,7 +218,10 @@ fn named_programs_of_large_orders() {
     let mut noise = Noise(3);
     for shift in 1..=27 {
         let bound = (1u64 << 28) - 1 - noise.below(1 << shift);
-        let p = (3..=bound as u32).rev().find(|&p| is_prime(p)).unwrap();
+        let p = (3..=bound as u32)
+            .rev()
+            .find(|&p| common::is_prime(p))
+            .unwrap();
         let r = p - 1;
         let k = (noise.below(r as u64 - 1) as u32 + 1..r)
             .find(|&k| gcd(k, r) == 1)
@@ -272,7 +275,7 @@ fn free_programs_step_by_step() {
     let mut noise = Noise(77);
     for _ in 0..150 {
         let p = (3 + noise.below(400) as u32..)
-            .find(|&p| is_prime(p))
+            .find(|&p| common::is_prime(p))
             .unwrap();
         let steps: Vec<u32> = (0..noise.below(40))
             .map(|_| random_step(&mut noise))

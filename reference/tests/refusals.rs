@@ -116,7 +116,7 @@ fn build_order() {
     }
     assert_eq!(build(7, 3, 2, u32::MAX, &mut row), Err(4));
     // The largest prime below 2^28, the largest r, a buffer one word short.
-    let p = (3..1 << 28).rev().find(|&p| is_prime(p)).unwrap();
+    let p = (3..1 << 28).rev().find(|&p| common::is_prime(p)).unwrap();
     for variant in 1..=3 {
         let count = build(p, p - 1, p - 2, variant, &mut row).unwrap();
         let mut short = vec![5; count - 1];

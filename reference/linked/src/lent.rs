@@ -1,6 +1,6 @@
 //! What is lent to a call: outputs and rows between canaries.
 
-use crate::noise::Noise;
+use reference::drawing::noise::Noise;
 
 /// Elements before and after a lent row.
 const MARGIN: usize = 8;

@@ -1,13 +1,9 @@
-//! The proved library, called through include/fibexp.h, and inputs to call it with.
+//! The proved library, called through include/fibexp.h; reference::drawing has inputs to call it with.
 //!
 //! `random` calls every service of the C interface with drawn inputs and compares the answers with
 //! this implementation's; `bench` measures both. They share the numbers of document 01 and the
 //! declarations of the header with the proved crates, and nothing else.
 
-pub mod draw;
 pub mod lent;
-pub mod noise;
-pub mod parameters;
 pub mod proved;
 pub mod tally;
-pub mod tapes;

@@ -1,5 +1,5 @@
-//! The functions of include/fibexp.h. Each answers document 01's number, 0 where the call isn't
-//! refused; `hofstadter` answers G(n).
+//! The functions of include/fibexp.h. Each service answers document 01's number, 0 where the call isn't
+//! refused; `hofstadter` answers G(n) and `height` h. `reply` answers the status of the tool's reply.
 
 mod c {
     extern "C" {
@@ -7,6 +7,7 @@ mod c {
         pub fn fibexp_places(n: u64, places: *mut u8, room: usize, count: *mut u32) -> u32;
         pub fn fibexp_number(places: *const u8, count: usize, n: *mut u64) -> u32;
         pub fn fibexp_hofstadter(n: u64) -> u64;
+        pub fn fibexp_height(r: u32) -> u32;
         pub fn fibexp_inverse(k: u32, r: u32, inverse: *mut u32) -> u32;
         pub fn fibexp_build(
             p: u32,
@@ -47,6 +48,16 @@ mod c {
             room: usize,
             written: *mut u32,
         ) -> u32;
+        pub fn fibexp_reply(
+            arguments: *const u8,
+            count: usize,
+            input: *const u8,
+            bytes: usize,
+            text: *mut u8,
+            room: usize,
+            written: *mut usize,
+        ) -> u32;
+        pub fn fibexp_reads(arguments: *const u8, count: usize) -> u32;
     }
 }
 
@@ -64,6 +75,10 @@ pub fn number(list: &[u8], n: &mut u64) -> u32 {
 
 pub fn hofstadter(n: u64) -> u64 {
     unsafe { c::fibexp_hofstadter(n) }
+}
+
+pub fn height(r: u32) -> u32 {
+    unsafe { c::fibexp_height(r) }
 }
 
 pub fn inverse(k: u32, r: u32, inverse: &mut u32) -> u32 {
@@ -104,4 +119,24 @@ pub fn listing(bytes: &[u8], lines: &mut [u8], written: &mut u32) -> u32 {
             written,
         )
     }
+}
+
+/// The arguments have a zero byte after each word.
+pub fn reply(arguments: &[u8], input: &[u8], text: &mut [u8], written: &mut usize) -> u32 {
+    unsafe {
+        c::fibexp_reply(
+            arguments.as_ptr(),
+            arguments.len(),
+            input.as_ptr(),
+            input.len(),
+            text.as_mut_ptr(),
+            text.len(),
+            written,
+        )
+    }
+}
+
+/// 1 where the tool reads a tape for these arguments.
+pub fn reads(arguments: &[u8]) -> u32 {
+    unsafe { c::fibexp_reads(arguments.as_ptr(), arguments.len()) }
 }

@@ -1,4 +1,4 @@
-//! The services of the C interface, and how often each gave each number.
+//! The services of the C interface and the tool's reply, and how often each gave each number.
 
 #[derive(Clone, Copy)]
 pub enum Service {
@@ -6,6 +6,7 @@ pub enum Service {
     Places,
     Number,
     Hofstadter,
+    Height,
     Inverse,
     Build,
     Check,
@@ -14,13 +15,15 @@ pub enum Service {
     Trace,
     Cut,
     Listing,
+    Reply,
 }
 
-const SERVICES: [Service; 12] = [
+const SERVICES: [Service; 14] = [
     Service::Fibonacci,
     Service::Places,
     Service::Number,
     Service::Hofstadter,
+    Service::Height,
     Service::Inverse,
     Service::Build,
     Service::Check,
@@ -29,6 +32,7 @@ const SERVICES: [Service; 12] = [
     Service::Trace,
     Service::Cut,
     Service::Listing,
+    Service::Reply,
 ];
 
 /// 0 and document 01's refusals.
@@ -41,6 +45,7 @@ impl Service {
             Service::Places => "places",
             Service::Number => "number",
             Service::Hofstadter => "hofstadter",
+            Service::Height => "height",
             Service::Inverse => "inverse",
             Service::Build => "build",
             Service::Check => "check",
@@ -49,16 +54,17 @@ impl Service {
             Service::Trace => "trace",
             Service::Cut => "cut",
             Service::Listing => "listing",
+            Service::Reply => "reply",
         }
     }
 
-    /// The refusals that document 01 lists for the service.
+    /// The refusals that document 01 lists for the service; of the tool's reply its other statuses.
     fn refusals(self) -> &'static [usize] {
         match self {
             Service::Fibonacci => &[13],
             Service::Places => &[5],
             Service::Number => &[13, 12],
-            Service::Hofstadter => &[],
+            Service::Hofstadter | Service::Height => &[],
             Service::Inverse => &[2, 3],
             Service::Build => &[1, 2, 3, 4, 5],
             Service::Check => &[6, 7, 4, 1, 2, 3, 8],
@@ -67,6 +73,7 @@ impl Service {
             Service::Trace => &[6, 7, 4, 1, 2, 3, 8, 10, 12],
             Service::Cut => &[6, 7, 4, 1, 2, 3, 8, 10],
             Service::Listing => &[6, 7, 4, 1, 2, 3, 8, 5],
+            Service::Reply => &[1, 2],
         }
     }
 }

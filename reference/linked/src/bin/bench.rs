@@ -7,11 +7,11 @@
 //! last a quarter of a millisecond or more. Told is the least time per call over all rounds, since what
 //! else runs on the machine only adds to it, and how many times the other's time the proved one is.
 
-use linked::noise::Noise;
-use linked::parameters::{common_divisor, power, Parameters};
 use linked::proved;
-use linked::tapes::{named, steps};
 use reference as services;
+use reference::drawing::noise::Noise;
+use reference::drawing::parameters::{common_divisor, power, Parameters};
+use reference::drawing::tapes::{named, steps};
 use std::hint::black_box;
 use std::time::{Duration, Instant};
 

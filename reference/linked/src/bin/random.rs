@@ -1,42 +1,46 @@
-//! Drawn calls of every service of the C interface, each answered by the proved library and by this
+//! Drawn calls of every function of the C interface, each answered by the proved library and by this
 //! implementation.
 //!
-//!     random [SEED [CALLS]]
+//!     random [CALLS [SEED]]
 //!
 //! Compared are the number answered, every output, and that everything else lent is as it was: rows
 //! and outputs lie between canaries, drawn anew for each call, and a refused call leaves all of them.
 //! The first difference is printed with its input and ends the program with status 1.
 //!
-//! The calls come in rounds. A round draws two tapes and makes 21 calls: of each tape check, load, run
+//! The calls come in rounds. A round draws two tapes and makes 22 calls: of each tape check, load, run
 //! and trace, of one also cut and the listing; two builds; two each of places, number, G and the
-//! inverse; a Fibonacci number. So the services over tapes, where most can go wrong, have half of the
-//! calls. Of the tapes nine in sixteen are what build writes for drawn parameters, four are hand-made,
+//! inverse; a Fibonacci number; a height. So the services over tapes, where most can go wrong, have
+//! about half of the calls. One round in four also gives the tool some forty command lines of every
+//! verb, a fifth of them damaged, with a third tape on standard input. Of the tapes nine in sixteen are what build writes for drawn parameters, four are hand-made,
 //! two have a header that belongs to other steps, one is any words; then three in eight are damaged.
 //! Half of the builds have a fault in p, r, k, the variant or all of them. The primes are those at the
 //! ends and 6000 drawn ones of every size up to 2^28.
 
-use linked::draw::{self, MOST_PLACES};
 use linked::lent::{inner, Canaries, Lent};
-use linked::noise::Noise;
-use linked::parameters::{inverse_call, Fields, Parameters};
 use linked::proved;
 use linked::tally::{Service, Tally};
-use linked::tapes::{modulus_and_order, steps, tape, ROW_WORDS};
 use reference as services;
+use reference::drawing::commands::commands;
+use reference::drawing::noise::Noise;
+use reference::drawing::parameters::{inverse_call, Fields, Parameters};
+use reference::drawing::tapes::{modulus_and_order, steps, tape, ROW_WORDS};
+use reference::drawing::values::{self as draw, MOST_PLACES};
+use reference::tool::{reads_tape, reply, Reply};
 use std::fmt::Debug;
 use std::hint::black_box;
 
 const SEED: u64 = 359_179;
 const CALLS: u64 = 10_000_000;
 const MOST_LISTING: usize = 6137;
+const MOST_TEXT: usize = 8192;
 
 fn main() {
     let mut arguments = std::env::args().skip(1).map(|text| text.parse::<u64>());
-    let (Ok(seed), Ok(calls)) = (
-        arguments.next().unwrap_or(Ok(SEED)),
+    let (Ok(calls), Ok(seed)) = (
         arguments.next().unwrap_or(Ok(CALLS)),
+        arguments.next().unwrap_or(Ok(SEED)),
     ) else {
-        eprintln!("usage: random [SEED [CALLS]]");
+        eprintln!("usage: random [CALLS [SEED]]");
         std::process::exit(2);
     };
     let mut noise = Noise::new(seed);
@@ -59,7 +63,7 @@ struct Comparison {
 
 impl Comparison {
     fn new(mut noise: Noise) -> Comparison {
-        let canaries = Canaries::drawn(&mut noise, MOST_LISTING);
+        let canaries = Canaries::drawn(&mut noise, MOST_TEXT);
         Comparison {
             noise,
             canaries,
@@ -79,12 +83,19 @@ impl Comparison {
         self.cut(&first);
         self.listing(&second);
         self.fibonacci();
+        self.height();
         for _ in 0..2 {
             self.build(fields);
             self.places();
             self.number();
             self.hofstadter();
             self.inverse();
+        }
+        if self.noise.once_in(4) {
+            let (tape, commands) = commands(fields, &mut self.noise);
+            for words in &commands {
+                self.reply(words, &tape);
+            }
         }
     }
 
@@ -136,6 +147,13 @@ impl Comparison {
         let (g, expected) = (proved::hofstadter(n), services::hofstadter(n));
         let call = || format!("hofstadter {n}");
         self.compare(Service::Hofstadter, call, (0, g), (0, expected));
+    }
+
+    fn height(&mut self) {
+        let r = draw::order(&mut self.noise);
+        let (h, expected) = (proved::height(r), services::height(r));
+        let call = || format!("height {r}");
+        self.compare(Service::Height, call, (0, h), (0, expected));
     }
 
     fn inverse(&mut self) {
@@ -251,8 +269,7 @@ impl Comparison {
     }
 
     fn listing(&mut self, tape: &[u32]) {
-        let mut bytes: Vec<u8> = tape.iter().flat_map(|word| word.to_le_bytes()).collect();
-        self.change_bytes(&mut bytes);
+        let bytes = self.bytes(tape);
         let text = services::listing(&bytes);
         let room = draw::room(&mut self.noise, text.len(), MOST_LISTING);
         let before = self.canaries.byte_row(&mut self.noise, room);
@@ -277,14 +294,61 @@ impl Comparison {
         );
     }
 
-    /// Once in eight draws the bytes are no whole words, or more than a tape has.
-    fn change_bytes(&mut self, bytes: &mut Vec<u8>) {
+    /// The tape's bytes; once in eight draws they are no whole words, or more than a tape has.
+    fn bytes(&mut self, tape: &[u32]) -> Vec<u8> {
+        let mut bytes: Vec<u8> = tape.iter().flat_map(|word| word.to_le_bytes()).collect();
         match self.noise.below(24) {
             0 => drop(bytes.pop()),
             1 => bytes.resize(bytes.len() + self.noise.index(8), 0),
             2 => bytes.resize(self.noise.pick(&[2044, 2047, 2048, 2049, 2052, 4096]), 0),
             _ => {}
         }
+        bytes
+    }
+
+    // ---- the tool
+
+    fn reply(&mut self, words: &[Vec<u8>], tape: &[u32]) {
+        let words: Vec<&[u8]> = words.iter().map(Vec::as_slice).collect();
+        let arguments: Vec<u8> = words
+            .iter()
+            .flat_map(|word| [word, &b"\0"[..]].concat())
+            .collect();
+        let input = self.bytes(tape);
+        let Reply { status, text } = reply(&words, &input);
+        let room = draw::room(&mut self.noise, text.len(), MOST_TEXT);
+        let before = self.canaries.byte_row(&mut self.noise, room);
+        let (mut row, mut expected) = (before.clone(), before);
+        let lent = Lent::new(&mut self.noise, |noise| noise.index(MOST_TEXT));
+        let (mut written, mut expected_written) = (lent, lent);
+        let ((number, input_after), arguments_after) = lend(&arguments, |arguments| {
+            lend(&input, |input| {
+                proved::reply(arguments, input, inner(&mut row, room), &mut written.value)
+            })
+        });
+        let reads = proved::reads(&arguments);
+        let count = room.min(text.len());
+        inner(&mut expected, room)[..count].copy_from_slice(&text[..count]);
+        expected_written.value = count;
+        let expected_reads = reads_tape(&words) as u32;
+        let call = || {
+            let line = String::from_utf8_lossy(&arguments);
+            format!("reply {line:?} to {input:02X?} into {room}")
+        };
+        let answered = (reads, written, row, arguments_after, input_after);
+        let expected = (
+            expected_reads,
+            expected_written,
+            expected,
+            arguments.clone(),
+            input.clone(),
+        );
+        self.compare(
+            Service::Reply,
+            call,
+            (number, answered),
+            (status as u32, expected),
+        );
     }
 
     // ---- comparing
@@ -308,13 +372,13 @@ impl Comparison {
     }
 }
 
-/// Lends a copy of the tape to a call, and gives it back beside the answer.
-fn lend(tape: &[u32], call: impl FnOnce(&[u32]) -> u32) -> (u32, Vec<u32>) {
-    let mut row = tape.to_vec();
-    let number = call(&row);
+/// Lends a copy of a row to a call, and gives it back beside the answer.
+fn lend<T: Clone, A>(lent: &[T], call: impl FnOnce(&[T]) -> A) -> (A, Vec<T>) {
+    let mut row = lent.to_vec();
+    let answer = call(&row);
     // The compiler may not take it for granted that the call left the row as it was.
     black_box(&mut row);
-    (number, row)
+    (answer, row)
 }
 
 fn four_words(noise: &mut Noise) -> [u32; 4] {

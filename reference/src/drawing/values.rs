@@ -1,8 +1,8 @@
-//! Numbers, lists of places, positions, registers, bases and rooms.
+//! Numbers, orders, lists of places, positions, registers, bases and rooms.
 
-use crate::noise::Noise;
-use crate::parameters::power;
-use reference::{fibonacci, places};
+use crate::drawing::noise::Noise;
+use crate::drawing::parameters::power;
+use crate::{fibonacci, places};
 
 /// The most places of a form.
 pub const MOST_PLACES: usize = 46;
@@ -29,6 +29,23 @@ pub fn number(noise: &mut Noise) -> u64 {
         }
         _ => noise.of_any_size(64),
     }
+}
+
+/// A number to take the height of: of every size, or beside a Lucas number, where the height changes.
+pub fn order(noise: &mut Noise) -> u32 {
+    match noise.below(2) {
+        0 => noise.of_any_size(32) as u32,
+        _ => near_lucas(noise),
+    }
+}
+
+/// A Lucas number from L_1 to L_45, less 1, or more by 1.
+fn near_lucas(noise: &mut Noise) -> u32 {
+    let (mut lucas, mut after) = (1u32, 3u32);
+    for _ in 0..noise.below(45) {
+        (lucas, after) = (after, lucas.wrapping_add(after));
+    }
+    lucas - 1 + noise.below(3)
 }
 
 /// A list of places: a form, the form of a sum above 64 bits, a form with a fault, or any bytes.

@@ -1,6 +1,6 @@
 //! p, r, k and variants: lawful ones, and ones with a fault.
 
-use crate::noise::Noise;
+use crate::drawing::noise::Noise;
 
 /// Payloads of tape words, and moduli, are below this.
 pub const PAYLOADS: u32 = 1 << 28;
@@ -9,6 +9,9 @@ pub const PAYLOADS: u32 = 1 << 28;
 const FACTORS: u32 = 1 << 14;
 /// How many primes are drawn; the ends and small ones come on top.
 const DRAWN_PRIMES: usize = 6000;
+/// The same where the primes are small, and their limit.
+const FEW_PRIMES: usize = 200;
+const SMALL: u32 = 1 << 11;
 
 /// Both ends of the range, the worked example's, and small ones.
 const CHOSEN_PRIMES: [u32; 16] = [
@@ -50,9 +53,19 @@ pub struct Fields {
 }
 
 impl Fields {
+    /// Primes of every size up to 28 bits.
     pub fn drawn(noise: &mut Noise) -> Fields {
+        Fields::below(PAYLOADS, DRAWN_PRIMES, noise)
+    }
+
+    /// Small primes, whose tapes are short, and the chosen ones.
+    pub fn small(noise: &mut Noise) -> Fields {
+        Fields::below(SMALL, FEW_PRIMES, noise)
+    }
+
+    fn below(limit: u32, count: usize, noise: &mut Noise) -> Fields {
         let factors = primes_below(FACTORS);
-        let drawn = (0..DRAWN_PRIMES).map(|_| drawn_prime(noise, &factors));
+        let drawn = (0..count).map(|_| drawn_prime(noise, limit, &factors));
         let primes: Vec<u32> = CHOSEN_PRIMES.into_iter().chain(drawn).collect();
         let fields = primes
             .iter()
@@ -241,9 +254,9 @@ fn is_prime(n: u32, factors: &[u32]) -> bool {
         .all(|&d| !n.is_multiple_of(d))
 }
 
-/// A prime from 3 on below 2^28 of a drawn bit length.
-fn drawn_prime(noise: &mut Noise, factors: &[u32]) -> u32 {
-    let start = noise.below(PAYLOADS) >> noise.below(27);
+/// A prime from 3 on below a limit of at most 2^28, of a drawn bit length.
+fn drawn_prime(noise: &mut Noise, limit: u32, factors: &[u32]) -> u32 {
+    let start = noise.below(limit) >> noise.below(limit.ilog2() - 1);
     (3..=start.max(3))
         .rev()
         .find(|&n| is_prime(n, factors))

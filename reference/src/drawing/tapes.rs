@@ -1,10 +1,10 @@
 //! Tapes: built ones, hand-made ones, ones at the edge of the exponents' range, any words; and damage.
 
-use crate::noise::Noise;
-use crate::parameters::{
+use crate::build;
+use crate::drawing::noise::Noise;
+use crate::drawing::parameters::{
     common_divisor, faulty_exponent, faulty_order, Fields, Parameters, PAYLOADS,
 };
-use reference::build;
 
 /// A row that has room for every tape, and for ones too long.
 pub const ROW_WORDS: usize = 640;
@@ -86,8 +86,14 @@ fn free(fields: &Fields, noise: &mut Noise) -> Vec<u32> {
     laid_out([0, fields.modulus(noise), r, k], &steps)
 }
 
+/// A hand-made program of up to twenty lawful steps.
+pub fn short(p: u32, noise: &mut Noise) -> Vec<u32> {
+    let steps: Vec<u32> = (0..noise.below(20)).map(|_| step(noise)).collect();
+    laid_out([0, p, 0, 0], &steps)
+}
+
 /// A hand-made program after which an exponent is 2^62, or beside it, or that with a minus sign.
-fn edge(fields: &Fields, noise: &mut Noise) -> Vec<u32> {
+pub fn edge(fields: &Fields, noise: &mut Noise) -> Vec<u32> {
     let highest = EXPONENT_LIMIT - 1 + noise.below(3) as u64;
     let kind = noise.pick(&[MUL, DIV]);
     let mut steps = loop {
@@ -128,7 +134,7 @@ fn header_and_steps(fields: &Fields, noise: &mut Noise) -> Vec<u32> {
 }
 
 /// The steps of a named program under a header of which one word is another.
-fn header_of(fields: &Fields, noise: &mut Noise) -> Vec<u32> {
+pub fn header_of(fields: &Fields, noise: &mut Noise) -> Vec<u32> {
     let mut tape = named(fields.lawful(noise));
     change_header(&mut tape, fields, noise);
     tape
@@ -145,6 +151,14 @@ fn words(noise: &mut Noise) -> Vec<u32> {
                 noise.between(MUL, SWP) * PAYLOADS + noise.below(20)
             }
         })
+        .collect()
+}
+
+/// Fewer words than a tape has.
+pub fn too_short(noise: &mut Noise) -> Vec<u32> {
+    let length = noise.index(FRAME_WORDS);
+    (0..length as u32)
+        .map(|at| header_word(at, noise.below(4)))
         .collect()
 }
 
@@ -178,7 +192,7 @@ fn two_registers(noise: &mut Noise) -> (u32, u32) {
 }
 
 /// A lawful step.
-fn step(noise: &mut Noise) -> u32 {
+pub fn step(noise: &mut Noise) -> u32 {
     let kind = noise.between(MUL, SWP);
     let (target, source) = two_registers(noise);
     if kind == SWP {

@@ -1,0 +1,139 @@
+//! Tapes behind each other, lists of runs on them, and a row that is full.
+
+use crate::drawing::lines::Lines;
+use crate::drawing::noise::Noise;
+use crate::drawing::parameters::{power, Fields, Parameters};
+use crate::drawing::tapes::{named, short};
+use crate::drawing::values;
+
+/// Moduli and orders of which the row has several programs each.
+const FIELDS: [(u32, u32); 3] = [(31, 5), (359, 179), (65537, 256)];
+const TAPES: usize = 24;
+const LISTS: usize = 300;
+/// The row holds so many words.
+const MOST_ROW_WORDS: u32 = 4096;
+/// So many are left free before the row is full.
+const LEFT: u32 = 10;
+
+/// A tape of the row.
+struct Standing {
+    begin: u32,
+    end: u32,
+    p: u32,
+}
+
+/// Puts tapes behind each other and plays lists on them.
+pub(super) fn tapes_in_a_row(lines: &mut Lines) {
+    lines.comment("tapes behind each other, and lists of runs on them");
+    lines.hold(Vec::new());
+    let mut row = Vec::new();
+    for number in 0..TAPES {
+        let (p, r) = FIELDS[number % FIELDS.len()];
+        let tape = stood(&mut lines.noise, p, r);
+        let begin = lines.before;
+        let end = begin + tape.len() as u32;
+        row.push(Standing { begin, end, p });
+        lines.hold(tape);
+        leave(lines);
+    }
+    for _ in 0..LISTS {
+        let list = list(&mut lines.noise, &row, lines.before);
+        lines.small_call("play", &list);
+    }
+}
+
+fn leave(lines: &mut Lines) {
+    lines.line(b"behind");
+    lines.before += lines.tape.len() as u32;
+    lines.tape.clear();
+}
+
+/// A named program, once in eight draws with a step changed; once in six a program by hand.
+fn stood(noise: &mut Noise, p: u32, r: u32) -> Vec<u32> {
+    if noise.once_in(6) {
+        return short(p, noise);
+    }
+    // Each is odd and none is 0 modulo 5 or 179, so none shares a factor with the order.
+    let k = noise.pick(&[1, 3, 77, 101]) % r;
+    let variant = noise.between(1, 3);
+    let mut tape = named(Parameters { p, r, k, variant });
+    if noise.once_in(8) {
+        let at = 4 + noise.index(tape.len() - 5);
+        tape[at] ^= 3 << 28;
+    }
+    tape
+}
+
+/// Four registers and up to 15 requests: most on programs of one p, end to end in either direction.
+fn list(noise: &mut Noise, row: &[Standing], size: u32) -> Vec<u32> {
+    let (p, r) = noise.pick(&FIELDS);
+    let mut numbers = if noise.once_in(2) {
+        vec![1, power(noise.between(1, p - 1), (p - 1) / r, p), 1, 1]
+    } else {
+        values::registers(noise, p, r).to_vec()
+    };
+    for _ in 0..noise.below(16) {
+        let mut tape = &row[noise.index(row.len())];
+        while tape.p != p && !noise.once_in(8) {
+            tape = &row[noise.index(row.len())];
+        }
+        numbers.extend(request(noise, tape, size));
+    }
+    let left = noise.index(4).min(64 - numbers.len());
+    numbers.extend((0..left).map(|_| noise.below(size)));
+    numbers
+}
+
+fn request(noise: &mut Noise, tape: &Standing, size: u32) -> [u32; 4] {
+    let &Standing { begin, end, .. } = tape;
+    let (from, to) = values::positions(noise, end - begin - 5);
+    match noise.below(16) {
+        0 => [begin, size + noise.below(3), from, to],
+        1 => [end, begin, from, to],
+        2 => [begin + 1, end, from, to],
+        3 => [begin, noise.word(), from, to],
+        _ => [begin, end, from, to],
+    }
+}
+
+/// Fills the row, and then lines that would make it longer.
+pub(super) fn full_row(lines: &mut Lines, fields: &Fields) {
+    lines.comment("a row that is full but for ten words, and lines that would make it longer");
+    while lines.before < MOST_ROW_WORDS - LEFT {
+        let count = (MOST_ROW_WORDS - LEFT - lines.before).min(500);
+        let words: Vec<u32> = (0..count).map(|_| lines.noise.below(10)).collect();
+        for part in words.chunks(50) {
+            lines.small_call("append", part);
+        }
+        lines.tape = words;
+        leave(lines);
+    }
+    for _ in 0..100 {
+        let held = lines.tape.len() as u32;
+        match lines.noise.below(5) {
+            0 => {
+                let parameters = fields.any(&mut lines.noise);
+                // Every named program is longer than what is left.
+                lines.build(parameters);
+            }
+            1 => change_length(lines, "tape", 0),
+            2 => change_length(lines, "append", held),
+            3 => lines.line(b"check"),
+            _ => lines.small_call(
+                "play",
+                &[1, 2, 3, 4, lines.before, lines.before + held, 0, 0],
+            ),
+        }
+    }
+}
+
+/// Words around what is left for them.
+fn change_length(lines: &mut Lines, verb: &str, held: u32) {
+    let count = lines.noise.below(LEFT + 4);
+    let words: Vec<u32> = (0..count).map(|_| lines.noise.below(10)).collect();
+    lines.small_call(verb, &words);
+    if held + count <= LEFT {
+        lines.tape.truncate(held as usize);
+        lines.tape.extend(words);
+    }
+}

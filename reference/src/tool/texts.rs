@@ -1,0 +1,72 @@
+//! The fixed texts of docs/TOOL.md: the usage, and the reasons of refusals.
+
+use super::verbs::Verb;
+use crate::refusal;
+
+/// Each complaint and each refusal begins with the tool's name.
+pub(super) const NAME: &str = "fibexp: ";
+
+pub(super) const VERSION: &str = "fibexp 1.0.0\n";
+
+pub(super) const USAGE: &str = "\
+usage: fibexp VERB PARAMETER..
+  build P R K VARIANT    write a tape; VARIANT is basic, dual, hybrid or 1 to 3
+  script                 commands from standard input, one on a line
+on the tape from standard input:
+  check                  0 where the tape is accepted
+  list                   the tape's listing
+  load BASE              the four registers to start from
+  run C D E F FROM TO    the four registers at position TO
+  power BASE             load and run: register 1 (a named program's power), the registers
+  trace POSITION         the four whole exponents
+  cut FIRST LAST         the words of the steps FIRST + 1 to LAST
+  play C D E F REQUEST.. a list of runs, each BEGIN END FROM TO: the registers at its end
+on numbers:
+  decode WORD            what a tape's word means
+  fibonacci I            the Fibonacci number of index I
+  places N               the places of the Zeckendorf form of N, highest first
+  number PLACE..         the number of these places
+  hofstadter N           G(N)
+  inverse K R            the inverse of K modulo R
+  height R               the least h above 0 with R below phi^h
+  prime N                1 where N is a prime, else 0
+  mulmod A B M           A times B modulo M
+  powmod A K M           A to the K modulo M
+  help, version          this text; the version
+";
+
+/// The reason of 6 where the bytes of standard input aren't whole words.
+pub(super) const NO_WHOLE_WORDS: &str = "standard input isn't whole words of 4 bytes";
+
+/// Why a verb refuses: the verbs whose reason differs come first.
+pub(super) fn reason(verb: Verb, number: u32) -> &'static str {
+    match (number, verb) {
+        (refusal::ORDER, Verb::Inverse) => "r must be at least 2",
+        (refusal::VARIANT, Verb::Build) => "the variant must be basic, dual or hybrid, 1 to 3",
+        (refusal::REGISTER, Verb::Run) => "each register must be from 1 to p-1",
+        (refusal::POSITION, Verb::Cut) => {
+            "first and last must be positions up to the step count, first at most last"
+        }
+        (refusal::RANGE, Verb::Number) => "the sum of the places exceeds 64 bits",
+        (refusal::INDEX, Verb::Fibonacci) => "the index must be at most 93",
+        _ => common_reason(number),
+    }
+}
+
+fn common_reason(number: u32) -> &'static str {
+    match number {
+        refusal::MODULUS => "p must be a prime from 3 to 268435455",
+        refusal::ORDER => "r must be at least 2 and divide p-1",
+        refusal::EXPONENT => "k must be from 1 to r-1 and share no factor with r",
+        refusal::VARIANT => "the tape's variant is above 3",
+        refusal::TAPE => "the buffer is shorter than the result",
+        refusal::LENGTH => "a tape has 5 to 512 words",
+        refusal::WORD => "a word, its place or the end's count breaks the layout",
+        refusal::STRANGER => "the steps aren't those built for the tape's p, r, k and variant",
+        refusal::REGISTER => "the base must be from 1 to p-1",
+        refusal::POSITION => "a position is above the step count",
+        refusal::BASE => "the base's power r isn't 1",
+        refusal::RANGE => "an exponent leaves -2^62 to 2^62",
+        _ => "not the places of a Zeckendorf form, from 92 down to 1",
+    }
+}
