@@ -1,0 +1,4 @@
+// Drawn calls of every service, against what reference/ answers.
+fn main() {
+    driver::run_script();
+}
