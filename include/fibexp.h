@@ -2,9 +2,10 @@
  * The C interface: writing and running tapes of targeted Fibonacci exponentiation. Link it with
  * target/staticlib/libcapi.a, which `rt staticlib capi` writes.
  *
- * Each function but fibexp_hofstadter answers the number of the first refusal that applies, or FIBEXP_OK. It writes
- * through its pointers on FIBEXP_OK only; fibexp_listing alone writes the line of a refused tape too. Refusals are
- * listed in the order in which they are tested.
+ * Each service but fibexp_hofstadter and fibexp_height, which refuse nothing, answers the number of the first refusal
+ * that applies, or FIBEXP_OK. It writes through its pointers on FIBEXP_OK only; fibexp_listing alone writes the line of
+ * a refused tape too. Refusals are listed in the order in which they are tested. fibexp_reply and fibexp_reads are the
+ * command-line tool over these services.
  *
  * The caller keeps to what a C declaration cannot say. A row is a pointer and a count of elements; the pointer isn't
  * null, not even where the count is 0, and it is aligned for its elements. What a function writes overlaps nothing else
@@ -69,6 +70,9 @@ uint32_t fibexp_number(const uint8_t *places, size_t count, uint64_t *n);
 /* Hofstadter's G(n), for every n. */
 uint64_t fibexp_hofstadter(uint64_t n);
 
+/* The least positive number h with r < phi^h, for every r. */
+uint32_t fibexp_height(uint32_t r);
+
 /* The inverse of k modulo r. Writes *inverse. Refusals: ORDER, EXPONENT. */
 uint32_t fibexp_inverse(uint32_t k, uint32_t r, uint32_t *inverse);
 
@@ -114,6 +118,32 @@ uint32_t fibexp_cut(const uint32_t *tape, size_t words, uint32_t first, uint32_t
  * fit: then nothing is written.
  */
 uint32_t fibexp_listing(const uint8_t *bytes, size_t count, uint8_t *lines, size_t room, uint32_t *written);
+
+/* No text of a reply has more bytes. */
+#define FIBEXP_TEXT_BYTES 8192
+
+/* The statuses of a reply. The text of an answer is for standard output, any other for standard error. */
+enum fibexp_status {
+    FIBEXP_ANSWERED = 0,
+    FIBEXP_REFUSED = 1,       /* by a service */
+    FIBEXP_NOT_UNDERSTOOD = 2 /* no verb, a wrong count of parameters, or one that isn't read */
+};
+
+/*
+ * The tool's reply to a command line and standard input, as docs/TOOL.md has it: answers its status. The arguments are
+ * the words after the tool's name, with a zero byte after each; `count` is of all these bytes. Writes the text from
+ * text[0] on and *written, the count of its bytes; those past them stay. Where the row is shorter than the text, what
+ * doesn't fit is left out, and *written is the row's length; FIBEXP_TEXT_BYTES are always enough. `script` is a verb of
+ * the program fibexp alone, and not understood here.
+ */
+uint32_t fibexp_reply(const uint8_t *arguments, size_t count, const uint8_t *input, size_t bytes, uint8_t *text,
+                      size_t room, size_t *written);
+
+/*
+ * 1 where the tool reads a tape from standard input for these arguments, else 0. It reads no more than
+ * FIBEXP_MOST_TAPE_BYTES + 4 bytes: those are already too many for a tape.
+ */
+uint32_t fibexp_reads(const uint8_t *arguments, size_t count);
 
 #ifdef __cplusplus
 }

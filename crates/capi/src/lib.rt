@@ -1,17 +1,24 @@
-// The C interface: each service under a plain name, for C and Rust to link. include/fibexp.h declares these functions. Each but
-// `fibexp_hofstadter` answers document 01's number, 0 on success, and writes through its references only then; `fibexp_listing` writes
-// the line of a refused tape too.
+// The C interface: each service under a plain name, for C and Rust to link, and the command-line tool. include/fibexp.h declares these
+// functions. Each service but `fibexp_hofstadter` and `fibexp_height`, which refuse nothing, answers document 01's number, 0 on success,
+// and writes through its references only then; `fibexp_listing` writes the line of a refused tape too. `fibexp_reply` and `fibexp_reads`
+// are the tool.
 mod memory;
 
 ghost use mathlib.Core.Path.{_≡_};
+ghost use Prim.Native.Nat.{_≤_};
 ghost use lib.ListN.{length, take, drop};
 ghost use Rattle.refusal.specs.Outcomes.{numberIn, after};
 ghost use Rattle.modular.specs.Inverses.{inverseOutcome};
 ghost use Rattle.fibonacci.specs.Hofstadter.{G};
+ghost use Rattle.fibonacci.specs.Height.{height};
 ghost use Rattle.fibonacci.specs.Services.{fibonacciOutcome, placesOutcome, placesRow, numberOutcome};
 ghost use Rattle.program.specs.Services.{roomOutcome, buildOutcome, buildRow, checkOutcome};
 ghost use Rattle.sequencer.specs.Services.{loadOutcome, runOutcome, traceOutcome, cutOutcome, cutPart, cutStart, cutCount};
 ghost use Rattle.listing.specs.Listing.{listingOf, listingAnswer, listingRow};
+ghost use Rattle.text.specs.Reading.{wordsOf};
+ghost use Rattle.text.specs.Rows.{Put};
+ghost use Rattle.tool.specs.Replies.{bit, reply, readsTape};
+ghost use Rattle.tool.specs.Rows.{mostText};
 use memory::registers_in;
 use memory::store_exponents;
 use memory::store_registers;
@@ -53,6 +60,14 @@ pub extern "C" fn fibexp_hofstadter(n: u64) -> u64
     ensures { λ r. ⌜ r ≡ G n ⌝ }
 {
     fibonacci::hofstadter(n)
+}
+
+// Document 01's h, which refuses nothing either: the least positive number with r < phi^h.
+#[no_mangle]
+pub extern "C" fn fibexp_height(r: u32) -> u32
+    ensures { λ h. ⌜ h ≡ height r ⌝ }
+{
+    fibonacci::height(r)
 }
 
 // The inverse of k modulo r: 2, 3.
@@ -159,4 +174,34 @@ pub extern "C" fn fibexp_listing(bytes: &[u8], lines: &mut [u8], written: &mut u
     }
     *written = listed.written as u32;
     listed.number
+}
+
+// The tool's reply to a command line and standard input: its status, 0 answered, 1 refused, 2 not understood. Its text is put from the
+// row's start, and `written` is how many bytes of it stand there; in a row of `tool::MOST_TEXT` bytes or more, all. The arguments are the
+// words after the tool's name, a zero byte after each.
+#[no_mangle]
+pub extern "C" fn fibexp_reply(
+    arguments: &[u8],
+    input: &[u8],
+    text: &mut [u8],
+    written: &mut usize,
+) -> u32
+    ensures { λ status. ⌜ status ≡ reply (wordsOf (now (arguments .entry))) (now (input .entry)) .status ⌝ }
+    ensures { λ _. ⌜ Put (now (text .entry)) 0 (reply (wordsOf (now (arguments .entry))) (now (input .entry)) .text) (now (written .exit)) (now (text .exit)) ⌝ }
+    ensures { λ _. ⌜ length (reply (wordsOf (now (arguments .entry))) (now (input .entry)) .text) ≤ mostText ⌝ }
+{
+    let told = command::reply(arguments, input, text);
+    *written = told.length;
+    told.status
+}
+
+// 1 where the tool reads a tape from standard input for a command line, else 0.
+#[no_mangle]
+pub extern "C" fn fibexp_reads(arguments: &[u8]) -> u32
+    ensures { λ r. ⌜ r ≡ bit (readsTape (wordsOf (now (arguments .entry)))) ⌝ }
+{
+    if command::reads_tape(arguments) {
+        return 1;
+    }
+    0
 }
