@@ -36,11 +36,12 @@ pub data Asked : Type 0 where
 abbrev pub takes : Row → ℕ → Bool
 takes row count = leb (row .least) count && leb count (row .most)
 
--- a verb's row, the name and the parameters behind it
+-- a verb with its parameters, or the first of them that isn't read
 abbrev pub withNumbers : Row → List (List ℕ) → Numbers → Asked
 withNumbers row parameters (all values) = known row values
 withNumbers row parameters (stopped place) = unread (getD parameters place []) row place
 
+-- by the row of the first word, that word, and those behind it
 abbrev pub askedOf : Bool → Row → List ℕ → List (List ℕ) → Asked
 askedOf inScript row name parameters =
     cond (isHidden inScript (row .verb)) (noVerb name)

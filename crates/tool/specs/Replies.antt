@@ -1,7 +1,8 @@
 -- The reply to a command line: a status and a text, which goes to standard output where the call is answered, else to standard error.
+use mathlib.Core.Path.{_≡_}
 use mathlib.Core.Bool.{Bool, false, not, _&&_, cond}
 use mathlib.Core.List.{List, [], _∷_}
-use Prim.Native.Nat.{ℕ, _*_, _^_, _%_}
+use Prim.Native.Nat.{ℕ, _*_, _^_, _%_, _<_}
 use lib.Dec.{eqb}
 use lib.ListN.{length, getD, drop}
 use Rattle.refusal.specs.Outcomes.{Outcome, refused, answered}
@@ -57,6 +58,15 @@ standardOutput r = cond (eqb (r .status) 0) (r .text) []
 
 abbrev pub standardError : Replied → List ℕ
 standardError r = cond (eqb (r .status) 0) [] (r .text)
+
+-- Standard output has the text of what is answered and nothing else, standard error every other text. No text is empty, so standard output
+-- is empty exactly where the call was refused or not understood.
+pub record Streams (r : Replied) : Type 0 where
+  pub some : 0 < length (r .text)
+  pub results : r .status ≡ 0 → standardOutput r ≡ r .text
+  pub empty : ¬ (r .status ≡ 0) → standardOutput r ≡ []
+  pub silent : r .status ≡ 0 → standardError r ≡ []
+  pub told : ¬ (r .status ≡ 0) → standardError r ≡ r .text
 
 -- ---- what each verb prints for its parameters
 

@@ -17,8 +17,8 @@ use Rattle.tool.specs.Replies.{Replied}
 abbrev pub mostText : ℕ
 mostText = 8192
 
--- a reply stands in a row from its start: its status, its text, which is never too long, and how many bytes it has. Where the row is
--- shorter, what doesn't fit is dropped.
+-- a reply stands in a row from its start: its status, its text, which is never too long, and how many of its bytes stand there. Where the
+-- row is shorter, what doesn't fit is dropped.
 pub record Told (before : List ℕ) (r : Replied) (told : Reply) (after : List ℕ) : Type 0 where
   pub status : told .status ≡ r .status
   pub text : Put before 0 (r .text) (told .length) after
@@ -40,7 +40,7 @@ askedFor (Known row count) words values = known row (take count values)
 abbrev pub longestName : ℕ
 longestName = 10
 
--- a name is one of the table, and parameters are in the row and in their range
+-- a name is as short as those of the table, and parameters are in the row and in their range
 abbrev pub InRange : Call → List (List ℕ) → List ℕ → Type 0
 InRange NoWord words values = 0 ≤ 0
 InRange NoVerb words values = 0 ≤ 0

@@ -73,7 +73,7 @@ pub struct CommandLine {
     pub values: [u64; MOST_PARAMETERS],
 }
 
-// A reply whose text stands in a row: its status, 0 answered, 1 refused, 2 not understood, and how many bytes the text has.
+// A reply whose text stands in a row: its status, 0 answered, 1 refused, 2 not understood, and how many bytes of the text stand there.
 pub struct Reply {
     pub status: u32,
     pub length: usize,

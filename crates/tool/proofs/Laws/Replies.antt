@@ -1,5 +1,4 @@
 -- No text of a reply is empty, so standard output is empty exactly where the call was refused or not understood.
-use mathlib.Core.Path.{_≡_, ap}
 use mathlib.Core.Bool.{Bool, false}
 use mathlib.Core.List.{List, [], _∷_, _++_}
 use Prim.Native.Nat.{ℕ, _+_, _<_}
@@ -30,7 +29,7 @@ use Rattle.tool.specs.declared.Verb.{Verb}
 use Rattle.tool.specs.declared.Verb.the-variants.{Unknown, Build, Script, Help, Version, OnTape, OnNumbers, InScript}
 use Rattle.tool.specs.Texts.{exponentsLine, powerLines, meaning, stepMeaning, refusalLine, noVerbLine, wrongCountLine, unreadLine, lines, usage}
 use Rattle.tool.specs.Calls.{Asked, noWord, noVerb, wrongCount, unread, known, askedBy}
-use Rattle.tool.specs.Replies.{Replied, printed, at, registersIn, mostWords, standardOutput, standardError, built, onNumbers, onTape, means, ownIn, replyTo, reply, isWhole}
+use Rattle.tool.specs.Replies.{Replied, printed, at, registersIn, mostWords, Streams, built, onNumbers, onTape, means, ownIn, replyTo, reply, isWhole}
 
 -- ---- texts
 
@@ -132,31 +131,16 @@ reply-some (known row values) w tape tapes = means-some (row .verb) (ownIn row w
 
 -- ---- the streams
 
--- exactly one of the two streams is empty, by the status
-module _ (r : Replied) (some : 0 < length (r .text)) where
-  output-some : r .status ≡ 0 → 0 < length (standardOutput r)
-  output-some e = rw (eq-eqb (r .status) 0 e) some
-
-  output-none : ¬ (r .status ≡ 0) → standardOutput r ≡ []
-  output-none e = rw (ne-eqb (r .status) 0 e)
-
-  error-none : r .status ≡ 0 → standardError r ≡ []
-  error-none e = rw (eq-eqb (r .status) 0 e)
-
-pub record Streams (r : Replied) : Type 0 where
-  -- standard output is empty exactly where the call was refused or not understood
-  pub empty : ¬ (r .status ≡ 0) → standardOutput r ≡ []
-  pub results : standardOutput r ≡ [] → ¬ (r .status ≡ 0)
-  -- and standard error where it was answered
-  pub silent : r .status ≡ 0 → standardError r ≡ []
+streams : (r : Replied) → 0 < length (r .text) → Streams r
+streams r some =
+    record {
+      some = some;
+      results = λ e. rw (eq-eqb (r .status) 0 e);
+      empty = λ e. rw (ne-eqb (r .status) 0 e);
+      silent = λ e. rw (eq-eqb (r .status) 0 e);
+      told = λ e. rw (ne-eqb (r .status) 0 e);
+    }
 
 pub reply-empty : (words : List (List ℕ)) (input : List ℕ) → Streams (reply words input)
 unfolding reply
-reply-empty words input =
-    let r = reply words input in
-    let some = reply-some (askedBy false words) (isWhole input) _ _ in
-    record {
-      empty = output-none r some;
-      results = λ none answered. let h = output-some r some answered in let z = ap length none in omega (arith, h, z);
-      silent = error-none r some;
-    }
+reply-empty words input = streams (reply words input) (reply-some (askedBy false words) (isWhole input) _ _)
