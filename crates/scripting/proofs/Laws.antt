@@ -1,4 +1,4 @@
--- Another tape at hand, what each verb of a script does, a line's bytes, verdicts, a line by what it is, and what is put into a room.
+-- Another tape at hand, what each verb of a script does, a line by what it is, what is put into a room, and lines one after another.
 pub mod Tapes
 pub mod Edits
 pub mod Equals
@@ -6,3 +6,4 @@ pub mod Verdicts
 pub mod Judging
 pub mod Rooms
 pub mod Commands
+pub mod Folding

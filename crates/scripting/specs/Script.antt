@@ -229,10 +229,11 @@ lineDone capacity line s =
     (cond (ltb (equalsIn line) (length line)) (judged (commandDone capacity (take (equalsIn line) line) s) (drop (equalsIn line + 3) line))
     (commandDone capacity line s)))
 
--- no line prints more, and no command as much
+-- no line prints more
 abbrev pub mostPrinted : ℕ
 mostPrinted = 65536
 
+-- and no command line more than this, so that a verdict has room behind it
 abbrev pub mostCommanded : ℕ
 mostCommanded = 57344
 

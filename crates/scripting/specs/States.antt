@@ -1,7 +1,7 @@
 -- The state of a script as the code holds it: a row of words, and marks in it; for contracts.
 use mathlib.Core.Path.{_≡_}
 use mathlib.Core.Bool.{cond}
-use mathlib.Core.List.{List, [], _∷_}
+use mathlib.Core.List.{List, [], _∷_, _++_}
 use Prim.Native.Nat.{ℕ, min, _≤_}
 use lib.ListN.{length, take}
 use Rattle.refusal.specs.declared.Answer.{Answer}
@@ -10,7 +10,7 @@ use Rattle.text.specs.Rows.{Put}
 use Rattle.tool.specs.Verbs.{mostRoom}
 use Rattle.scripting.specs.declared.Marks.{Marks}
 use Rattle.scripting.specs.declared.Printed.{Printed}
-use Rattle.scripting.specs.Script.{State, Done, mostTapes, mostPrinted, mostCommanded}
+use Rattle.scripting.specs.Script.{State, Done, lineDone, mostTapes, mostPrinted, mostCommanded}
 
 abbrev pub roomIn : Marks → List ℕ
 roomIn m = cond (m .roomed) (m .room ∷ []) []
@@ -54,3 +54,11 @@ Did = DidWithin mostCommanded
 
 abbrev pub DidLine : Done → List ℕ → Printed → List ℕ → List ℕ → Type 0
 DidLine = DidWithin mostPrinted
+
+-- Lines done one after another, each as the contract of a line says, on the marks and the row that those before it left: the lines, the
+-- marks and the row at first, and what all of them print.
+pub data Runs (capacity : ℕ) : List (List ℕ) → Marks → List ℕ → List ℕ → Type 0 where
+  no-lines : {m : Marks} {row : List ℕ} → Runs capacity [] m row []
+  one-line : {line : List ℕ} {lines : List (List ℕ)} {m : Marks} {r : Printed} {row row′ text text′ printed : List ℕ}
+      → DidLine (lineDone capacity line (stateIn (insideOf m capacity) row)) text r (take capacity row′) text′ → Runs capacity lines (r .marks) row′ printed
+      → Runs capacity (line ∷ lines) m row (lineDone capacity line (stateIn (insideOf m capacity) row) .text ++ printed)

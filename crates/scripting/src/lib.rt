@@ -1,7 +1,7 @@
 // Scripts: command lines one after another, with a row of tapes kept between them. The definitions and the types that they name; the
 // functions over them are in the crates above.
 
-// Where the tape at hand begins in the row of tapes, where it ends, and the room that build, places and list get.
+// Where the tape at hand begins in the row of tapes, where it ends, and the room that build, places and list get where `roomed` says so.
 pub struct Marks {
     pub begin: usize,
     pub end: usize,
@@ -9,7 +9,7 @@ pub struct Marks {
     pub roomed: bool,
 }
 
-// The marks that a line left, and how many bytes it printed.
+// The marks that a line left, and how many bytes of what it printed stand in their row.
 pub struct Printed {
     pub marks: Marks,
     pub length: usize,
