@@ -101,7 +101,7 @@ fn write(arguments: &[u8], input: &[u8]) {
         io::write_all(STDERR_FILENO, &text[..count]);
         return;
     }
-    if is_for_a_file(arguments) {
+    if is_tape_to_terminal(arguments) {
         io::write_all(
             STDERR_FILENO,
             b"fibexp: a tape is bytes and no text; write it to a file: fibexp build P R K VARIANT > FILE\n",
@@ -116,12 +116,13 @@ fn whole_reply(arguments: &[u8], input: &[u8], text: &mut [u8]) -> Reply
     requires { ⌜ mostText ≤ length (now text) ⌝ }
     ensures { λ r. ⌜ take (r .length) (now (text .exit)) ≡ reply (wordsOf (now (arguments .entry))) (now (input .entry)) .text ⌝ }
     ensures { λ r. ⌜ r .length ≤ length (now (text .exit)) ⌝ }
+    ensures { λ r. ⌜ r .status ≡ reply (wordsOf (now (arguments .entry))) (now (input .entry)) .status ⌝ }
 {
     reply(arguments, input, text)
 }
 
 // A tape isn't written to a terminal.
-fn is_for_a_file(arguments: &[u8]) -> bool {
+fn is_tape_to_terminal(arguments: &[u8]) -> bool {
     if libc::isatty(STDOUT_FILENO) == 0 {
         return false;
     }

@@ -14,7 +14,7 @@ same-length c = search needs
 returns : tie.Need-returns
 returns c =
     let told = c .before .before .reply .ensures in
-    (put-taken (told .text) (omega (arith, told .short, c .before .before .before .before .before .before .before .pre)), put-inside (told .text) (omega arith))
+    (put-taken (told .text) (omega (arith, told .short, c .before .before .before .before .before .before .before .pre)), (put-inside (told .text) (omega arith), told .status))
 
 pub whole-reply-spec : {M : Type 1} → statement M
 whole-reply-spec = tie.close (tie.spec reply-requires same-length returns)

@@ -15,7 +15,7 @@ array-share-prefix-text : tie.Need-array-share-prefix-text
 array-share-prefix-text c = search needs
 
 slice-aggregate-write-all : tie.Need-slice-aggregate-write-all
-slice-aggregate-write-all c = sym (length-take-le _ _ (c .before .before .before .before .whole-reply .ensures .1))
+slice-aggregate-write-all c = sym (length-take-le _ _ (c .before .before .before .before .whole-reply .ensures .1 .0))
 
 write-all-requires : tie.Need-write-all-requires
 write-all-requires c κs = search needs
@@ -23,8 +23,8 @@ write-all-requires c κs = search needs
 returns : tie.Need-returns
 returns c = search needs
 
-is-for-a-file-requires : tie.Need-is-for-a-file-requires
-is-for-a-file-requires c κs = search needs
+is-tape-to-terminal-requires : tie.Need-is-tape-to-terminal-requires
+is-tape-to-terminal-requires c κs = search needs
 
 slice-aggregate-write-all-2 : tie.Need-slice-aggregate-write-all-2
 slice-aggregate-write-all-2 c = search needs
@@ -39,7 +39,7 @@ array-share-prefix-text-2 : tie.Need-array-share-prefix-text-2
 array-share-prefix-text-2 c = search needs
 
 slice-aggregate-write-output : tie.Need-slice-aggregate-write-output
-slice-aggregate-write-output c = sym (length-take-le _ _ (c .before .before .before .before .before .before .whole-reply .ensures .1))
+slice-aggregate-write-output c = sym (length-take-le _ _ (c .before .before .before .before .before .before .whole-reply .ensures .1 .0))
 
 write-output-requires : tie.Need-write-output-requires
 write-output-requires c κs = search needs
@@ -57,7 +57,7 @@ write-spec =
     slice-aggregate-write-all
     write-all-requires
     returns
-    is-for-a-file-requires
+    is-tape-to-terminal-requires
     slice-aggregate-write-all-2
     write-all-requires-2
     returns-2
