@@ -14,6 +14,7 @@ ghost use Rattle.tool.specs.Texts.{usage, versionLine};
 ghost use Rattle.tool.specs.Rows.{Told, Within};
 use arguments::understand;
 use encoding::MOST_WORDS;
+use encoding::WORD_BYTES;
 use encoding::tape_words;
 use numbers::build;
 use numbers::on_numbers;
@@ -34,9 +35,6 @@ use tool::Verb;
 use verbs::gives_tape;
 use verbs::takes_lines;
 use verbs::takes_tape;
-
-// The bytes of a word.
-const WORD_BYTES: usize = 4;
 
 // The tool's reply to a command line and standard input. The arguments are the words after the tool's name, a zero byte after each. The
 // text is put from the row's start; in a row of `tool::MOST_TEXT` bytes or more it stands whole.

@@ -19,7 +19,7 @@ pub const MOST_WORDS: usize = 512;
 pub const WORD_BYTES: usize = 4;
 
 // The words of a tape that is given as bytes, from the row's start: how many they are. Bytes that are no tape give none, and a tape
-// of no words gets refusal 6 from every service.
+// of no words gets refusal 6 from every service on a tape.
 pub fn tape_words(bytes: &[u8], row: &mut [u32; MOST_WORDS]) -> usize
     ensures { λ count. ⌜ Put (now (row .entry)) 0 (tapeIn (now (bytes .entry))) count (now (row .exit)) ⌝ }
 {

@@ -1,4 +1,4 @@
-// Replies into a row: what the services answer and refuse.
+// Replies into a row: what the services answer and refuse, and complaints.
 mod complaints;
 mod meanings;
 mod results;

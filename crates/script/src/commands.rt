@@ -24,6 +24,7 @@ use tool::Row;
 use tool::TapeVerb;
 use tool::Verb;
 
+// Does a command line.
 pub(crate) fn commanded(
     arguments: &[u8],
     tapes: &mut [u32],

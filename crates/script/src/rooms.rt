@@ -109,7 +109,7 @@ fn copy(words: &[u32], row: &mut [u32], at: usize) -> usize
     at + i
 }
 
-// Build into a buffer: the count of words or the refusal, and the buffer.
+// Build into a buffer: the count of words or the refusal, and the buffer. Its tape is at hand then.
 pub(crate) fn build_in(
     own: u32,
     values: &[u64],
@@ -145,7 +145,7 @@ fn build_into(
     show(own, answer, row, tapes, marks, text)
 }
 
-// What build answered, and its buffer.
+// What build answered, and its buffer, whose words are the tape at hand where it answered.
 fn show(
     own: u32,
     answer: Answer,
@@ -202,7 +202,7 @@ fn places_into(own: u32, n: u64, row: &mut [u8], text: &mut [u8]) -> usize
     bytes_line(text, next, row)
 }
 
-// The listing into a buffer: how many bytes it has and its number, and the buffer.
+// The listing into a buffer: how many bytes were written and its number, and the buffer.
 pub(crate) fn list_in(tape: &[u32], room: usize, text: &mut [u8]) -> usize
     requires { ⌜ (room ≤ mostRoom) × (length (now tape) ≤ mostTapes) ⌝ }
     ensures { λ length. ⌜ Put (now (text .entry)) 0 (listIn room (now (tape .entry))) length (now (text .exit)) ⌝ }

@@ -28,6 +28,7 @@ const EQUALS: u8 = b'=';
 // The bytes of a blank, an equals sign and a blank.
 const EQUALS_BYTES: usize = 3;
 
+// Does a line.
 pub(crate) fn done(line: &[u8], tapes: &mut [u32], marks: Marks, text: &mut [u8]) -> Printed
     requires { ⌜ Inside marks (now tapes) ⌝ }
     ensures { λ r. ⌜ DidLine (lineDone (length (now (tapes .entry))) (now (line .entry)) (stateIn marks (now (tapes .entry)))) (now (text .entry)) r (now (tapes .exit)) (now (text .exit)) ⌝ }
@@ -118,7 +119,7 @@ fn put_verdict(row: &mut [u8], at: usize, printed: &[u8], said: &[u8]) -> usize
     put_then(row, b, b": no", NEWLINE)
 }
 
-// A text is a line's.
+// A text is a line and its end.
 fn is_line(text: &[u8], line: &[u8]) -> bool
     ensures { λ r. ⌜ r ≡ sameWords (now (text .entry)) (now (line .entry) ++ newline ∷ []) ⌝ }
 {

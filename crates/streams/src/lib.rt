@@ -10,7 +10,7 @@ pub struct Input {
     pub count: usize,
 }
 
-// Reads standard input from the row's start, up to its end or until the row is full.
+// Reads standard input into the row, from its start, until the input ends or the row is full.
 pub fn read_input(row: &mut [u8]) -> Input
     ensures { λ r. ⌜ r .count ≤ length (now (row .exit)) ⌝ }
 {
