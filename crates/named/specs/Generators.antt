@@ -2,13 +2,15 @@
 use mathlib.Core.Path.{_≡_}
 use mathlib.Core.Bool.{Bool, true, false}
 use mathlib.Core.List.{List, [], _∷_, _++_}
-use Prim.Native.Nat.{ℕ, _%_, _^_}
+use Prim.Native.Nat.{ℕ, _+_, _*_, _%_, _^_}
 use lib.ListN.{length}
 use Rattle.fibonacci.specs.Forms.{pad}
 use Rattle.tape.specs.declared.Step.{Step}
 use Rattle.tape.specs.declared.Step.the-variants.{Mul, Swp}
 use Rattle.modular.specs.Residues.{Residue}
 use Rattle.machine.specs.Machine.{back, doAll, undoAll, start}
+use Rattle.named.specs.declared.Figure.{Figure}
+use Rattle.named.specs.declared.Figure.the-variants.{Two, Four, Six}
 
 -- a step for a place that is set
 abbrev pub select : Bool → Step → List Step → List Step
@@ -54,6 +56,31 @@ dual ss ts Ss Ts = ascend ss ts ++ Swp 0 2 ∷ Swp 1 3 ∷ back (ascend Ss Ts)
 -- Figure 6: swp 0 1; down the form of v; the reordering; the form of K back
 unfoldable pub hybrid : List Bool → List Bool → List Step
 hybrid vs Ks = Swp 0 1 ∷ (descend vs ++ Swp 0 1 ∷ Swp 1 2 ∷ back (ascend Ks []))
+
+-- The forms that a program is drawn from, and the figure that draws it: `first` is the form of its first loop and `last` that of its
+-- last, which is taken back; Figure 4 selects two more beside them.
+pub record Forms : Type 0 where
+  pub figure : Figure
+  pub first : List Bool
+  pub beside : List Bool
+  pub last : List Bool
+  pub besideLast : List Bool
+
+-- the steps that a figure draws from forms
+unfoldable pub drawn : Figure → List Bool → List Bool → List Bool → List Bool → List Step
+drawn Two ks none Ks none′ = basic ks Ks
+drawn Four ss ts Ss Ts = dual ss ts Ss Ts
+drawn Six vs none Ks none′ = hybrid vs Ks
+
+abbrev pub generated : Forms → List Step
+generated f = drawn (f .figure) (f .first) (f .beside) (f .last) (f .besideLast)
+
+-- how many they are (`generated-count` of proofs/Laws/Lengths), by the lengths of the first and the last form and how many places
+-- are set in all
+abbrev pub stepsFrom : Figure → ℕ → ℕ → ℕ → ℕ
+stepsFrom Two m n ones = 4 * m + 4 * n + 1 + ones
+stepsFrom Four m n ones = 2 * m + 2 * n + 2 + ones
+stepsFrom Six m n ones = 2 * m + 2 * n + 3 + ones
 
 -- The steps raise to the k-th power: they take (1, a, 1, 1) to (1, a^k, 1, 1) for every a from 1 to p - 1 with a^r = 1 modulo p.
 abbrev pub Raises : ℕ → ℕ → ℕ → List Step → Type 0
