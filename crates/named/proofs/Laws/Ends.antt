@@ -20,10 +20,11 @@ use Rattle.tape.specs.declared.Step.{Step}
 use Rattle.machine.specs.Exponents.{startExponents, exponentsAt, residueOf}
 use Rattle.machine.proofs.Laws.Ranges.{Goes, goes-end}
 use Rattle.machine.proofs.Laws.Congruences.{Congruent, congruent-same, congruent-through, congruent-less, congruent-naturals, residue-is}
-use Rattle.named.specs.Named.{basicSteps, dualForm, dualSteps, hybridSteps, namedSteps}
+use Rattle.named.specs.Generators.{generated}
+use Rattle.named.specs.Named.{basicForms, dualForm, dualForms, hybridForms, namedSteps}
 use Rattle.named.specs.Parameters.{badModulus, badOrder, unnamed}
 use Rattle.named.proofs.Laws.Parameters.{good-modulus, order-below}
-use Rattle.named.proofs.Laws.Named.{below, inverse-is, dual-form-length, dual-form-sum, named-is}
+use Rattle.named.proofs.Laws.Forms.{below, inverse-is, dual-form-length, dual-form-sum}
 use Rattle.named.proofs.Laws.Sequences.{Sequence, before, multiple, multiple-zero, multiple-one, multiples, before-sum, Reaching}
 use Rattle.named.proofs.Laws.Range.{target, dualTarget, basic-trace, hybrid-trace, dual-through, dual-trace}
 
@@ -111,10 +112,10 @@ dual-ends r k K ss ts Ss Ts q h small low inv lS lT es et eS eT =
 
 module _ (r k : ℕ) (good : badExponent k r ≡ false) (order : r < 2 ^ 28) where
   -- exactly, for two of them
-  pub basic-ends : exponentsAt (basicSteps r k) (length (basicSteps r k)) ≡ target k (inverse r k)
+  pub basic-ends : exponentsAt (generated (basicForms r k)) (length (generated (basicForms r k))) ≡ target k (inverse r k)
   basic-ends = goes-end (basic-trace r k good order)
 
-  pub hybrid-ends : exponentsAt (hybridSteps r k) (length (hybridSteps r k)) ≡ target k (inverse r k)
+  pub hybrid-ends : exponentsAt (generated (hybridForms r k)) (length (generated (hybridForms r k))) ≡ target k (inverse r k)
   hybrid-ends = goes-end (hybrid-trace r k good order)
 
   -- and modulo r for all three
@@ -124,29 +125,20 @@ module _ (r k : ℕ) (good : badExponent k r ≡ false) (order : r < 2 ^ 28) whe
   target-residues : EndsAt r k (target k (inverse r k))
   target-residues = target-ends r k (inverse r k) (below r k good) (inverse-is r k good .one)
 
-  basic-residues : EndsAt r k (exponentsAt (basicSteps r k) (length (basicSteps r k)))
-  basic-residues = ends (basicSteps r k) (target k (inverse r k)) (basic-trace r k good order) target-residues
+  pub basic-residues : EndsAt r k (exponentsAt (generated (basicForms r k)) (length (generated (basicForms r k))))
+  basic-residues = ends (generated (basicForms r k)) (target k (inverse r k)) (basic-trace r k good order) target-residues
 
-  hybrid-residues : EndsAt r k (exponentsAt (hybridSteps r k) (length (hybridSteps r k)))
-  hybrid-residues = ends (hybridSteps r k) (target k (inverse r k)) (hybrid-trace r k good order) target-residues
+  pub hybrid-residues : EndsAt r k (exponentsAt (generated (hybridForms r k)) (length (generated (hybridForms r k))))
+  hybrid-residues = ends (generated (hybridForms r k)) (target k (inverse r k)) (hybrid-trace r k good order) target-residues
 
-  dual-residues : EndsAt r k (exponentsAt (dualSteps r k) (length (dualSteps r k)))
+  pub dual-residues : EndsAt r k (exponentsAt (generated (dualForms r k)) (length (generated (dualForms r k))))
   dual-residues =
       let h : ℕ = height r in
       let K : ℕ = inverse r k in
       let len : (y i : ℕ) → length (dualForm r y i) ≡ h = dual-form-length r k good in
       let sum : (y i : ℕ) → fibsum (dualForm r y i) % r ≡ y * fib i % r = dual-form-sum r k good in
-      ends (dualSteps r k) _ (dual-trace r k good order)
+      ends (generated (dualForms r k)) _ (dual-trace r k good order)
       (dual-ends r k K (dualForm r k h) (dualForm r k (suc h)) (dualForm r K h) (dualForm r K (suc h)) (dual-through r k good order)
       (below r k good) (omega (arith, below r k good)) (omega (arith, len k h, height-28 r order)) (inverse-is r k good .one)
       (omega (arith, len k h, len K h)) (omega (arith, len k h, len K (suc h)))
       (rw (len k h) (sum k h)) (rw (len k h) (sum k (suc h))) (rw (len k h) (sum K h)) (rw (len k h) (sum K (suc h))))
-
-pub named-exponents : (p r k variant : ℕ) → badModulus p ≡ false → badOrder p r ≡ false → badExponent k r ≡ false → unnamed variant ≡ false
-    → map (residueOf r) (exponentsAt (namedSteps variant r k) (length (namedSteps variant r k))) ≡ 0 ∷ k ∷ 0 ∷ 0 ∷ []
-unfolding namedSteps
-named-exponents p r k variant modulus order good named =
-    let small : r < 2 ^ 28 = omega (arith, good-modulus p modulus .high, order-below p r modulus order) in
-    ⊎-elim (λ e. rw e (basic-residues r k good small))
-    (λ more. ⊎-elim (λ e. rw e (dual-residues r k good small)) (λ e. rw e (hybrid-residues r k good small)) more)
-    (named-is variant named)

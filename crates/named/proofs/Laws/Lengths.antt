@@ -2,7 +2,7 @@
 use mathlib.Core.Path.{_≡_, refl, ap, _∙_}
 use mathlib.Core.Bool.{Bool, true, false, cond}
 use mathlib.Core.List.{List, [], _∷_}
-use Prim.Native.Nat.{ℕ, suc, _+_, _*_, _≤_}
+use Prim.Native.Nat.{ℕ, suc, _+_, _*_, _≤_, _<_}
 use native.Mathlib.Omega.{arith}
 use lib.ListN.{length, length-append}
 use Rattle.fibonacci.specs.Forms.{pad, ones}
@@ -10,7 +10,9 @@ use Rattle.fibonacci.proofs.Laws.Forms.{pad-length, ones-pad}
 use Rattle.tape.specs.declared.Step.{Step}
 use Rattle.tape.specs.declared.Step.the-variants.{Mul, Swp}
 use Rattle.machine.specs.Machine.{opposite, back}
-use Rattle.named.specs.Generators.{select, lowest, higher, ascend, chain, downSteps, descend, basic, dual, hybrid}
+use Rattle.named.specs.declared.Figure.{Figure}
+use Rattle.named.specs.declared.Figure.the-variants.{Two, Four, Six}
+use Rattle.named.specs.Generators.{select, lowest, higher, ascend, chain, downSteps, descend, basic, dual, hybrid, Forms, drawn, generated, stepsFrom}
 
 pub length-back : (xs : List Step) → length (back xs) ≡ length xs
 unfolding back
@@ -83,3 +85,35 @@ unfolding hybrid ones
 hybrid-length vs Ks =
     ap suc (length-append (descend vs) _)
     ∙ omega (arith, descend-length vs, ascend-length Ks [] (omega arith), length-back (ascend Ks []))
+
+-- ---- whichever the figure
+
+-- forms as a figure takes them: a form beside another is no longer than it, and figures 2 and 6 select none
+abbrev Fitting : Figure → List Bool → List Bool → List Bool → List Bool → Type 0
+Fitting Two ss ts Ss Ts = (ones ts ≡ 0) × (ones Ts ≡ 0)
+Fitting Four ss ts Ss Ts = (length ts ≤ length ss) × (length Ts ≤ length Ss)
+Fitting Six ss ts Ss Ts = (ones ts ≡ 0) × (ones Ts ≡ 0)
+
+abbrev pub Fits : Forms → Type 0
+Fits f = Fitting (f .figure) (f .first) (f .beside) (f .last) (f .besideLast)
+
+drawn-count : (figure : Figure) (ss ts Ss Ts : List Bool) → Fitting figure ss ts Ss Ts
+    → length (drawn figure ss ts Ss Ts) ≡ stepsFrom figure (length ss) (length Ss) (ones ss + ones ts + ones Ss + ones Ts)
+unfolding drawn
+drawn-count Two ss ts Ss Ts fits = omega (arith, basic-length ss Ss)
+drawn-count Four ss ts Ss Ts fits = omega (arith, dual-length ss ts Ss Ts (fits .0) (fits .1))
+drawn-count Six ss ts Ss Ts fits = omega (arith, hybrid-length ss Ss)
+
+pub generated-count : (f : Forms) → Fits f
+    → length (generated f) ≡ stepsFrom (f .figure) (length (f .first)) (length (f .last)) (ones (f .first) + ones (f .beside) + ones (f .last) + ones (f .besideLast))
+generated-count f fits = drawn-count (f .figure) (f .first) (f .beside) (f .last) (f .besideLast) fits
+
+-- each has a swap at least
+drawn-some : (figure : Figure) (ss ts Ss Ts : List Bool) → 0 < length (drawn figure ss ts Ss Ts)
+unfolding drawn dual hybrid
+drawn-some Two ss ts Ss Ts = omega (arith, basic-length ss Ss)
+drawn-some Four ss ts Ss Ts = rw length-append (omega arith)
+drawn-some Six ss ts Ss Ts = omega arith
+
+pub generated-some : (f : Forms) → 0 < length (generated f)
+generated-some f = drawn-some (f .figure) (f .first) (f .beside) (f .last) (f .besideLast)

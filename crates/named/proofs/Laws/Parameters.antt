@@ -70,6 +70,9 @@ order-below p r modulus order =
     let m = good-modulus p modulus in
     omega (arith, m .low, le-of-dvd {m = r} {n = p - 1} (omega (arith, m .low)) (good-order p r order .divisor))
 
+pub order-small : (p r : ℕ) → badModulus p ≡ false → badOrder p r ≡ false → r < 2 ^ 28
+order-small p r modulus order = omega (arith, good-modulus p modulus .high, order-below p r modulus order)
+
 -- ---- the exponent and its inverse
 
 module _ (k r : ℕ) where

@@ -21,12 +21,12 @@ use Rattle.machine.specs.Machine.{back}
 use Rattle.machine.specs.Exponents.{shift, startExponents, staysInRange}
 use Rattle.machine.proofs.Laws.Integers.{Within, within-natural}
 use Rattle.machine.proofs.Laws.Ranges.{stays-take, Goes, goes-none, goes-step, goes-append, goes-back}
-use Rattle.named.specs.Generators.{ascend, chain, descend, basic, dual, hybrid}
-use Rattle.named.specs.Named.{basicSteps, dualForm, dualSteps, hybridSteps, namedSteps}
+use Rattle.named.specs.Generators.{drawn, generated, ascend, chain, descend, basic, dual, hybrid}
+use Rattle.named.specs.Named.{basicForms, dualForm, dualForms, hybridForms, namedSteps}
 use Rattle.named.specs.Parameters.{badModulus, badOrder}
 use Rattle.named.proofs.Laws.Sound.{sound-ascend}
 use Rattle.named.proofs.Laws.Parameters.{good-modulus, order-below}
-use Rattle.named.proofs.Laws.Named.{below, inverse-is, residue-below, dual-form-length, padded-length, padded-sum, by-variant}
+use Rattle.named.proofs.Laws.Forms.{below, inverse-is, residue-below, dual-form-length, padded-length, padded-sum}
 use Rattle.named.proofs.Laws.Sequences.{Sequence, before, multiple, multiples, before-less, Reaching, reaching-naturals}
 use Rattle.named.proofs.Laws.Loops.{ascend-from, ascend-multiples, chain-multiples, ascend-sums, naturals-range, descend-sums}
 
@@ -103,15 +103,15 @@ module _ (r k : ℕ) (good : badExponent k r ≡ false) (order : r < 2 ^ 28) whe
   form-low : (n : ℕ) → n < r → length (zeckendorf n) ≤ 41
   form-low n h = omega (arith, zeckendorf-height r n h, height-28 r order)
 
-  pub basic-trace : Goes (basicSteps r k) startExponents (target k (inverse r k))
-  unfolding basicSteps
+  pub basic-trace : Goes (generated (basicForms r k)) startExponents (target k (inverse r k))
+  unfolding basicForms drawn
   basic-trace =
       rw (zeckendorf-sum (inverse r k)) at
       (basic-goes k (zeckendorf k) (zeckendorf (inverse r k)) (zeckendorf-sum k) (omega (arith, below r k good))
       (form-low k (below r k good)) (form-low (inverse r k) (inverse-is r k good .high)))
 
-  pub hybrid-trace : Goes (hybridSteps r k) startExponents (target k (inverse r k))
-  unfolding hybridSteps
+  pub hybrid-trace : Goes (generated (hybridForms r k)) startExponents (target k (inverse r k))
+  unfolding hybridForms drawn
   hybrid-trace =
       let Ks : List Bool = pad (oddHeight r) (zeckendorf (inverse r k)) in
       let v : ℕ = k * fib (suc (oddHeight r)) in
@@ -134,9 +134,9 @@ module _ (r k : ℕ) (good : badExponent k r ≡ false) (order : r < 2 ^ 28) whe
       reaching-naturals (length (dualForm r k h)) (fibsum (dualForm r k h)) (fibsum (dualForm r k (suc h)))
       (omega (arith, height-least r .from)) (omega (arith, height-28 r order)) (dual-small k h) (dual-small k (suc h))
 
-  pub dual-trace : Goes (dualSteps r k) startExponents
+  pub dual-trace : Goes (generated (dualForms r k)) startExponents
       (dualTarget (dualForm r k (height r)) (dualForm r k (suc (height r))) (dualForm r (inverse r k) (height r)) (dualForm r (inverse r k) (suc (height r))) dual-through)
-  unfolding dualSteps
+  unfolding dualForms drawn
   dual-trace =
       let h : ℕ = height r in
       let x : ℕ = inverse r k in
@@ -144,17 +144,3 @@ module _ (r k : ℕ) (good : badExponent k r ≡ false) (order : r < 2 ^ 28) whe
       dual-goes (dualForm r k h) (dualForm r k (suc h)) (dualForm r x h) (dualForm r x (suc h)) dual-through
       (omega (arith, len k h, height-28 r order)) (dual-small k h) (dual-small k (suc h))
       (omega (arith, len k h, len k (suc h))) (omega (arith, len k h, len x h)) (omega (arith, len k h, len x (suc h)))
-
--- at every position of a named program
-pub named-stays : (p r k variant : ℕ) → badModulus p ≡ false → badOrder p r ≡ false → badExponent k r ≡ false
-    → staysInRange (namedSteps variant r k) startExponents ≡ true
-named-stays p r k variant modulus order good =
-    let small : r < 2 ^ 28 = omega (arith, good-modulus p modulus .high, order-below p r modulus order) in
-    by-variant (λ (xs : List Step). staysInRange xs startExponents ≡ true) variant r k
-    (basic-trace r k good small .stays) (dual-trace r k good small .stays) (hybrid-trace r k good small .stays)
-    (goes-none (naturals-range 0 1 0 0 (omega arith)) .stays)
-
--- and so up to each position of it
-pub named-in-range : (p r k variant : ℕ) → badModulus p ≡ false → badOrder p r ≡ false → badExponent k r ≡ false
-    → (n : ℕ) → staysInRange (take n (namedSteps variant r k)) startExponents ≡ true
-named-in-range p r k variant modulus order good n = stays-take n (namedSteps variant r k) startExponents (named-stays p r k variant modulus order good)

@@ -11,7 +11,9 @@ use Rattle.tape.specs.declared.Step.the-variants.{Mul, Swp}
 use Rattle.tape.specs.Steps.{Apart, Sound, AllSound}
 use Rattle.machine.specs.Machine.{back}
 use Rattle.machine.proofs.Laws.Steps.{sound-append, sound-back}
-use Rattle.named.specs.Generators.{select, lowest, higher, ascend, chain, downSteps, descend, basic, dual, hybrid}
+use Rattle.named.specs.declared.Figure.{Figure}
+use Rattle.named.specs.declared.Figure.the-variants.{Two, Four, Six}
+use Rattle.named.specs.Generators.{select, lowest, higher, ascend, chain, downSteps, descend, basic, dual, hybrid, Forms, drawn, generated}
 
 apart : (t s : ℕ) → T (ltb t 4) → T (ltb s 4) → T (not (eqb t s)) → Apart t s
 apart t s ht hs ne =
@@ -68,3 +70,12 @@ sound-hybrid vs Ks = (
   sound-append (descend vs) _ (sound-descend vs)
       (swp-sound 0 1 tt tt tt tt, (swp-sound 1 2 tt tt tt tt, sound-back (ascend Ks []) (sound-ascend Ks []))),
 )
+
+sound-drawn : (figure : Figure) (ss ts Ss Ts : List Bool) → AllSound (drawn figure ss ts Ss Ts)
+unfolding drawn
+sound-drawn Two ss ts Ss Ts = sound-basic ss Ss
+sound-drawn Four ss ts Ss Ts = sound-dual ss ts Ss Ts
+sound-drawn Six ss ts Ss Ts = sound-hybrid ss Ss
+
+pub generated-sound : (f : Forms) → AllSound (generated f)
+generated-sound f = sound-drawn (f .figure) (f .first) (f .beside) (f .last) (f .besideLast)
