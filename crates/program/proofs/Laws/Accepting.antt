@@ -3,7 +3,7 @@
 use mathlib.Core.Path.{_≡_, sym, ap, _∙_}
 use mathlib.Core.Bool.{false, not}
 use mathlib.Core.List.{List}
-use Prim.Native.Nat.{ℕ, _-_, _≤_, _<_}
+use Prim.Native.Nat.{ℕ, _-_, _≤_, _<_, _^_}
 use native.Mathlib.Nat.{le-of-dvd}
 use native.Mathlib.Omega.{arith}
 use lib.ListN.{length}
@@ -19,7 +19,7 @@ use Rattle.tape.proofs.Laws.Layout.{LawfulProgram, program-length, program-laid
 use Rattle.named.specs.Generators.{Raises, Lowers}
 use Rattle.named.specs.Named.{namedSteps, namedProgram, namedWords}
 use Rattle.named.specs.Parameters.{badModulus, badOrder, unnamed}
-use Rattle.named.proofs.Laws.Parameters.{good-modulus, good-order, named-some, named-most}
+use Rattle.named.proofs.Laws.Parameters.{good-modulus, good-order, order-small, named-some, named-most}
 use Rattle.named.proofs.Laws.Named.{named-sound, named-words-short, named-steps-some, named-raises, named-lowers}
 use Rattle.program.specs.Services.{checkOutcome}
 use Rattle.program.proofs.Laws.Same.{same-itself}
@@ -79,11 +79,14 @@ module _ (tape : List ℕ) (a : AcceptedNamed tape) where
   prime : Prime (h .modulus)
   prime = prime-test _ (good-modulus _ (a .modulus) .prime)
 
+  small : h .order < 2 ^ 28
+  small = order-small (h .modulus) (h .order) (a .modulus) (a .order)
+
   pub accepted-some : 0 < length (stepsOf tape)
   accepted-some = rw steps-named (named-steps-some (h .variant) (h .order) (h .exponent) (a .named))
 
   pub accepted-raises : Raises (h .modulus) (h .order) (h .exponent) (stepsOf tape)
-  accepted-raises = rw steps-named (named-raises (h .modulus) prime (h .variant) (h .order) (h .exponent) (a .exponent) (a .named))
+  accepted-raises = rw steps-named (named-raises (h .modulus) prime (h .variant) (h .order) (h .exponent) (a .exponent) small (a .named))
 
   pub accepted-lowers : Lowers (h .modulus) (h .order) (inverse (h .order) (h .exponent)) (stepsOf tape)
-  accepted-lowers = rw steps-named (named-lowers (h .modulus) prime (h .variant) (h .order) (h .exponent) (a .exponent) (a .named))
+  accepted-lowers = rw steps-named (named-lowers (h .modulus) prime (h .variant) (h .order) (h .exponent) (a .exponent) small (a .named))

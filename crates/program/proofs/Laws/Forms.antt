@@ -28,8 +28,8 @@ use Rattle.tape.specs.declared.Step.{Step}
 use Rattle.tape.specs.Words.{stepWord, encoded}
 use Rattle.tape.specs.Layout.{wordsOf}
 use Rattle.tape.proofs.Laws.Layout.{program-length}
-use Rattle.named.specs.Generators.{basic, hybrid}
-use Rattle.named.specs.Named.{basicSteps, dualForm, dualSteps, hybridSteps, namedSteps, namedProgram, namedWords}
+use Rattle.named.specs.Generators.{basic, hybrid, drawn}
+use Rattle.named.specs.Named.{basicForms, dualForm, dualForms, hybridForms, formsIn, namedSteps, namedProgram, namedWords}
 use Rattle.named.proofs.Laws.Lengths.{basic-length, dual-length, hybrid-length}
 use Rattle.program.specs.Writing.{formIn, basicWords, dualWords, hybridWords}
 use Rattle.program.specs.Building.{Buildable, Built, headerWordsOf}
@@ -108,7 +108,7 @@ whole n small e = record {
 
 pub basic-parts : (r k : ℕ) {m n c d : ℕ} {ks inverses : List ℕ} → Padded m ks c (zeckendorf k) → Padded n inverses d (zeckendorf (inverse r k))
     → Parts (namedSteps 1 r k) (basicWords (take m ks) (take n inverses)) (4 * m + c + 1 + 4 * n + d)
-unfolding namedSteps basicSteps
+unfolding namedSteps formsIn basicForms drawn
 basic-parts r k e f = record {
   words-are = ap₂ (λ (x y : List Bool). map stepWord (basic x y)) (e .form-is) (f .form-is);
   count-is = omega (arith, basic-length (zeckendorf k) (zeckendorf (inverse r k)), e .size, f .size, e .ones-are, f .ones-are);
@@ -117,7 +117,7 @@ basic-parts r k e f = record {
 pub hybrid-parts : (r k : ℕ) {m l c d : ℕ} {vs inverses : List ℕ} → Padded m vs c (zeckendorf (k * fib (suc (oddHeight r))))
     → Padded l inverses d (pad (oddHeight r) (zeckendorf (inverse r k)))
     → Parts (namedSteps 3 r k) (hybridWords (take m vs) (take l inverses)) (2 * m + c + 2 * l + d + 3)
-unfolding namedSteps hybridSteps
+unfolding namedSteps formsIn hybridForms drawn
 hybrid-parts r k v f = record {
   words-are = ap₂ (λ (x y : List Bool). map stepWord (hybrid x y)) (v .form-is) (f .form-is);
   count-is = omega (arith, hybrid-length (zeckendorf (k * fib (suc (oddHeight r)))) (pad (oddHeight r) (zeckendorf (inverse r k))), v .size, f .size, v .ones-are, f .ones-are);
@@ -126,7 +126,7 @@ hybrid-parts r k v f = record {
 pub dual-parts : (r k : ℕ) {n c d c′ d′ : ℕ} {ss ts ss′ ts′ : List ℕ} → Padded n ss c (dualForm r k (height r)) → Padded n ts d (dualForm r k (suc (height r)))
     → Padded n ss′ c′ (dualForm r (inverse r k) (height r)) → Padded n ts′ d′ (dualForm r (inverse r k) (suc (height r)))
     → Parts (namedSteps 2 r k) (dualWords (take n ss) (take n ts) (take n ss′) (take n ts′)) (2 * n + 2 * n + c + d + c′ + d′ + 2)
-unfolding namedSteps dualSteps
+unfolding namedSteps formsIn dualForms drawn
 dual-parts r k s t s′ t′ = record {
   words-are = cc (s .form-is, t .form-is, s′ .form-is, t′ .form-is);
   count-is =

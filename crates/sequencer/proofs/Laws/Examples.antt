@@ -17,8 +17,8 @@ use Rattle.tape.specs.Words.{headingIn, actionIn, swapIn, decoded, stepWord, en
 use Rattle.tape.specs.Layout.{isLength, isHeader, isFreeOrNamed, allSteps, isEnd, laidOut, wordsOf}
 use Rattle.machine.specs.Machine.{apply, opposite, doAll, undoAll, run, back, start}
 use Rattle.machine.proofs.Laws.Steps.{good-four}
-use Rattle.named.specs.Generators.{ascend, basic, dual}
-use Rattle.named.specs.Named.{basicSteps, dualSteps, namedSteps, namedWords}
+use Rattle.named.specs.Generators.{ascend, basic, dual, drawn}
+use Rattle.named.specs.Named.{basicForms, dualForms, formsIn, namedSteps, namedWords}
 use Rattle.named.specs.Parameters.{badModulus, badOrder}
 use Rattle.program.specs.Services.{sameWords, checkRules}
 use Rattle.sequencer.specs.Services.{badRegister, badRegisters, allowed, badBase, loadOutcome, runRules, runOutcome}
@@ -45,7 +45,7 @@ chained =
 
 -- E is 2 × 3 × 3 modulo 5, and 4^3 is 9 modulo 11
 pub chain-exists : Chain 11 5 4 chained (start 4) × (afterAll chained (start 4) ≡ start 9)
-unfolding afterAll wordsOf encoded stepWord namedSteps basicSteps dualSteps basic dual ascend back opposite pad zeckendorf greedy height firstFrom reaches lucas fib inverse greatest decoded headingIn actionIn swapIn outcome checkRules isLength isHeader isFreeOrNamed allSteps isEnd laidOut badModulus isPrime badOrder badExponent gcd sameWords badRegister badRegisters allowed badBase loadOutcome runRules runOutcome run doAll undoAll apply times remainder performed AllEndToEnd
+unfolding afterAll wordsOf encoded stepWord namedSteps formsIn basicForms dualForms drawn basic dual ascend back opposite pad zeckendorf greedy height firstFrom reaches lucas fib inverse greatest decoded headingIn actionIn swapIn outcome checkRules isLength isHeader isFreeOrNamed allSteps isEnd laidOut badModulus isPrime badOrder badExponent gcd sameWords badRegister badRegisters allowed badBase loadOutcome runRules runOutcome run doAll undoAll apply times remainder performed AllEndToEnd
 chain-exists = (
   record {
     tape = figure-4;
@@ -85,7 +85,7 @@ below : (x : ℕ) → 1 ≤ x → x < 7 → Residue 7 x
 below x low high = record { low = low; high = high }
 
 pub rewind-exists : Rewind by-hand 1 rewound (2 ∷ 3 ∷ 4 ∷ 5 ∷ [])
-unfolding wordsOf encoded stepWord namedSteps basicSteps basic ascend back opposite pad zeckendorf greedy fib inverse greatest decoded headingIn actionIn swapIn outcome checkRules isLength isHeader isFreeOrNamed allSteps isEnd laidOut badModulus isPrime badOrder badExponent gcd sameWords badRegister badRegisters runRules runOutcome run doAll undoAll apply times remainder performed Returns
+unfolding wordsOf encoded stepWord namedSteps formsIn basicForms drawn basic ascend back opposite pad zeckendorf greedy fib inverse greatest decoded headingIn actionIn swapIn outcome checkRules isLength isHeader isFreeOrNamed allSteps isEnd laidOut badModulus isPrime badOrder badExponent gcd sameWords badRegister badRegisters runRules runOutcome run doAll undoAll apply times remainder performed Returns
 rewind-exists =
     record {
       accepted = refl;

@@ -19,8 +19,7 @@ use Rattle.machine.proofs.Laws.Exponents.{run-exponents}
 use Rattle.program.specs.Services.{isNamed, checkRules, checkOutcome, acceptOutcome}
 use Rattle.program.proofs.Laws.Checking.{AcceptedNamed, accepted, accepted-named}
 use Rattle.program.proofs.Laws.Accepting.{accepted-prime, steps-named}
-use Rattle.named.proofs.Laws.Range.{named-in-range}
-use Rattle.named.proofs.Laws.Ends.{named-exponents}
+use Rattle.named.proofs.Laws.Named.{named-in-range, named-exponents}
 use Rattle.sequencer.specs.Services.{traceOutcome}
 use Rattle.sequencer.specs.Tracing.{NeverOutside, MeansPowers}
 use Rattle.sequencer.proofs.Laws.Answers.{steps-sound}
