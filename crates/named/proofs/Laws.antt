@@ -1,16 +1,20 @@
--- Laws of the generators and of the named programs: their steps, powers, lengths, and the range of their exponents.
+-- Laws of the generators and of the named programs: their steps, powers, lengths, and the range of their exponents; the variants, and
+-- what holds of all of them.
 pub mod Members
+pub mod Parameters
 pub mod Sound
+pub mod Lengths
 pub mod Exponents
 pub mod Targets
-pub mod Lengths
-pub mod Parameters
-pub mod Forms
 pub mod Sequences
 pub mod Loops
 pub mod Range
 pub mod Ends
+pub mod Programs
+pub mod Forms
 pub mod Basic
+pub mod Dual
+pub mod Hybrid
 pub mod Table
 pub mod Named
 pub mod Figures

@@ -1,56 +1,48 @@
--- The basic program.
-use mathlib.Core.Path.{_≡_}
-use mathlib.Core.Bool.{true, false}
-use mathlib.Core.List.{List, [], _∷_}
-use Prim.Native.Nat.{ℕ, suc, _<_, _^_}
+-- The basic program: figure 2 on the Zeckendorf forms of k and K, of at most h places each, of which at most (h + 1) / 2 are set.
+use mathlib.Core.Path.{_≡_, refl, ap, _∙_}
+use mathlib.Core.Bool.{false}
+use mathlib.Core.List.{[]}
+use Prim.Native.Nat.{ℕ, suc, _+_, _*_, _%_, _≤_, _<_, _^_}
+use native.Mathlib.Nat.{mul-le-mul}
 use native.Mathlib.Omega.{arith}
-use lib.ListN.{length, length-append}
-use Rattle.modular.specs.Inverses.{Inverse, inverse, badExponent}
-use Rattle.fibonacci.specs.Forms.{zeckendorf}
-use Rattle.fibonacci.proofs.Laws.Height.{height-28}
-use Rattle.named.specs.Generators.{basic, dual, hybrid, drawn, generated}
-use Rattle.named.specs.Named.{basicForms, dualForms, hybridForms}
+use lib.ListN.{length}
+use Rattle.modular.specs.Inverses.{inverse, badExponent}
+use Rattle.fibonacci.specs.Fibonacci.{fib}
+use Rattle.fibonacci.specs.Forms.{ones, zeckendorf}
+use Rattle.fibonacci.specs.Height.{height}
+use Rattle.fibonacci.proofs.Laws.Zeckendorf.{zeckendorf-sum}
+use Rattle.fibonacci.proofs.Laws.Height.{zeckendorf-height, height-28}
+use Rattle.named.specs.Generators.{drawn, generated}
+use Rattle.named.specs.Named.{basicForms}
 use Rattle.named.specs.Promises.{IsProgram}
-use Rattle.named.proofs.Laws.Sound.{sound-basic, sound-dual, sound-hybrid}
-use Rattle.named.proofs.Laws.Targets.{raises-lowers}
-use Rattle.named.proofs.Laws.Forms.{inverse-is, basic-bound, dual-bound, hybrid-bound, basic-power, dual-power, hybrid-power}
-use Rattle.named.proofs.Laws.Lengths.{basic-length}
-use Rattle.named.proofs.Laws.Range.{basic-trace, hybrid-trace, dual-trace}
-use Rattle.named.proofs.Laws.Ends.{basic-residues, hybrid-residues, dual-residues}
+use Rattle.named.proofs.Laws.Lengths.{Fits, generated-count}
+use Rattle.named.proofs.Laws.Sequences.{multiple-28}
+use Rattle.named.proofs.Laws.Forms.{form-ones}
+use Rattle.named.proofs.Laws.Programs.{below, inverse-is, two-program}
 
-module _ (r k : ℕ) (good : badExponent k r ≡ false) (small : r < 2 ^ 28) where
-  pub basic-program : IsProgram r k (generated (basicForms r k))
-  unfolding basicForms drawn
-  basic-program = record {
-    sound = sound-basic _ _;
-    some = omega (arith, basic-length (zeckendorf k) (zeckendorf (inverse r k)));
-    short = omega (arith, basic-bound r k good, height-28 r small);
-    raises = basic-power r k good;
-    lowers = λ p pr. raises-lowers p pr r k (inverse r k) _ (sound-basic _ _) (inverse-is r k good .one) (basic-power r k good p pr);
-    stays = basic-trace r k good small .stays;
-    ends = basic-residues r k good small;
-  }
+module _ (r k : ℕ) (good : badExponent k r ≡ false) where
+  pub basic-fits : Fits (basicForms r k)
+  unfolding basicForms ones
+  basic-fits = (refl, refl)
 
-  pub dual-program : IsProgram r k (generated (dualForms r k))
-  unfolding dualForms drawn dual
-  dual-program = record {
-    sound = sound-dual _ _ _ _;
-    some = rw length-append (omega arith);
-    short = omega (arith, dual-bound r k good, height-28 r small);
-    raises = dual-power r k good;
-    lowers = λ p pr. raises-lowers p pr r k (inverse r k) _ (sound-dual _ _ _ _) (inverse-is r k good .one) (dual-power r k good p pr);
-    stays = dual-trace r k good small .stays;
-    ends = dual-residues r k good small;
-  }
+  pub basic-bound : length (generated (basicForms r k)) ≤ 9 * height r + 2
+  unfolding basicForms ones
+  basic-bound =
+      let K : ℕ = inverse r k in
+      let h : k < r = below r k good in
+      let H : K < r = inverse-is r k good .high in
+      omega (arith, generated-count (basicForms r k) basic-fits, zeckendorf-height r k h, zeckendorf-height r K H, form-ones r k h, form-ones r K H)
 
-  pub hybrid-program : IsProgram r k (generated (hybridForms r k))
-  unfolding hybridForms drawn hybrid
-  hybrid-program = record {
-    sound = sound-hybrid _ _;
-    some = omega arith;
-    short = omega (arith, hybrid-bound r k good, height-28 r small);
-    raises = hybrid-power r k good;
-    lowers = λ p pr. raises-lowers p pr r k (inverse r k) _ (sound-hybrid _ _) (inverse-is r k good .one) (hybrid-power r k good p pr);
-    stays = hybrid-trace r k good small .stays;
-    ends = hybrid-residues r k good small;
-  }
+  pub basic-program : r < 2 ^ 28 → IsProgram r k (generated (basicForms r k))
+  unfolding basicForms
+  basic-program small =
+      let K : ℕ = inverse r k in
+      let h : k < r = below r k good in
+      let H : K < r = inverse-is r k good .high in
+      let low : height r ≤ 41 = height-28 r small in
+      two-program r k good (2 ^ 56) 41 (omega arith) (zeckendorf k) (zeckendorf K)
+      (zeckendorf-sum k) (ap (λ (n : ℕ). k * n % r) (zeckendorf-sum K) ∙ inverse-is r k good .one)
+      (omega (arith, form-ones r k h)) (omega (arith, form-ones r K H))
+      (multiple-28 1 (suc (length (zeckendorf k))) (omega arith) (omega (arith, zeckendorf-height r k h)))
+      (multiple-28 k (suc (length (zeckendorf K))) (omega arith) (omega (arith, zeckendorf-height r K H)))
+      (omega (arith, basic-bound))

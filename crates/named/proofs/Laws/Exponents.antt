@@ -20,6 +20,7 @@ use Rattle.tape.specs.declared.Step.the-variants.{Mul}
 use Rattle.machine.specs.Machine.{apply, doAll, Good, start}
 use Rattle.machine.proofs.Laws.Steps.{doAll-append, good-four}
 use Rattle.named.specs.Generators.{select, lowest, higher, ascend, downSteps, descend}
+use Rattle.named.proofs.Laws.Lengths.{length-higher}
 
 -- four registers that hold powers of a
 abbrev pub powers : ℕ → ℕ → ℕ → ℕ → ℕ → ℕ → List ℕ
@@ -52,10 +53,6 @@ sum-lowest : (i : ℕ) (ts : List Bool) → cond (lowest ts) (fib (suc i)) 0 + f
 unfolding fibsumFrom
 sum-lowest i [] = refl
 sum-lowest i (t ∷ ts) = refl
-
-pub length-higher : (n : ℕ) (ts : List Bool) → length ts ≤ suc n → length (higher ts) ≤ n
-length-higher n [] h = omega arith
-length-higher n (t ∷ ts) h = omega arith
 
 pub ascend-powers : (p : ℕ) (pr : Prime p) (a : ℕ) (ss ts : List Bool) (i e f : ℕ) → length ts ≤ length ss
     → doAll p (ascend ss ts) (powers p a (fib i) (fib (suc i)) e f)

@@ -23,13 +23,13 @@ select-length : (b : Bool) (x : Step) (xs : List Step) → length (select b x xs
 select-length true x xs = omega arith
 select-length false x xs = omega arith
 
-ones-lowest : (ts : List Bool) → cond (lowest ts) 1 0 + ones (higher ts) ≡ ones ts
+pub ones-lowest : (ts : List Bool) → cond (lowest ts) 1 0 + ones (higher ts) ≡ ones ts
 unfolding ones
 ones-lowest [] = refl
 ones-lowest (true ∷ ts) = omega arith
 ones-lowest (false ∷ ts) = omega arith
 
-length-higher : (n : ℕ) (ts : List Bool) → length ts ≤ suc n → length (higher ts) ≤ n
+pub length-higher : (n : ℕ) (ts : List Bool) → length ts ≤ suc n → length (higher ts) ≤ n
 length-higher n [] h = omega arith
 length-higher n (t ∷ ts) h = omega arith
 
@@ -109,7 +109,7 @@ pub generated-count : (f : Forms) → Fits f
 generated-count f fits = drawn-count (f .figure) (f .first) (f .beside) (f .last) (f .besideLast) fits
 
 -- each has a swap at least
-drawn-some : (figure : Figure) (ss ts Ss Ts : List Bool) → 0 < length (drawn figure ss ts Ss Ts)
+pub drawn-some : (figure : Figure) (ss ts Ss Ts : List Bool) → 0 < length (drawn figure ss ts Ss Ts)
 unfolding drawn dual hybrid
 drawn-some Two ss ts Ss Ts = omega (arith, basic-length ss Ss)
 drawn-some Four ss ts Ss Ts = rw length-append (omega arith)

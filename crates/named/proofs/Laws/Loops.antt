@@ -1,24 +1,27 @@
--- What the two loops make of whole exponents, in range at every position: going up, registers 0 and 1 go along a sequence whose
--- terms are at most 2^56, and registers 2 and 3 are away from where they end by at most 41 of its terms; coming down, all grow.
+-- What the two loops make of whole exponents, in range at every position: going up, registers 0 and 1 go along a sequence, and
+-- registers 2 and 3 are away from where they end by the terms that are still selected; coming down, all grow.
 use mathlib.Core.Path.{_≡_, refl, sym, ap, ap₂, subst, _∙_}
 use mathlib.Core.Bool.{Bool, true, false, cond}
 use mathlib.Core.List.{List, [], _∷_}
-use Prim.Native.Nat.{ℕ, suc, _+_, _≤_, _<_, _^_}
+use Prim.Native.Nat.{ℕ, suc, _+_, _*_, _≤_, _<_, _^_}
 use native.Mathlib.Nat.{add-zero}
 use native.Mathlib.Omega.{arith}
 use lib.IntN.{ℤ, pos, _+ℤ_, _-ℤ_, -ℤ-+ℤ-cancel}
 use lib.ListN.{length}
 use Rattle.fibonacci.specs.Fibonacci.{fib}
-use Rattle.fibonacci.specs.Forms.{fibsumFrom, fibsum, pad}
-use Rattle.fibonacci.proofs.Laws.Forms.{pad-length, sum-next}
+use Rattle.fibonacci.specs.Forms.{fibsumFrom, fibsum, pad, ones}
+use Rattle.fibonacci.proofs.Laws.Forms.{pad-length, sum-next, ones-pad}
 use Rattle.tape.specs.declared.Step.{Step}
 use Rattle.tape.specs.declared.Step.the-variants.{Mul, Swp}
+use Rattle.machine.specs.Machine.{back}
 use Rattle.machine.specs.Exponents.{shift, startExponents, allInRange}
 use Rattle.machine.proofs.Laws.Integers.{Within, within-natural, within-more}
-use Rattle.machine.proofs.Laws.Ranges.{four-range, Goes, goes-none, goes-step, goes-append}
+use Rattle.machine.proofs.Laws.Ranges.{four-range, Goes, goes-none, goes-step, goes-append, goes-back}
 use Rattle.named.specs.Generators.{select, lowest, higher, ascend, chain, downSteps, descend}
-use Rattle.named.proofs.Laws.Exponents.{length-higher, place-low, place-high}
-use Rattle.named.proofs.Laws.Sequences.{Sequence, before, before-lowest, before-none, before-range, multiple, multiple-zero, multiple-one, multiples, before-sum}
+use Rattle.named.proofs.Laws.Sound.{sound-ascend}
+use Rattle.named.proofs.Laws.Lengths.{length-higher, ones-lowest}
+use Rattle.named.proofs.Laws.Exponents.{place-low, place-high}
+use Rattle.named.proofs.Laws.Sequences.{Sequence, before, before-lowest, before-none, before-range, multiple, multiple-zero, multiple-one, multiples, before-sum, Reaching, cameFrom}
 
 -- an exponent in range
 abbrev Ranged : ℤ → Type 0
@@ -54,59 +57,78 @@ chained s t c d w a b next rc rd rw′ ra rb ra′ rb′ g =
     (selected t (Mul 3 1) (λ z. d ∷ w ∷ a ∷ z ∷ []) (b -ℤ w) b (four-range d w a (b -ℤ w) rd rw′ ra rb′)
     (ap (λ (z : ℤ). d ∷ w ∷ a ∷ z ∷ []) (-ℤ-+ℤ-cancel b w)) g)))
 
-module _ (n : ℕ) (u : ℕ → ℤ) (q : Sequence n u) (low : n ≤ 41) (e f : ℤ) (we : Within (2 ^ 56) e) (wf : Within (2 ^ 56) f) where
-  term-ranged : (i : ℕ) → i ≤ suc n → Ranged (u i)
-  term-ranged i h = within-more (omega arith) (q .small i h)
+-- forms with at most m places set, along terms of at most b
+module _ (b m : ℕ) (room : b * (2 + m) < 2 ^ 62) where
+  pub ranged : {x : ℤ} → Within b x → Ranged x
+  ranged w = within-more (omega arith) w
 
-  -- to e and f, from what was there before the terms that the forms select
-  pub ascend-from : (ss ts : List Bool) (i : ℕ) → length ts ≤ length ss → i + length ss ≡ n
-      → Goes (ascend ss ts) (u i ∷ u (suc i) ∷ before u (suc i) ss e ∷ before u (suc i) ts f ∷ []) (u n ∷ u (suc n) ∷ e ∷ f ∷ [])
-  unfolding ascend
-  ascend-from [] [] i h l =
-      let here : i ≡ n = omega arith in
-      rw here
-      (goes-none
-      (four-range (u n) (u (suc n)) e f (term-ranged n (omega arith)) (term-ranged (suc n) (omega arith))
-      (within-more (omega arith) we) (within-more (omega arith) wf)))
-  ascend-from [] (t ∷ ts) i h l = absurd (omega arith)
-  ascend-from (s ∷ ss) ts i h l =
-      let j : ℕ = suc (suc i) in
-      let short : length (higher ts) ≤ length ss = length-higher (length ss) ts h in
-      let ranged : (x : ℤ) → Within (2 ^ 56) x → (m : ℕ) (bs : List Bool) → 1 ≤ m → m + length bs ≤ suc n → Ranged (before u m bs x) =
-      λ x wx m bs some fits. before-range n u q low m bs x some fits wx in
-      rw (before-lowest u (suc i) ts f)
-      (chained s (lowest ts) (u i) (u (suc i)) (u j) (before u j ss e) (before u j (higher ts) f) (q .next i)
-      (term-ranged i (omega arith)) (term-ranged (suc i) (omega arith)) (term-ranged j (omega arith))
-      (ranged e we j ss (omega arith) (omega arith)) (ranged f wf j (higher ts) (omega arith) (omega arith))
-      (ranged e we (suc i) (true ∷ ss) (omega arith) (omega arith)) (ranged f wf (suc i) (true ∷ higher ts) (omega arith) (omega arith))
-      (ascend-from ss (higher ts) (suc i) short (omega arith)))
+  module _ (n : ℕ) (u : ℕ → ℤ) (q : Sequence b n u) (e f : ℤ) (we : Within b e) (wf : Within b f) where
+    term-ranged : (i : ℕ) → i ≤ suc n → Ranged (u i)
+    term-ranged i h = ranged (q .small i h)
 
--- ---- going up from 0 and k, along the multiples of k
+    selected-ranged : (x : ℤ) → Within b x → (i : ℕ) (bs : List Bool) → i + length bs ≤ suc n → ones bs ≤ suc m → Ranged (before u i bs x)
+    selected-ranged x w i bs h few = before-range b (suc m) n u q (omega arith) i bs x h few w
 
-module _ (n k : ℕ) (low : n ≤ 41) (small : k < 2 ^ 28) (e f : ℤ) (we : Within (2 ^ 56) e) (wf : Within (2 ^ 56) f) where
-  pub ascend-multiples : (ss ts : List Bool) → length ss ≡ n → length ts ≤ n
-      → Goes (ascend ss ts) (pos 0 ∷ pos k ∷ before (multiple k) 1 ss e ∷ before (multiple k) 1 ts f ∷ [])
-      (multiple k n ∷ multiple k (suc n) ∷ e ∷ f ∷ [])
-  ascend-multiples ss ts ls lt =
-      let x : ℤ = before (multiple k) 1 ss e in
-      let y : ℤ = before (multiple k) 1 ts f in
-      subst (λ (z : List ℤ). Goes (ascend ss ts) z (multiple k n ∷ multiple k (suc n) ∷ e ∷ f ∷ []))
-      (ap₂ (λ (c d : ℤ). c ∷ d ∷ x ∷ y ∷ []) (multiple-zero k) (multiple-one k))
-      (ascend-from n (multiple k) (multiples n k low small) low e f we wf ss ts 0 (omega arith) (omega arith))
+    -- to e and f, from what was there before the terms that the forms select
+    pub ascend-from : (ss ts : List Bool) (i : ℕ) → length ts ≤ length ss → i + length ss ≡ n → ones ss ≤ m → ones ts ≤ m
+        → Goes (ascend ss ts) (u i ∷ u (suc i) ∷ before u (suc i) ss e ∷ before u (suc i) ts f ∷ []) (u n ∷ u (suc n) ∷ e ∷ f ∷ [])
+    unfolding ascend ones
+    ascend-from [] [] i h l few few′ =
+        let here : i ≡ n = omega arith in
+        rw here
+        (goes-none (four-range (u n) (u (suc n)) e f (term-ranged n (omega arith)) (term-ranged (suc n) (omega arith)) (ranged we) (ranged wf)))
+    ascend-from [] (t ∷ ts) i h l few few′ = absurd (omega arith)
+    ascend-from (s ∷ ss) ts i h l few few′ =
+        let j : ℕ = suc (suc i) in
+        let short : length (higher ts) ≤ length ss = length-higher (length ss) ts h in
+        let few″ : ones (higher ts) ≤ m = omega (arith, ones-lowest ts) in
+        rw (before-lowest u (suc i) ts f)
+        (chained s (lowest ts) (u i) (u (suc i)) (u j) (before u j ss e) (before u j (higher ts) f) (q .next i)
+        (term-ranged i (omega arith)) (term-ranged (suc i) (omega arith)) (term-ranged j (omega arith))
+        (selected-ranged e we j ss (omega arith) (omega arith)) (selected-ranged f wf j (higher ts) (omega arith) (omega arith))
+        (selected-ranged e we (suc i) (true ∷ ss) (omega arith) (omega arith)) (selected-ranged f wf (suc i) (true ∷ higher ts) (omega arith) (omega arith))
+        (ascend-from ss (higher ts) (suc i) short (omega arith) (omega arith) few″))
 
-  pub chain-multiples : Goes (chain n) (pos 0 ∷ pos k ∷ e ∷ f ∷ []) (multiple k n ∷ multiple k (suc n) ∷ e ∷ f ∷ [])
-  chain-multiples =
-      rw (before-none (multiple k) 1 n e) at (ascend-multiples (pad n []) [] (pad-length n [] (omega arith)) (omega arith))
+  -- ---- back along a sequence that comes to s and t
 
--- from (0, 1, 0, 0) to the sums of two forms
-pub ascend-sums : (ss ts : List Bool) → length ss ≤ 41 → length ts ≤ length ss → fibsum ss < 2 ^ 28 → fibsum ts < 2 ^ 28
-    → Goes (ascend ss ts) startExponents (multiple 1 (length ss) ∷ multiple 1 (suc (length ss)) ∷ pos (fibsum ss) ∷ pos (fibsum ts) ∷ [])
-ascend-sums ss ts low lt hs ht =
-    let none : (bs : List Bool) → before (multiple 1) 1 bs (pos (fibsum bs)) ≡ pos 0 =
-    λ bs. ap (λ (m : ℕ). before (multiple 1) 1 bs (pos m)) (omega arith) ∙ before-sum 1 1 bs in
-    rw (none ss, none ts) at
-    (ascend-multiples (length ss) 1 low (omega arith) (pos (fibsum ss)) (pos (fibsum ts)) (within-natural (fibsum ss) (omega arith)) (within-natural (fibsum ts) (omega arith))
-    ss ts refl lt)
+  pub back-along : {n : ℕ} {s t : ℤ} (q : Reaching b n s t) (ss ts : List Bool) (e f : ℤ) → Within b e → Within b f
+      → length ss ≡ n → length ts ≤ n → ones ss ≤ m → ones ts ≤ m
+      → Goes (back (ascend ss ts)) (s ∷ t ∷ e ∷ f ∷ []) (cameFrom q ss ts e f)
+  back-along {n} q ss ts e f we wf ls lt few few′ =
+      subst (λ (z : List ℤ). Goes (back (ascend ss ts)) z (cameFrom q ss ts e f))
+      (ap₂ (λ (c d : ℤ). c ∷ d ∷ e ∷ f ∷ []) (q .last) (q .past))
+      (goes-back (ascend ss ts) (sound-ascend ss ts) refl
+      (ascend-from n (q .term) (q .sequence) e f we wf ss ts 0 (omega arith) (omega arith) few few′))
+
+  -- ---- going up from 0 and k, along the multiples of k
+
+  module _ (n k : ℕ) (most : k * fib (suc n) ≤ b) (e f : ℤ) (we : Within b e) (wf : Within b f) where
+    ascend-multiples : (ss ts : List Bool) → length ss ≡ n → length ts ≤ n → ones ss ≤ m → ones ts ≤ m
+        → Goes (ascend ss ts) (pos 0 ∷ pos k ∷ before (multiple k) 1 ss e ∷ before (multiple k) 1 ts f ∷ [])
+        (multiple k n ∷ multiple k (suc n) ∷ e ∷ f ∷ [])
+    ascend-multiples ss ts ls lt few few′ =
+        let x : ℤ = before (multiple k) 1 ss e in
+        let y : ℤ = before (multiple k) 1 ts f in
+        subst (λ (z : List ℤ). Goes (ascend ss ts) z (multiple k n ∷ multiple k (suc n) ∷ e ∷ f ∷ []))
+        (ap₂ (λ (c d : ℤ). c ∷ d ∷ x ∷ y ∷ []) (multiple-zero k) (multiple-one k))
+        (ascend-from n (multiple k) (multiples b n k most) e f we wf ss ts 0 (omega arith) (omega arith) few few′)
+
+    pub chain-multiples : Goes (chain n) (pos 0 ∷ pos k ∷ e ∷ f ∷ []) (multiple k n ∷ multiple k (suc n) ∷ e ∷ f ∷ [])
+    unfolding ones
+    chain-multiples =
+        rw (before-none (multiple k) 1 n e) at
+        (ascend-multiples (pad n []) [] (pad-length n [] (omega arith)) (omega arith) (omega (arith, ones-pad n [])) (omega arith))
+
+  -- from (0, 1, 0, 0) to the sums of two forms
+  pub ascend-sums : (ss ts : List Bool) → length ts ≤ length ss → ones ss ≤ m → ones ts ≤ m
+      → 1 * fib (suc (length ss)) ≤ b → fibsum ss ≤ b → fibsum ts ≤ b
+      → Goes (ascend ss ts) startExponents (multiple 1 (length ss) ∷ multiple 1 (suc (length ss)) ∷ pos (fibsum ss) ∷ pos (fibsum ts) ∷ [])
+  ascend-sums ss ts lt few few′ most hs ht =
+      let none : (bs : List Bool) → before (multiple 1) 1 bs (pos (fibsum bs)) ≡ pos 0 =
+      λ bs. ap (λ (x : ℕ). before (multiple 1) 1 bs (pos x)) (omega arith) ∙ before-sum 1 1 bs in
+      rw (none ss, none ts) at
+      (ascend-multiples (length ss) 1 most (pos (fibsum ss)) (pos (fibsum ts)) (within-natural (fibsum ss) hs) (within-natural (fibsum ts) ht)
+      ss ts refl lt few few′)
 
 -- ---- coming down
 
@@ -115,7 +137,7 @@ naturals-range c d e f h =
     four-range (pos c) (pos d) (pos e) (pos f)
     (within-natural c (omega arith)) (within-natural d (omega arith)) (within-natural e (omega arith)) (within-natural f (omega arith))
 
-downward : (b : Bool) (u v : ℕ) → u + (v + cond b 1 0) ≤ 2 ^ 60
+downward : (b : Bool) (u v : ℕ) → u + (v + cond b 1 0) < 2 ^ 61
     → Goes (downSteps b) (pos 1 ∷ pos u ∷ pos v ∷ pos 0 ∷ []) (pos 1 ∷ pos (v + cond b 1 0) ∷ pos (u + (v + cond b 1 0)) ∷ pos 0 ∷ [])
 unfolding shift
 downward true u v h =
@@ -129,7 +151,7 @@ downward false u v h =
     (goes-step (naturals-range 1 (u + v) v 0 (omega arith)) refl
     (goes-none (naturals-range 1 v (u + v) 0 (omega arith)))))
 
-pub descend-sums : (bs : List Bool) → fibsum bs ≤ 2 ^ 60
+pub descend-sums : (bs : List Bool) → fibsum bs < 2 ^ 61
     → Goes (descend bs) (pos 1 ∷ pos 0 ∷ pos 0 ∷ pos 0 ∷ []) (pos 1 ∷ pos (fibsumFrom 0 bs) ∷ pos (fibsum bs) ∷ pos 0 ∷ [])
 unfolding descend fibsumFrom
 descend-sums [] h = goes-none (naturals-range 1 0 0 0 (omega arith))

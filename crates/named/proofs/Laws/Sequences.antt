@@ -4,21 +4,24 @@ use mathlib.Core.Path.{_≡_, refl, sym, ap, ap₂, _∙_}
 use mathlib.Core.Bool.{Bool, true, false, cond}
 use mathlib.Core.List.{List, [], _∷_}
 use Prim.Native.Nat.{ℕ, zero, suc, _+_, _*_, _≤_, _<_, _^_}
-use native.Mathlib.Nat.{mul-le-mul}
+use native.Mathlib.Nat.{add-zero, mul-le-mul, mul-le-mul-left}
 use native.Mathlib.Decide.{decLe}
 use native.Mathlib.Omega.{arith}
 use lib.IntN.{ℤ, pos, _+ℤ_, _-ℤ_, +ℤ-invr, -ℤ-+ℤ-cancel}
 use lib.ListN.{length}
 use Rattle.fibonacci.specs.Fibonacci.{fib}
-use Rattle.fibonacci.specs.Forms.{fibsumFrom, pad}
+use Rattle.fibonacci.specs.Forms.{fibsumFrom, pad, ones}
 use Rattle.fibonacci.proofs.Laws.Fibonacci.{fib-zero, fib-one, fib-next, fib-grows, fib-monotone}
 use Rattle.machine.proofs.Laws.Integers.{over, under, same, over-less, under-less, Within, within-natural, within-less, within-more}
 use Rattle.named.specs.Generators.{lowest, higher}
 
--- for forms of at most 41 places: 42 terms of at most 2^56 sum to less than 2^62
-pub record Sequence (n : ℕ) (u : ℕ → ℤ) : Type 0 where
-  pub next : (i : ℕ) → u i +ℤ u (suc i) ≡ u (suc (suc i))
-  pub small : (i : ℕ) → i ≤ suc n → Within (2 ^ 56) (u i)
+abbrev pub Adds : (ℕ → ℤ) → Type 0
+Adds u = (i : ℕ) → u i +ℤ u (suc i) ≡ u (suc (suc i))
+
+-- for forms of n places: no term is beyond b
+pub record Sequence (b n : ℕ) (u : ℕ → ℤ) : Type 0 where
+  pub next : Adds u
+  pub small : (i : ℕ) → i ≤ suc n → Within b (u i)
 
 -- ---- the terms that a form selects
 
@@ -38,17 +41,22 @@ unfolding pad
 before-none u i zero e = refl
 before-none u i (suc n) e = before-none u (suc i) n e
 
-before-within : (n : ℕ) (u : ℕ → ℤ) → Sequence n u → (i : ℕ) (bs : List Bool) (e : ℤ) → i + length bs ≤ suc n → Within (2 ^ 56) e
-    → Within (2 ^ 56 * suc (length bs)) (before u i bs e)
-before-within n u q i [] e h w = within-more (omega arith) w
-before-within n u q i (true ∷ bs) e h w =
+-- at most b for each place that is set
+before-within : (b n : ℕ) (u : ℕ → ℤ) → Sequence b n u → (i : ℕ) (bs : List Bool) (e : ℤ) → i + length bs ≤ suc n → Within b e
+    → Within (b * suc (ones bs)) (before u i bs e)
+unfolding ones
+before-within b n u q i [] e h w = within-more (omega arith) w
+before-within b n u q i (true ∷ bs) e h w =
     within-more (omega arith)
-    (within-less (before u (suc i) bs e) (u (suc i)) (before-within n u q (suc i) bs e (omega arith) w) (q .small (suc i) (omega arith)))
-before-within n u q i (false ∷ bs) e h w = within-more (omega arith) (before-within n u q (suc i) bs e (omega arith) w)
+    (within-less (before u (suc i) bs e) (u (suc i)) (before-within b n u q (suc i) bs e (omega arith) w) (q .small (suc i) (omega arith)))
+before-within b n u q i (false ∷ bs) e h w = within-more (omega arith) (before-within b n u q (suc i) bs e (omega arith) w)
 
-pub before-range : (n : ℕ) (u : ℕ → ℤ) → Sequence n u → n ≤ 41 → (i : ℕ) (bs : List Bool) (e : ℤ) → 1 ≤ i → i + length bs ≤ suc n → Within (2 ^ 56) e
-    → Within (2 ^ 62) (before u i bs e)
-before-range n u q low i bs e some h w = within-more (omega arith) (before-within n u q i bs e h w)
+-- so for m places in range where b (m + 1) is
+pub before-range : (b m n : ℕ) (u : ℕ → ℤ) → Sequence b n u → b * suc m ≤ 2 ^ 62 → (i : ℕ) (bs : List Bool) (e : ℤ) → i + length bs ≤ suc n → ones bs ≤ m
+    → Within b e → Within (2 ^ 62) (before u i bs e)
+before-range b m n u q room i bs e h few w =
+    let fewer : suc (ones bs) ≤ suc m = omega arith in
+    within-more (omega (arith, mul-le-mul-left b fewer)) (before-within b n u q i bs e h w)
 
 -- ---- multiples of the Fibonacci numbers
 
@@ -61,17 +69,19 @@ multiple-zero k = ap pos (ap (λ (x : ℕ). k * x) fib-zero ∙ omega arith)
 pub multiple-one : (k : ℕ) → multiple k 1 ≡ pos k
 multiple-one k = ap pos (ap (λ (x : ℕ). k * x) fib-one ∙ omega arith)
 
-multiple-small : (k i : ℕ) → k < 2 ^ 28 → i ≤ 42 → k * fib i ≤ 2 ^ 56
-unfolding fib
-multiple-small k i small low =
-    let m : k ≤ 2 ^ 28 = omega arith in
-    omega (arith, mul-le-mul m (fib-monotone {m = i} {n = 42} low))
+pub multiple-next : (k : ℕ) → Adds (multiple k)
+multiple-next k i = ap pos (omega (arith, ap (λ (x : ℕ). k * x) (fib-next i)))
 
-pub multiples : (n k : ℕ) → n ≤ 41 → k < 2 ^ 28 → Sequence n (multiple k)
-multiples n k low small = record {
-  next = λ i. ap pos (omega (arith, ap (λ (x : ℕ). k * x) (fib-next i)));
-  small = λ i h. within-natural (k * fib i) (multiple-small k i small (omega arith));
+pub multiples : (b n k : ℕ) → k * fib (suc n) ≤ b → Sequence b n (multiple k)
+multiples b n k most = record {
+  next = multiple-next k;
+  small = λ i h. within-natural (k * fib i) (omega (arith, mul-le-mul-left k (fib-monotone {m = i} {n = suc n} h)));
 }
+
+-- for k up to 2^28 and 42 terms
+pub multiple-28 : (k i : ℕ) → k ≤ 2 ^ 28 → i ≤ 42 → k * fib i ≤ 2 ^ 56
+unfolding fib
+multiple-28 k i small low = omega (arith, mul-le-mul small (fib-monotone {m = i} {n = 42} low))
 
 before-parts : (k i : ℕ) (bs : List Bool) (e : ℤ)
     → over (before (multiple k) i bs e) + k * fibsumFrom i bs + under e ≡ over e + under (before (multiple k) i bs e)
@@ -83,47 +93,51 @@ before-parts k i (true ∷ bs) e =
 before-parts k i (false ∷ bs) e = omega (arith, before-parts k (suc i) bs e)
 
 -- the selected multiples sum to the multiple of the form's sum
-pub before-less : (k i : ℕ) (bs : List Bool) (e : ℤ) → before (multiple k) i bs e ≡ e -ℤ pos (k * fibsumFrom i bs)
-before-less k i bs e =
-    let m : ℤ = pos (k * fibsumFrom i bs) in
-    same (before (multiple k) i bs e) (e -ℤ m) (omega (arith, before-parts k i bs e, over-less e m, under-less e m))
-
 pub before-sum : (k i : ℕ) (bs : List Bool) → before (multiple k) i bs (pos (k * fibsumFrom i bs)) ≡ pos 0
-before-sum k i bs = before-less k i bs (pos (k * fibsumFrom i bs)) ∙ +ℤ-invr (pos (k * fibsumFrom i bs))
+before-sum k i bs = same (before (multiple k) i bs (pos (k * fibsumFrom i bs))) (pos 0) (omega (arith, before-parts k i bs (pos (k * fibsumFrom i bs))))
 
 -- ---- a sequence that comes to s and t at n and n + 1
 
-pub record Reaching (n : ℕ) (s t : ℤ) : Type 0 where
+pub record Reaching (b n : ℕ) (s t : ℤ) : Type 0 where
   pub term : ℕ → ℤ
-  pub sequence : Sequence n term
+  pub sequence : Sequence b n term
   pub last : term n ≡ s
   pub past : term (suc n) ≡ t
+
+-- where it comes from, with the terms that two forms select taken away from e and f
+abbrev pub cameFrom : {b n : ℕ} {s t : ℤ} → Reaching b n s t → List Bool → List Bool → ℤ → ℤ → List ℤ
+cameFrom q ss ts e f = q .term 0 ∷ q .term 1 ∷ before (q .term) 1 ss e ∷ before (q .term) 1 ts f ∷ []
+
+-- the multiples of k
+pub reaching-multiples : (b n k : ℕ) {s t : ℕ} → k * fib (suc n) ≤ b → s ≡ k * fib n → t ≡ k * fib (suc n) → Reaching b n (pos s) (pos t)
+reaching-multiples b n k most last past =
+    record { term = multiple k; sequence = multiples b n k most; last = ap pos (sym last); past = ap pos (sym past) }
 
 -- from s and t up
 abbrev from : ℤ → ℤ → ℕ → ℤ
 from s t zero = s
 from s t (suc i) = from t (s +ℤ t) i
 
-from-next : (s t : ℤ) (i : ℕ) → from s t i +ℤ from s t (suc i) ≡ from s t (suc (suc i))
+from-next : (s t : ℤ) → Adds (from s t)
 from-next s t zero = refl
 from-next s t (suc i) = from-next t (s +ℤ t) i
 
-reaching-now : (s t : ℤ) → Within (2 ^ 56) s → Within (2 ^ 56) t → Reaching 0 s t
-reaching-now s t ws wt = record {
+reaching-now : (b : ℕ) (s t : ℤ) → Within b s → Within b t → Reaching b 0 s t
+reaching-now b s t ws wt = record {
   term = from s t;
   sequence = record { next = from-next s t; small = small };
   last = refl;
   past = refl;
 }
   where
-    small : (i : ℕ) → i ≤ 1 → Within (2 ^ 56) (from s t i)
+    small : (i : ℕ) → i ≤ 1 → Within b (from s t i)
     small zero h = ws
     small (suc zero) h = wt
     small (suc (suc i)) h = absurd (omega arith)
 
 -- one further down
-reaching-back : (n : ℕ) (s t : ℤ) → Reaching n (t -ℤ s) s → Within (2 ^ 56) t → Reaching (suc n) s t
-reaching-back n s t q w = record {
+pub reaching-back : (b n : ℕ) (s t : ℤ) → Reaching b n (t -ℤ s) s → Within b t → Reaching b (suc n) s t
+reaching-back b n s t q w = record {
   term = u;
   sequence = record { next = q .sequence .next; small = small };
   last = q .past;
@@ -136,30 +150,33 @@ reaching-back n s t q w = record {
     top : u (suc (suc n)) ≡ t
     top = sym (q .sequence .next n) ∙ ap₂ _+ℤ_ (q .last) (q .past) ∙ -ℤ-+ℤ-cancel t s
 
-    small : (i : ℕ) → i ≤ suc (suc n) → Within (2 ^ 56) (u i)
+    small : (i : ℕ) → i ≤ suc (suc n) → Within b (u i)
     small i h = elim (decLe i (suc n)) [
       | yes k ↦ q .sequence .small i k
       | no k ↦ let e : i ≡ suc (suc n) = omega arith in rw (e, top) w
     ]
 
-reaching : (n j : ℕ) (s t : ℤ) → fib (suc (j + n)) ≤ 2 ^ 28 → Within (2 ^ 28 * fib (suc j)) s → Within (2 ^ 28 * fib j) t → Reaching n s t
-reaching zero j s t h ws wt =
-    let m : fib (suc j) ≤ 2 ^ 28 = omega (arith, fib-monotone {m = suc j} {n = suc (j + zero)} (omega arith)) in
-    reaching-now s t (within-more (omega arith) ws) (within-more (omega (arith, fib-grows j)) wt)
-reaching (suc n) j s t h ws wt =
+-- down from s and t, that are at most c F_(j+1) and c F_j
+reaching : (b c n j : ℕ) (s t : ℤ) → c * fib (suc (j + n)) ≤ b → Within (c * fib (suc j)) s → Within (c * fib j) t → Reaching b n s t
+reaching b c zero j s t h ws wt =
+    reaching-now b s t
+    (within-more (omega (arith, ap (λ (i : ℕ). c * fib (suc i)) (add-zero j))) ws)
+    (within-more (omega (arith, mul-le-mul-left c (fib-monotone {m = j} {n = suc (j + zero)} (omega arith)))) wt)
+reaching b c (suc n) j s t h ws wt =
     let e : suc (j + suc n) ≡ suc (suc j + n) = omega arith in
-    reaching-back n s t
-    (reaching n (suc j) (t -ℤ s) s (omega (arith, ap fib e))
-    (within-more (omega (arith, fib-next j)) (within-less t s wt ws)) ws)
-    (within-more (omega (arith, fib-monotone {m = j} {n = suc (j + suc n)} (omega arith))) wt)
+    reaching-back b n s t
+    (reaching b c n (suc j) (t -ℤ s) s (omega (arith, ap (λ (i : ℕ). c * fib i) e))
+    (within-more (omega (arith, ap (λ (x : ℕ). c * x) (fib-next j))) (within-less t s wt ws)) ws)
+    (within-more (omega (arith, mul-le-mul-left c (fib-monotone {m = j} {n = suc (j + suc n)} (omega arith)))) wt)
 
--- through two natural numbers below 2^28
-pub reaching-naturals : (n s t : ℕ) → 1 ≤ n → n ≤ 41 → s < 2 ^ 28 → t < 2 ^ 28 → Reaching n (pos s) (pos t)
+-- through two natural numbers of at most c
+pub reaching-naturals : (b c n s t : ℕ) → 1 ≤ n → c * fib (suc n) ≤ b → s ≤ c → t ≤ c → Reaching b n (pos s) (pos t)
 unfolding fib
-reaching-naturals zero s t some low hs ht = absurd (omega arith)
-reaching-naturals (suc n) s t some low hs ht =
-    reaching-back n (pos s) (pos t)
-    (reaching n 1 (pos t -ℤ pos s) (pos s) (omega (arith, fib-monotone {m = suc (1 + n)} {n = 42} (omega arith)))
+reaching-naturals b c zero s t some room hs ht = absurd (omega arith)
+reaching-naturals b c (suc n) s t some room hs ht =
+    let e : suc (1 + n) ≡ suc (suc n) = omega arith in
+    reaching-back b n (pos s) (pos t)
+    (reaching b c n 1 (pos t -ℤ pos s) (pos s) (rw e room)
     (record { high = omega (arith, over-less (pos t) (pos s)); low = omega (arith, under-less (pos t) (pos s)) })
     (within-natural s (omega arith)))
-    (within-natural t (omega arith))
+    (within-natural t (omega (arith, mul-le-mul-left c (fib-monotone {m = 1} {n = suc (suc n)} (omega arith)))))

@@ -71,7 +71,7 @@ sound-hybrid vs Ks = (
       (swp-sound 0 1 tt tt tt tt, (swp-sound 1 2 tt tt tt tt, sound-back (ascend Ks []) (sound-ascend Ks []))),
 )
 
-sound-drawn : (figure : Figure) (ss ts Ss Ts : List Bool) → AllSound (drawn figure ss ts Ss Ts)
+pub sound-drawn : (figure : Figure) (ss ts Ss Ts : List Bool) → AllSound (drawn figure ss ts Ss Ts)
 unfolding drawn
 sound-drawn Two ss ts Ss Ts = sound-basic ss Ss
 sound-drawn Four ss ts Ss Ts = sound-dual ss ts Ss Ts

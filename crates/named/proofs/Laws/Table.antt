@@ -18,7 +18,9 @@ use Rattle.named.specs.Members.{Member}
 use Rattle.named.specs.Parameters.{unnamed}
 use Rattle.named.proofs.Laws.Members.{only-member, first-member, first-only, member-map}
 use Rattle.named.proofs.Laws.Parameters.{named-some, named-most}
-use Rattle.named.proofs.Laws.Basic.{basic-program, dual-program, hybrid-program}
+use Rattle.named.proofs.Laws.Basic.{basic-program}
+use Rattle.named.proofs.Laws.Dual.{dual-program}
+use Rattle.named.proofs.Laws.Hybrid.{hybrid-program}
 
 -- ---- the rows
 

@@ -44,6 +44,16 @@ basic-halves : (ks Ks : List Bool) → basic ks Ks ≡ (half ks ++ Swp 1 2 ∷ [
 unfolding basic half
 basic-halves ks Ks = simp (back-append, back-back, append-assoc)
 
+-- the forms that figure 4 takes: of F_n and F_(n+1) with k and with K, modulo r
+pub record Crossed (r k K : ℕ) (ss ts Ss Ts : List Bool) : Type 0 where
+  pub same : length Ss ≡ length ss
+  pub beside : length ts ≤ length ss
+  pub besideLast : length Ts ≤ length ss
+  pub first-sum : fibsum ss % r ≡ k * fib (length ss) % r
+  pub beside-sum : fibsum ts % r ≡ k * fib (suc (length ss)) % r
+  pub last-sum : fibsum Ss % r ≡ K * fib (length ss) % r
+  pub beside-last-sum : fibsum Ts % r ≡ K * fib (suc (length ss)) % r
+
 module _ (p : ℕ) (pr : Prime p) where
   -- ---- powers whose exponents are congruent modulo r
 
@@ -111,26 +121,22 @@ module _ (p : ℕ) (pr : Prime p) where
 
   -- ---- dual
 
-  pub dual-raises : (r k K : ℕ) (ss ts Ss Ts : List Bool) → k * K % r ≡ 1
-      → length Ss ≡ length ss → length ts ≤ length ss → length Ts ≤ length ss
-      → fibsum ss % r ≡ k * fib (length ss) % r → fibsum ts % r ≡ k * fib (suc (length ss)) % r
-      → fibsum Ss % r ≡ K * fib (length ss) % r → fibsum Ts % r ≡ K * fib (suc (length ss)) % r
-      → Raises p r k (dual ss ts Ss Ts)
+  pub dual-raises : (r k K : ℕ) (ss ts Ss Ts : List Bool) → k * K % r ≡ 1 → Crossed r k K ss ts Ss Ts → Raises p r k (dual ss ts Ss Ts)
   unfolding dual doAll apply
-  dual-raises r k K ss ts Ss Ts inv lS lt lT es et eS eT a ra ord =
+  dual-raises r k K ss ts Ss Ts inv c a ra ord =
       let b : ℕ = a ^ k % p in
       let rb : Residue p b = residue-pow p pr a k ra in
       let h : ℕ = length ss in
       let swaps : List Step = Swp 0 2 ∷ Swp 1 3 ∷ [] in
       let first : doAll p (ascend ss ts) (start a) ≡ (a ^ fib h % p) ∷ (a ^ fib (suc h) % p) ∷ (b ^ fib h % p) ∷ (b ^ fib (suc h) % p) ∷ [] =
-      ascend-start p pr a ss ts ra lt
+      ascend-start p pr a ss ts ra (c .beside)
       ∙ ap₂ (λ (x y : ℕ). (a ^ fib h % p) ∷ (a ^ fib (suc h) % p) ∷ x ∷ y ∷ [])
-      (scaled-power a r k (fibsum ss) (fib h) ord es) (scaled-power a r k (fibsum ts) (fib (suc h)) ord et) in
+      (scaled-power a r k (fibsum ss) (fib h) ord (c .first-sum)) (scaled-power a r k (fibsum ts) (fib (suc h)) ord (c .beside-sum)) in
       let second : doAll p (ascend Ss Ts) (start b) ≡ (b ^ fib h % p) ∷ (b ^ fib (suc h) % p) ∷ (a ^ fib h % p) ∷ (a ^ fib (suc h) % p) ∷ [] =
-      ascend-start p pr b Ss Ts rb (omega arith)
-      ∙ rw lS
+      ascend-start p pr b Ss Ts rb (omega (arith, c .same, c .besideLast))
+      ∙ rw (c .same)
       (ap₂ (λ (x y : ℕ). (b ^ fib h % p) ∷ (b ^ fib (suc h) % p) ∷ x ∷ y ∷ [])
-      (unscaled-power a r k K (fibsum Ss) (fib h) ord inv eS) (unscaled-power a r k K (fibsum Ts) (fib (suc h)) ord inv eT)) in
+      (unscaled-power a r k K (fibsum Ss) (fib h) ord inv (c .last-sum)) (unscaled-power a r k K (fibsum Ts) (fib (suc h)) ord inv (c .beside-last-sum))) in
       ap (λ (l : List Step). doAll p l (start a)) (sym (append-assoc (ascend ss ts) swaps (back (ascend Ss Ts))))
       ∙ meet (ascend ss ts ++ swaps) (ascend Ss Ts) a b (sound-ascend Ss Ts) rb
       (doAll-append p (ascend ss ts) swaps (start a) ∙ ap (doAll p swaps) first ∙ sym second)
