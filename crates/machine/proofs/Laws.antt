@@ -5,6 +5,7 @@ pub mod Carried
 pub mod Lists
 pub mod Integers
 pub mod Exponents
+pub mod Orders
 pub mod Ranges
 pub mod Sums
 pub mod Traces

@@ -4,8 +4,7 @@ pub mod Members
 pub mod Parameters
 pub mod Sound
 pub mod Lengths
-pub mod Exponents
-pub mod Targets
+pub mod Powers
 pub mod Sequences
 pub mod Loops
 pub mod Range

@@ -18,8 +18,7 @@ use Rattle.named.specs.Promises.{IsProgram}
 use Rattle.named.proofs.Laws.Lengths.{Fits, generated-count}
 use Rattle.named.proofs.Laws.Sequences.{multiple-28, reaching-naturals}
 use Rattle.named.proofs.Laws.Forms.{padded-sum, padded-length, padded-ones}
-use Rattle.named.proofs.Laws.Targets.{Crossed}
-use Rattle.named.proofs.Laws.Programs.{below, inverse-is, four-program}
+use Rattle.named.proofs.Laws.Programs.{below, inverse-is, Crossed, four-program}
 
 module _ (r k : ℕ) (good : badExponent k r ≡ false) where
   abbrev h : ℕ

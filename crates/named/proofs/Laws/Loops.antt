@@ -10,6 +10,7 @@ use lib.IntN.{ℤ, pos, _+ℤ_, _-ℤ_, -ℤ-+ℤ-cancel}
 use lib.ListN.{length}
 use Rattle.fibonacci.specs.Fibonacci.{fib}
 use Rattle.fibonacci.specs.Forms.{fibsumFrom, fibsum, pad, ones}
+use Rattle.fibonacci.proofs.Laws.Fibonacci.{fib-zero, fib-one, fib-next}
 use Rattle.fibonacci.proofs.Laws.Forms.{pad-length, sum-next, ones-pad}
 use Rattle.tape.specs.declared.Step.{Step}
 use Rattle.tape.specs.declared.Step.the-variants.{Mul, Swp}
@@ -20,7 +21,6 @@ use Rattle.machine.proofs.Laws.Ranges.{four-range, Goes, goes-none, goes-step, 
 use Rattle.named.specs.Generators.{select, lowest, higher, ascend, chain, downSteps, descend}
 use Rattle.named.proofs.Laws.Sound.{sound-ascend}
 use Rattle.named.proofs.Laws.Lengths.{length-higher, ones-lowest}
-use Rattle.named.proofs.Laws.Exponents.{place-low, place-high}
 use Rattle.named.proofs.Laws.Sequences.{Sequence, before, before-lowest, before-none, before-range, multiple, multiple-zero, multiple-one, multiples, before-sum, Reaching, cameFrom}
 
 -- an exponent in range
@@ -150,6 +150,14 @@ downward false u v h =
     (goes-step (naturals-range 1 u v 0 (omega arith)) refl
     (goes-step (naturals-range 1 (u + v) v 0 (omega arith)) refl
     (goes-none (naturals-range 1 v (u + v) 0 (omega arith)))))
+
+place-low : (b : Bool) (n : ℕ) → n + cond b 1 0 ≡ cond b (fib 1) 0 + n
+place-low true n = omega (arith, fib-one)
+place-low false n = omega arith
+
+place-high : (b : Bool) (u v : ℕ) → u + (v + cond b 1 0) ≡ cond b (fib 2) 0 + (v + u)
+place-high true u v = omega (arith, fib-next 0, fib-one, fib-zero)
+place-high false u v = omega arith
 
 pub descend-sums : (bs : List Bool) → fibsum bs < 2 ^ 61
     → Goes (descend bs) (pos 1 ∷ pos 0 ∷ pos 0 ∷ pos 0 ∷ []) (pos 1 ∷ pos (fibsumFrom 0 bs) ∷ pos (fibsum bs) ∷ pos 0 ∷ [])

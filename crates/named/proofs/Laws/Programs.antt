@@ -3,7 +3,7 @@ use mathlib.Core.Path.{_≡_, refl, sym, ap, _∙_}
 use mathlib.Core.Bool.{Bool, true, false}
 use mathlib.Core.List.{List, [], _∷_, map}
 use Prim.Native.Nat.{ℕ, suc, _+_, _*_, _%_, _≤_, _<_, _^_}
-use native.Mathlib.Nat.{one-mul, mod-lt, mod-eq-of-lt}
+use native.Mathlib.Nat.{one-mul}
 use native.Mathlib.Omega.{arith}
 use lib.IntN.{ℤ, pos}
 use lib.ListN.{length}
@@ -14,7 +14,8 @@ use Rattle.modular.proofs.Laws.Inverses.{good-exponent, inverse-order}
 use Rattle.fibonacci.specs.Fibonacci.{fib}
 use Rattle.fibonacci.specs.Forms.{fibsumFrom, fibsum, ones}
 use Rattle.tape.specs.declared.Step.{Step}
-use Rattle.machine.specs.Exponents.{startExponents, residueOf}
+use Rattle.tape.specs.Steps.{AllSound}
+use Rattle.machine.specs.Exponents.{startExponents, exponentsAt, residueOf}
 use Rattle.machine.proofs.Laws.Ranges.{Goes, goes-end}
 use Rattle.machine.proofs.Laws.Congruences.{Congruent, congruent-same, congruent-naturals}
 use Rattle.named.specs.declared.Figure.{Figure}
@@ -23,10 +24,20 @@ use Rattle.named.specs.Generators.{drawn, Raises}
 use Rattle.named.specs.Promises.{mostSteps, IsProgram}
 use Rattle.named.proofs.Laws.Sound.{sound-drawn}
 use Rattle.named.proofs.Laws.Lengths.{drawn-some}
-use Rattle.named.proofs.Laws.Targets.{raises-lowers, basic-raises, Crossed, dual-raises, hybrid-raises}
+use Rattle.named.proofs.Laws.Powers.{one-residue, ends-raises, raises-lowers}
 use Rattle.named.proofs.Laws.Sequences.{multiple, Reaching, reaching-multiples}
 use Rattle.named.proofs.Laws.Range.{basic-goes, dual-goes, hybrid-goes}
 use Rattle.named.proofs.Laws.Ends.{EndsAt, came-ends}
+
+-- the forms that figure 4 takes: of F_n and F_(n+1) with k and with K, modulo r
+pub record Crossed (r k K : ℕ) (ss ts Ss Ts : List Bool) : Type 0 where
+  pub same : length Ss ≡ length ss
+  pub beside : length ts ≤ length ss
+  pub besideLast : length Ts ≤ length ss
+  pub first-sum : fibsum ss % r ≡ k * fib (length ss) % r
+  pub beside-sum : fibsum ts % r ≡ k * fib (suc (length ss)) % r
+  pub last-sum : fibsum Ss % r ≡ K * fib (length ss) % r
+  pub beside-last-sum : fibsum Ts % r ≡ K * fib (suc (length ss)) % r
 
 module _ (r k : ℕ) (good : badExponent k r ≡ false) where
   pub below : k < r
@@ -36,24 +47,25 @@ module _ (r k : ℕ) (good : badExponent k r ≡ false) where
   inverse-is = inverse-order k r good
 
   drawn-program : (figure : Figure) (ss ts Ss Ts : List Bool) {z : List ℤ} → length (drawn figure ss ts Ss Ts) ≤ mostSteps
-      → ((p : ℕ) → Prime p → Raises p r k (drawn figure ss ts Ss Ts)) → Goes (drawn figure ss ts Ss Ts) startExponents z → EndsAt r k z
-      → IsProgram r k (drawn figure ss ts Ss Ts)
-  drawn-program figure ss ts Ss Ts short raises goes ends =
-      let sound = sound-drawn figure ss ts Ss Ts in
+      → Goes (drawn figure ss ts Ss Ts) startExponents z → EndsAt r k z → IsProgram r k (drawn figure ss ts Ss Ts)
+  drawn-program figure ss ts Ss Ts short goes at-end =
+      let xs : List Step = drawn figure ss ts Ss Ts in
+      let sound : AllSound xs = sound-drawn figure ss ts Ss Ts in
+      let ends : EndsAt r k (exponentsAt xs (length xs)) = ap (map (residueOf r)) (goes-end goes) ∙ at-end in
+      let raises : (p : ℕ) → Prime p → Raises p r k xs = λ p pr. ends-raises p pr r k xs sound (omega (arith, below)) ends in
       record {
         sound = sound;
         some = drawn-some figure ss ts Ss Ts;
         short = short;
         raises = raises;
-        lowers = λ p pr. raises-lowers p pr r k (inverse r k) (drawn figure ss ts Ss Ts) sound (inverse-is .one) (raises p pr);
+        lowers = λ p pr. raises-lowers p pr r k xs sound (inverse r k) (inverse-is .one) (raises p pr);
         stays = goes .stays;
-        ends = ap (map (residueOf r)) (goes-end goes) ∙ ends;
+        ends = ends;
       }
 
   -- 1 is K times k, and 0 the multiple of an empty form's sum
   one-congruent : (n : ℕ) → k * n % r ≡ 1 → Congruent r (pos 1) (pos (k * n))
-  one-congruent n inv =
-      congruent-naturals r 1 (k * n) (mod-eq-of-lt (omega (arith, mod-lt (k * n) {m = r} (omega (arith, below)))) ∙ sym inv)
+  one-congruent n inv = congruent-naturals r 1 (k * n) (sym (one-residue r k n inv))
 
   none-congruent : Congruent r (pos 0) (pos (k * fibsum []))
   unfolding fibsumFrom
@@ -67,7 +79,6 @@ module _ (r k : ℕ) (good : badExponent k r ≡ false) where
     unfolding drawn
     two-program ks Ks sum inv few few′ most most′ short =
         drawn-program Two ks [] Ks [] short
-        (λ p pr. basic-raises p pr r k ks Ks (ap (λ (n : ℕ). n % r) sum) inv)
         (basic-goes b m room k ks Ks sum few few′ most most′)
         (came-ends r k (reaching-multiples b (length Ks) k most′ refl refl) Ks [] (pos 1) (pos 0) below
         (congruent-same r _ _ refl) (congruent-same r _ _ refl) (omega arith) (omega arith) (one-congruent (fibsum Ks) inv) none-congruent)
@@ -83,7 +94,6 @@ module _ (r k : ℕ) (good : badExponent k r ≡ false) where
         λ bs i e.
         congruent-naturals r (1 * fib i) (k * fibsum bs) (ap (λ (x : ℕ). x % r) (one-mul (fib i)) ∙ sym (unscaled r k K (fibsum bs) (fib i) (inverse-is .one) e)) in
         drawn-program Four ss ts Ss Ts short
-        (λ p pr. dual-raises p pr r k K ss ts Ss Ts (inverse-is .one) c)
         (dual-goes b m room ss ts Ss Ts q (c .beside) (c .same) (c .besideLast) few-s few-t few-S few-T most)
         (came-ends r k q Ss Ts (multiple 1 n) (multiple 1 (suc n)) below
         (congruent-naturals r (fibsum ss) (k * fib n) (c .first-sum)) (congruent-naturals r (fibsum ts) (k * fib (suc n)) (c .beside-sum))
@@ -95,7 +105,6 @@ module _ (r k : ℕ) (good : badExponent k r ≡ false) where
     unfolding drawn
     six-program vs Ks q inv eu ev few some short =
         drawn-program Six vs [] Ks [] short
-        (λ p pr. hybrid-raises p pr r k vs Ks inv eu ev)
         (hybrid-goes b m room vs Ks q few some)
         (came-ends r k q Ks [] (pos 1) (pos 0) below
         (congruent-naturals r (fibsumFrom 0 vs) (k * fib (length Ks)) eu) (congruent-naturals r (fibsum vs) (k * fib (suc (length Ks))) ev)
