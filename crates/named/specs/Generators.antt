@@ -66,6 +66,10 @@ pub record Forms : Type 0 where
   pub last : List Bool
   pub besideLast : List Bool
 
+-- a first and a last form with nothing beside them
+abbrev pub lone : Figure → List Bool → List Bool → Forms
+lone figure first last = record { figure = figure; first = first; beside = []; last = last; besideLast = [] }
+
 -- the steps that a figure draws from forms
 unfoldable pub drawn : Figure → List Bool → List Bool → List Bool → List Bool → List Step
 drawn Two ks none Ks none′ = basic ks Ks

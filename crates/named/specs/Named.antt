@@ -12,13 +12,13 @@ use Rattle.fibonacci.specs.Height.{height, oddHeight}
 use Rattle.tape.specs.declared.Step.{Step}
 use Rattle.tape.specs.Layout.{Program, wordsOf}
 use Rattle.named.specs.declared.Figure.the-variants.{Two, Four, Six}
-use Rattle.named.specs.Generators.{Forms, generated}
+use Rattle.named.specs.Generators.{Forms, lone, generated}
 
 -- ---- the forms of each variant, for r and k
 
 -- basic: the Zeckendorf forms of k and K at their own lengths
 unfoldable pub basicForms : ℕ → ℕ → Forms
-basicForms r k = record { figure = Two; first = zeckendorf k; beside = []; last = zeckendorf (inverse r k); besideLast = [] }
+basicForms r k = lone Two (zeckendorf k) (zeckendorf (inverse r k))
 
 -- one of dual's four forms, of k × F_i modulo r, padded to h
 abbrev pub dualForm : ℕ → ℕ → ℕ → List Bool
@@ -37,14 +37,7 @@ dualForms r k =
 
 -- hybrid: v = k × F_(ℓ'+1), not reduced; the form of K padded to ℓ'
 unfoldable pub hybridForms : ℕ → ℕ → Forms
-hybridForms r k =
-    record {
-      figure = Six;
-      first = zeckendorf (k * fib (suc (oddHeight r)));
-      beside = [];
-      last = pad (oddHeight r) (zeckendorf (inverse r k));
-      besideLast = [];
-    }
+hybridForms r k = lone Six (zeckendorf (k * fib (suc (oddHeight r)))) (pad (oddHeight r) (zeckendorf (inverse r k)))
 
 -- ---- the table of variants
 

@@ -1,15 +1,37 @@
--- What a variant promises of each of its programs: document 01, "Machine and variants" and "Demands".
+-- What a variant promises of the forms that it picks and of the programs drawn from them.
 use mathlib.Core.Path.{_≡_}
-use mathlib.Core.Bool.{true}
+use mathlib.Core.Bool.{Bool, true}
 use mathlib.Core.List.{List, [], _∷_, map}
 use Prim.Native.Nat.{ℕ, _≤_, _<_}
 use lib.ListN.{length}
 use Rattle.modular.specs.Primes.{Prime}
 use Rattle.modular.specs.Inverses.{inverse}
+use Rattle.fibonacci.specs.Services.{lastPlace}
 use Rattle.tape.specs.declared.Step.{Step}
 use Rattle.tape.specs.Steps.{AllSound}
 use Rattle.machine.specs.Exponents.{startExponents, exponentsAt, staysInRange, residueOf}
-use Rattle.named.specs.Generators.{Raises, Lowers}
+use Rattle.named.specs.declared.Figure.{Figure}
+use Rattle.named.specs.declared.Figure.the-variants.{Two, Four, Six}
+use Rattle.named.specs.Generators.{Forms, Raises, Lowers}
+
+-- ---- the forms
+
+-- only figure 4 selects a form beside another
+abbrev pub Alone : Figure → List Bool → Type 0
+Alone Two bs = bs ≡ []
+Alone Four bs = Unit {0}
+Alone Six bs = bs ≡ []
+
+-- each has 92 places at most, and one beside another no more than it
+pub record Fits (f : Forms) : Type 0 where
+  pub first : length (f .first) ≤ lastPlace
+  pub beside : length (f .beside) ≤ length (f .first)
+  pub last : length (f .last) ≤ lastPlace
+  pub besideLast : length (f .besideLast) ≤ length (f .last)
+  pub alone : Alone (f .figure) (f .beside)
+  pub aloneLast : Alone (f .figure) (f .besideLast)
+
+-- ---- the programs
 
 -- the steps that a tape has room for: 512 words, of which five are no steps
 abbrev pub mostSteps : ℕ

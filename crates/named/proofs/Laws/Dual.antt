@@ -5,17 +5,16 @@ use mathlib.Core.List.{List}
 use Prim.Native.Nat.{ℕ, suc, _+_, _*_, _%_, _≤_, _<_, _^_}
 use native.Mathlib.Nat.{mod-lt, mod-mod}
 use native.Mathlib.Omega.{arith}
-use lib.IntN.{pos}
 use lib.ListN.{length}
 use Rattle.modular.specs.Inverses.{inverse, badExponent}
 use Rattle.fibonacci.specs.Fibonacci.{fib}
 use Rattle.fibonacci.specs.Forms.{fibsum, ones}
 use Rattle.fibonacci.specs.Height.{height}
 use Rattle.fibonacci.proofs.Laws.Height.{height-least, height-28}
-use Rattle.named.specs.Generators.{generated}
+use Rattle.named.specs.Generators.{drawn, generated}
 use Rattle.named.specs.Named.{dualForm, dualForms}
-use Rattle.named.specs.Promises.{IsProgram}
-use Rattle.named.proofs.Laws.Lengths.{Fits, generated-count}
+use Rattle.named.specs.Promises.{Fits, IsProgram}
+use Rattle.named.proofs.Laws.Lengths.{dual-length}
 use Rattle.named.proofs.Laws.Sequences.{multiple-28, reaching-naturals}
 use Rattle.named.proofs.Laws.Forms.{padded-sum, padded-length, padded-ones}
 use Rattle.named.proofs.Laws.Programs.{below, inverse-is, Crossed, four-program}
@@ -56,25 +55,45 @@ module _ (r k : ℕ) (good : badExponent k r ≡ false) where
         beside-last-sum = residue K (suc h) _ (ap suc n);
       }
 
-  pub dual-fits : Fits (dualForms r k)
-  unfolding dualForms
-  dual-fits = (crossed .beside, omega (arith, places K h, places K (suc h)))
-
   pub dual-bound : length (generated (dualForms r k)) ≤ 6 * h + 4
-  unfolding dualForms
+  unfolding dualForms drawn
   dual-bound =
-      omega (arith, generated-count (dualForms r k) dual-fits, places k h, places K h, few k h, few k (suc h), few K h, few K (suc h))
+      omega (
+        arith,
+        dual-length (dualForm r k h) (dualForm r k (suc h)) (dualForm r K h) (dualForm r K (suc h))
+            (crossed .beside) (omega (arith, crossed .same, crossed .besideLast)),
+        places k h,
+        places K h,
+        few k h,
+        few k (suc h),
+        few K h,
+        few K (suc h),
+      )
 
-  pub dual-program : r < 2 ^ 28 → IsProgram r k (generated (dualForms r k))
-  unfolding dualForms
-  dual-program small =
-      let low : h ≤ 41 = height-28 r small in
-      let at-most : (i : ℕ) → fibsum (dualForm r k i) ≤ 2 ^ 28 = λ i. omega (arith, sum k i, residue-below (k * fib i)) in
-      let most : (c : ℕ) → c ≤ 2 ^ 28 → c * fib (suc (length (dualForm r k h))) ≤ 2 ^ 56 =
-      λ c hc. multiple-28 c (suc (length (dualForm r k h))) hc (omega (arith, places k h)) in
-      four-program r k good (2 ^ 56) 41 (omega arith) (dualForm r k h) (dualForm r k (suc h)) (dualForm r K h) (dualForm r K (suc h))
-      (reaching-naturals (2 ^ 56) (2 ^ 28) (length (dualForm r k h)) _ _ (omega (arith, places k h, height-least r .from)) (most (2 ^ 28) (omega arith))
-      (at-most h) (at-most (suc h)))
-      crossed
-      (omega (arith, few k h)) (omega (arith, few k (suc h))) (omega (arith, few K h)) (omega (arith, few K (suc h)))
-      (most 1 (omega arith)) (omega (arith, dual-bound))
+  module _ (small : r < 2 ^ 28) where
+    low : h ≤ 41
+    low = height-28 r small
+
+    pub dual-fits : Fits (dualForms r k)
+    unfolding dualForms
+    dual-fits = record {
+      first = omega (arith, low, places k h);
+      beside = crossed .beside;
+      last = omega (arith, low, places K h);
+      besideLast = omega (arith, crossed .same, crossed .besideLast);
+      alone = tt;
+      aloneLast = tt;
+    }
+
+    pub dual-program : IsProgram r k (generated (dualForms r k))
+    unfolding dualForms
+    dual-program =
+        let at-most : (i : ℕ) → fibsum (dualForm r k i) ≤ 2 ^ 28 = λ i. omega (arith, sum k i, residue-below (k * fib i)) in
+        let most : (c : ℕ) → c ≤ 2 ^ 28 → c * fib (suc (length (dualForm r k h))) ≤ 2 ^ 56 =
+        λ c hc. multiple-28 c (suc (length (dualForm r k h))) hc (omega (arith, low, places k h)) in
+        four-program r k good (2 ^ 56) 41 (omega arith) (dualForm r k h) (dualForm r k (suc h)) (dualForm r K h) (dualForm r K (suc h))
+        (reaching-naturals (2 ^ 56) (2 ^ 28) (length (dualForm r k h)) _ _ (omega (arith, places k h, height-least r .from)) (most (2 ^ 28) (omega arith))
+        (at-most h) (at-most (suc h)))
+        crossed
+        (omega (arith, low, few k h)) (omega (arith, low, few k (suc h))) (omega (arith, low, few K h)) (omega (arith, low, few K (suc h)))
+        (most 1 (omega arith)) (omega (arith, low, dual-bound))

@@ -1,10 +1,9 @@
 -- The hybrid program: figure 6 on the Zeckendorf form of v = k F_(ℓ'+1), of at most 2h places with h set, and on K's padded to ℓ'.
-use mathlib.Core.Path.{_≡_, refl, sym, ap, _∙_}
+use mathlib.Core.Path.{_≡_, sym, ap, _∙_}
 use mathlib.Core.Bool.{Bool, false}
-use mathlib.Core.List.{List, []}
+use mathlib.Core.List.{List}
 use Prim.Native.Nat.{ℕ, suc, _+_, _*_, _%_, _≤_, _<_, _^_}
 use native.Mathlib.Omega.{arith}
-use lib.IntN.{pos}
 use lib.ListN.{length}
 use Rattle.modular.specs.Inverses.{inverse, badExponent}
 use Rattle.fibonacci.specs.Fibonacci.{fib}
@@ -14,17 +13,24 @@ use Rattle.fibonacci.proofs.Laws.Forms.{ones-places}
 use Rattle.fibonacci.proofs.Laws.Zeckendorf.{zeckendorf-sum}
 use Rattle.fibonacci.proofs.Laws.Height.{height-least, height-28, height-le-odd, odd-height-le, odd-height-28}
 use Rattle.fibonacci.proofs.Laws.Lengths.{multiple-length, multiple-shift, multiple-count}
-use Rattle.named.specs.Generators.{generated}
+use Rattle.named.specs.declared.Figure.the-variants.{Six}
+use Rattle.named.specs.Generators.{drawn, generated}
 use Rattle.named.specs.Named.{hybridForms}
-use Rattle.named.specs.Promises.{IsProgram}
-use Rattle.named.proofs.Laws.Lengths.{Fits, generated-count}
+use Rattle.named.specs.Promises.{Fits, IsProgram}
+use Rattle.named.proofs.Laws.Lengths.{hybrid-length, lone-fits}
 use Rattle.named.proofs.Laws.Sequences.{multiple-28, reaching-multiples}
 use Rattle.named.proofs.Laws.Forms.{padded-sum, padded-length, padded-ones}
 use Rattle.named.proofs.Laws.Programs.{below, inverse-is, six-program}
 
 module _ (r k : ℕ) (good : badExponent k r ≡ false) where
+  abbrev v : ℕ
+  v = k * fib (suc (oddHeight r))
+
   abbrev Ks : List Bool
   Ks = pad (oddHeight r) (zeckendorf (inverse r k))
+
+  abbrev h : k < r
+  h = below r k good
 
   places : length Ks ≡ oddHeight r
   places = padded-length (oddHeight r) (inverse r k) r (inverse-is r k good .high) (height-le-odd r)
@@ -32,35 +38,34 @@ module _ (r k : ℕ) (good : badExponent k r ≡ false) where
   few : 2 * ones Ks ≤ height r + 1
   few = padded-ones (oddHeight r) (inverse r k) r (inverse-is r k good .high)
 
-  pub hybrid-fits : Fits (hybridForms r k)
-  unfolding hybridForms ones
-  hybrid-fits = (refl, refl)
-
   pub hybrid-bound : length (generated (hybridForms r k)) ≤ 8 * height r + 5
-  unfolding hybridForms ones
+  unfolding hybridForms drawn
   hybrid-bound =
-      let h : k < r = below r k good in
       omega (
         arith,
-        generated-count (hybridForms r k) hybrid-fits,
+        hybrid-length (zeckendorf v) Ks,
         multiple-length r k h,
         multiple-count r k h,
-        ones-places 1 (zeckendorf (k * fib (suc (oddHeight r)))),
+        ones-places 1 (zeckendorf v),
         places,
         few,
         odd-height-le r,
         height-least r .from,
       )
 
-  pub hybrid-program : r < 2 ^ 28 → IsProgram r k (generated (hybridForms r k))
-  unfolding hybridForms
-  hybrid-program small =
-      let vs : List Bool = zeckendorf (k * fib (suc (oddHeight r))) in
-      let h : k < r = below r k good in
-      let eu : fibsumFrom 0 vs ≡ k * fib (length Ks) = multiple-shift r k h ∙ ap (λ (n : ℕ). k * fib n) (sym places) in
-      let ev : fibsum vs ≡ k * fib (suc (length Ks)) = zeckendorf-sum (k * fib (suc (oddHeight r))) ∙ ap (λ (n : ℕ). k * fib (suc n)) (sym places) in
-      six-program r k good (2 ^ 56) 41 (omega arith) vs Ks
-      (reaching-multiples (2 ^ 56) (length Ks) k (multiple-28 k (suc (length Ks)) (omega arith) (omega (arith, places, odd-height-28 r small))) eu ev)
-      (ap (λ (n : ℕ). k * n % r) (padded-sum (oddHeight r) (inverse r k)) ∙ inverse-is r k good .one)
-      (ap (λ (n : ℕ). n % r) eu) (ap (λ (n : ℕ). n % r) ev)
-      (omega (arith, few, height-28 r small)) (omega arith) (omega (arith, hybrid-bound, height-28 r small))
+  module _ (small : r < 2 ^ 28) where
+    pub hybrid-fits : Fits (hybridForms r k)
+    unfolding hybridForms
+    hybrid-fits =
+        lone-fits Six (zeckendorf v) Ks (omega (arith, multiple-length r k h, height-28 r small)) (omega (arith, places, odd-height-28 r small))
+
+    pub hybrid-program : IsProgram r k (generated (hybridForms r k))
+    unfolding hybridForms
+    hybrid-program =
+        let eu : fibsumFrom 0 (zeckendorf v) ≡ k * fib (length Ks) = multiple-shift r k h ∙ ap (λ (n : ℕ). k * fib n) (sym places) in
+        let ev : fibsum (zeckendorf v) ≡ k * fib (suc (length Ks)) = zeckendorf-sum v ∙ ap (λ (n : ℕ). k * fib (suc n)) (sym places) in
+        six-program r k good (2 ^ 56) 41 (omega arith) (zeckendorf v) Ks
+        (reaching-multiples (2 ^ 56) (length Ks) k (multiple-28 k (suc (length Ks)) (omega (arith, h)) (omega (arith, places, odd-height-28 r small))) eu ev)
+        (ap (λ (n : ℕ). k * n % r) (padded-sum (oddHeight r) (inverse r k)) ∙ inverse-is r k good .one)
+        (ap (λ (n : ℕ). n % r) eu) (ap (λ (n : ℕ). n % r) ev)
+        (omega (arith, few, height-28 r small)) (omega arith) (omega (arith, hybrid-bound, height-28 r small))

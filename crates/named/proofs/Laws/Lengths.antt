@@ -6,13 +6,15 @@ use Prim.Native.Nat.{ℕ, suc, _+_, _*_, _≤_, _<_}
 use native.Mathlib.Omega.{arith}
 use lib.ListN.{length, length-append}
 use Rattle.fibonacci.specs.Forms.{pad, ones}
+use Rattle.fibonacci.specs.Services.{lastPlace}
 use Rattle.fibonacci.proofs.Laws.Forms.{pad-length, ones-pad}
 use Rattle.tape.specs.declared.Step.{Step}
 use Rattle.tape.specs.declared.Step.the-variants.{Mul, Swp}
 use Rattle.machine.specs.Machine.{opposite, back}
 use Rattle.named.specs.declared.Figure.{Figure}
 use Rattle.named.specs.declared.Figure.the-variants.{Two, Four, Six}
-use Rattle.named.specs.Generators.{select, lowest, higher, ascend, chain, downSteps, descend, basic, dual, hybrid, Forms, drawn, generated, stepsFrom}
+use Rattle.named.specs.Generators.{select, lowest, higher, ascend, chain, downSteps, descend, basic, dual, hybrid, Forms, lone, drawn, generated, stepsFrom}
+use Rattle.named.specs.Promises.{Alone, Fits}
 
 pub length-back : (xs : List Step) → length (back xs) ≡ length xs
 unfolding back
@@ -88,25 +90,32 @@ hybrid-length vs Ks =
 
 -- ---- whichever the figure
 
--- forms as a figure takes them: a form beside another is no longer than it, and figures 2 and 6 select none
-abbrev Fitting : Figure → List Bool → List Bool → List Bool → List Bool → Type 0
-Fitting Two ss ts Ss Ts = (ones ts ≡ 0) × (ones Ts ≡ 0)
-Fitting Four ss ts Ss Ts = (length ts ≤ length ss) × (length Ts ≤ length Ss)
-Fitting Six ss ts Ss Ts = (ones ts ≡ 0) × (ones Ts ≡ 0)
-
-abbrev pub Fits : Forms → Type 0
-Fits f = Fitting (f .figure) (f .first) (f .beside) (f .last) (f .besideLast)
-
-drawn-count : (figure : Figure) (ss ts Ss Ts : List Bool) → Fitting figure ss ts Ss Ts
+drawn-count : (figure : Figure) (ss ts Ss Ts : List Bool) → length ts ≤ length ss → length Ts ≤ length Ss → Alone figure ts → Alone figure Ts
     → length (drawn figure ss ts Ss Ts) ≡ stepsFrom figure (length ss) (length Ss) (ones ss + ones ts + ones Ss + ones Ts)
-unfolding drawn
-drawn-count Two ss ts Ss Ts fits = omega (arith, basic-length ss Ss)
-drawn-count Four ss ts Ss Ts fits = omega (arith, dual-length ss ts Ss Ts (fits .0) (fits .1))
-drawn-count Six ss ts Ss Ts fits = omega (arith, hybrid-length ss Ss)
+unfolding drawn ones
+drawn-count Two ss ts Ss Ts h H e E = rw (e, E) (omega (arith, basic-length ss Ss))
+drawn-count Four ss ts Ss Ts h H e E = omega (arith, dual-length ss ts Ss Ts h H)
+drawn-count Six ss ts Ss Ts h H e E = rw (e, E) (omega (arith, hybrid-length ss Ss))
 
 pub generated-count : (f : Forms) → Fits f
     → length (generated f) ≡ stepsFrom (f .figure) (length (f .first)) (length (f .last)) (ones (f .first) + ones (f .beside) + ones (f .last) + ones (f .besideLast))
-generated-count f fits = drawn-count (f .figure) (f .first) (f .beside) (f .last) (f .besideLast) fits
+generated-count f fits =
+    drawn-count (f .figure) (f .first) (f .beside) (f .last) (f .besideLast) (fits .beside) (fits .besideLast) (fits .alone) (fits .aloneLast)
+
+alone-none : (figure : Figure) → Alone figure []
+alone-none Two = refl
+alone-none Four = tt
+alone-none Six = refl
+
+pub lone-fits : (figure : Figure) (ss Ss : List Bool) → length ss ≤ lastPlace → length Ss ≤ lastPlace → Fits (lone figure ss Ss)
+lone-fits figure ss Ss h H = record {
+  first = h;
+  beside = omega arith;
+  last = H;
+  besideLast = omega arith;
+  alone = alone-none figure;
+  aloneLast = alone-none figure;
+}
 
 -- each has a swap at least
 pub drawn-some : (figure : Figure) (ss ts Ss Ts : List Bool) → 0 < length (drawn figure ss ts Ss Ts)
