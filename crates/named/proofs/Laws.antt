@@ -4,10 +4,8 @@ pub mod Members
 pub mod Parameters
 pub mod Sound
 pub mod Lengths
-pub mod Powers
 pub mod Sequences
 pub mod Loops
-pub mod Range
 pub mod Ends
 pub mod Programs
 pub mod Forms

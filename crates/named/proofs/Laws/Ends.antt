@@ -1,16 +1,29 @@
 -- Exponents that end at (0, k, 0, 0) modulo r: a sequence that is congruent to the multiples of k at its last two terms is so at all
--- below them, so what it comes from is congruent to what those multiples come from.
+-- below them, so it comes from where those multiples come from. What ends there raises to the k-th power where a^r = 1, and is undone
+-- to the K-th, since the k-th power of b^K is b.
 use mathlib.Core.Path.{_≡_, sym, ap, _∙_}
 use mathlib.Core.Bool.{Bool, true, false}
 use mathlib.Core.List.{List, [], _∷_, map}
-use Prim.Native.Nat.{ℕ, zero, suc, _+_, _*_, _≤_, _<_}
+use Prim.Native.Nat.{ℕ, zero, suc, _+_, _*_, _%_, _^_, _≤_, _<_}
+use native.Mathlib.Nat.{mul-comm}
 use native.Mathlib.Decide.{decLe}
 use native.Mathlib.Omega.{arith}
 use lib.IntN.{ℤ, pos, _-ℤ_, +ℤ-negℤ-cancel}
 use lib.ListN.{length}
+use Rattle.modular.specs.Primes.{Prime}
+use Rattle.modular.specs.Residues.{Residue}
+use Rattle.modular.proofs.Laws.Residues.{unscaled}
+use Rattle.modular.proofs.Laws.Powers.{pow-pow, pow-congruent, power-zero, power-one, order-power, residue-pow}
 use Rattle.fibonacci.specs.Forms.{fibsum}
-use Rattle.machine.specs.Exponents.{residueOf}
+use Rattle.tape.specs.declared.Step.{Step}
+use Rattle.tape.specs.Steps.{AllSound}
+use Rattle.machine.specs.Machine.{undoAll, start}
+use Rattle.machine.specs.Exponents.{startExponents, exponentsAt, residueOf}
+use Rattle.machine.proofs.Laws.Steps.{good-start, undo-do}
+use Rattle.machine.proofs.Laws.Ranges.{Goes, goes-end}
+use Rattle.machine.proofs.Laws.Orders.{registers-residues}
 use Rattle.machine.proofs.Laws.Congruences.{Congruent, congruent-same, congruent-through, congruent-less, residue-is}
+use Rattle.named.specs.Generators.{Raises, Lowers}
 use Rattle.named.proofs.Laws.Sequences.{Adds, before, multiple, multiple-zero, multiple-one, multiple-next, before-sum, Reaching, cameFrom}
 
 -- (0, k, 0, 0) modulo r
@@ -67,3 +80,30 @@ came-ends r k {n = n} q ss ts e f h cs ct ls lt ce cf =
     (congruent-through r (u 0) (multiple k 0) (pos 0) (terms 0 (omega arith)) (congruent-same r (multiple k 0) (pos 0) (multiple-zero k)))
     (congruent-through r (u 1) (multiple k 1) (pos k) (terms 1 (omega arith)) (congruent-same r (multiple k 1) (pos k) (multiple-one k)))
     (none ss e ls ce) (none ts f lt cf)
+
+-- where a program ends that goes there
+pub end-residues : (r k : ℕ) {xs : List Step} {z : List ℤ} → Goes xs startExponents z → EndsAt r k z → EndsAt r k (exponentsAt xs (length xs))
+end-residues r k goes e = ap (map (residueOf r)) (goes-end goes) ∙ e
+
+-- ---- the power
+
+pub one-residue : (r k K : ℕ) → k * K % r ≡ 1 → k * K % r ≡ 1 % r
+one-residue r k K inv = unscaled r k K K 1 inv (ap (λ (x : ℕ). x % r) (omega arith))
+
+module _ (p : ℕ) (pr : Prime p) (r k : ℕ) (xs : List Step) (sound : AllSound xs) where
+  pub ends-raises : 0 < r → EndsAt r k (exponentsAt xs (length xs)) → Raises p r k xs
+  ends-raises some ends a ra order =
+      registers-residues p pr a ra r some order xs sound ∙ ap (map (λ (n : ℕ). a ^ n % p)) ends ∙ simp (power-zero p pr a)
+
+  pub raises-lowers : (K : ℕ) → k * K % r ≡ 1 → Raises p r k xs → Lowers p r K xs
+  raises-lowers K inv raises b rb order =
+      let a : ℕ = b ^ K % p in
+      let ra : Residue p a = residue-pow p pr b K rb in
+      let e : a ^ k % p ≡ b =
+      pow-pow p b K k
+      ∙ ap (λ (n : ℕ). b ^ n % p) (mul-comm K k)
+      ∙ pow-congruent p b r (k * K) 1 order (one-residue r k K inv)
+      ∙ power-one p pr b rb in
+      ap (λ (x : ℕ). undoAll p xs (start x)) (sym e)
+      ∙ ap (undoAll p xs) (sym (raises a ra (order-power p pr b r K order)))
+      ∙ undo-do p pr xs (start a) sound (good-start p pr a ra)

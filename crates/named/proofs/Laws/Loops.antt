@@ -4,7 +4,7 @@ use mathlib.Core.Path.{_≡_, refl, sym, ap, ap₂, subst, _∙_}
 use mathlib.Core.Bool.{Bool, true, false, cond}
 use mathlib.Core.List.{List, [], _∷_}
 use Prim.Native.Nat.{ℕ, suc, _+_, _*_, _≤_, _<_, _^_}
-use native.Mathlib.Nat.{add-zero}
+use native.Mathlib.Nat.{add-zero, mul-le-mul-left}
 use native.Mathlib.Omega.{arith}
 use lib.IntN.{ℤ, pos, _+ℤ_, _-ℤ_, -ℤ-+ℤ-cancel}
 use lib.ListN.{length}
@@ -14,14 +14,12 @@ use Rattle.fibonacci.proofs.Laws.Fibonacci.{fib-zero, fib-one, fib-next}
 use Rattle.fibonacci.proofs.Laws.Forms.{pad-length, sum-next, ones-pad}
 use Rattle.tape.specs.declared.Step.{Step}
 use Rattle.tape.specs.declared.Step.the-variants.{Mul, Swp}
-use Rattle.machine.specs.Machine.{back}
 use Rattle.machine.specs.Exponents.{shift, startExponents, allInRange}
 use Rattle.machine.proofs.Laws.Integers.{Within, within-natural, within-more}
-use Rattle.machine.proofs.Laws.Ranges.{four-range, Goes, goes-none, goes-step, goes-append, goes-back}
+use Rattle.machine.proofs.Laws.Ranges.{four-range, Goes, goes-none, goes-step, goes-append}
 use Rattle.named.specs.Generators.{select, lowest, higher, ascend, chain, downSteps, descend}
-use Rattle.named.proofs.Laws.Sound.{sound-ascend}
 use Rattle.named.proofs.Laws.Lengths.{length-higher, ones-lowest}
-use Rattle.named.proofs.Laws.Sequences.{Sequence, before, before-lowest, before-none, before-range, multiple, multiple-zero, multiple-one, multiples, before-sum, Reaching, cameFrom}
+use Rattle.named.proofs.Laws.Sequences.{Sequence, before, before-lowest, before-none, before-within, multiple, multiple-zero, multiple-one, multiples, before-sum}
 
 -- an exponent in range
 abbrev Ranged : ℤ → Type 0
@@ -67,7 +65,9 @@ module _ (b m : ℕ) (room : b * (2 + m) < 2 ^ 62) where
     term-ranged i h = ranged (q .small i h)
 
     selected-ranged : (x : ℤ) → Within b x → (i : ℕ) (bs : List Bool) → i + length bs ≤ suc n → ones bs ≤ suc m → Ranged (before u i bs x)
-    selected-ranged x w i bs h few = before-range b (suc m) n u q (omega arith) i bs x h few w
+    selected-ranged x w i bs h few =
+        let fewer : suc (ones bs) ≤ 2 + m = omega arith in
+        within-more (omega (arith, mul-le-mul-left b fewer)) (before-within b n u q i bs x h w)
 
     -- to e and f, from what was there before the terms that the forms select
     pub ascend-from : (ss ts : List Bool) (i : ℕ) → length ts ≤ length ss → i + length ss ≡ n → ones ss ≤ m → ones ts ≤ m
@@ -89,17 +89,6 @@ module _ (b m : ℕ) (room : b * (2 + m) < 2 ^ 62) where
         (selected-ranged e we (suc i) (true ∷ ss) (omega arith) (omega arith)) (selected-ranged f wf (suc i) (true ∷ higher ts) (omega arith) (omega arith))
         (ascend-from ss (higher ts) (suc i) short (omega arith) (omega arith) few″))
 
-  -- ---- back along a sequence that comes to s and t
-
-  pub back-along : {n : ℕ} {s t : ℤ} (q : Reaching b n s t) (ss ts : List Bool) (e f : ℤ) → Within b e → Within b f
-      → length ss ≡ n → length ts ≤ n → ones ss ≤ m → ones ts ≤ m
-      → Goes (back (ascend ss ts)) (s ∷ t ∷ e ∷ f ∷ []) (cameFrom q ss ts e f)
-  back-along {n} q ss ts e f we wf ls lt few few′ =
-      subst (λ (z : List ℤ). Goes (back (ascend ss ts)) z (cameFrom q ss ts e f))
-      (ap₂ (λ (c d : ℤ). c ∷ d ∷ e ∷ f ∷ []) (q .last) (q .past))
-      (goes-back (ascend ss ts) (sound-ascend ss ts) refl
-      (ascend-from n (q .term) (q .sequence) e f we wf ss ts 0 (omega arith) (omega arith) few few′))
-
   -- ---- going up from 0 and k, along the multiples of k
 
   module _ (n k : ℕ) (most : k * fib (suc n) ≤ b) (e f : ℤ) (we : Within b e) (wf : Within b f) where
@@ -120,15 +109,14 @@ module _ (b m : ℕ) (room : b * (2 + m) < 2 ^ 62) where
         (ascend-multiples (pad n []) [] (pad-length n [] (omega arith)) (omega arith) (omega (arith, ones-pad n [])) (omega arith))
 
   -- from (0, 1, 0, 0) to the sums of two forms
-  pub ascend-sums : (ss ts : List Bool) → length ts ≤ length ss → ones ss ≤ m → ones ts ≤ m
-      → 1 * fib (suc (length ss)) ≤ b → fibsum ss ≤ b → fibsum ts ≤ b
-      → Goes (ascend ss ts) startExponents (multiple 1 (length ss) ∷ multiple 1 (suc (length ss)) ∷ pos (fibsum ss) ∷ pos (fibsum ts) ∷ [])
-  ascend-sums ss ts lt few few′ most hs ht =
+  pub ascend-sums : (n : ℕ) (ss ts : List Bool) → length ss ≡ n → length ts ≤ n → ones ss ≤ m → ones ts ≤ m
+      → 1 * fib (suc n) ≤ b → fibsum ss ≤ b → fibsum ts ≤ b
+      → Goes (ascend ss ts) startExponents (multiple 1 n ∷ multiple 1 (suc n) ∷ pos (fibsum ss) ∷ pos (fibsum ts) ∷ [])
+  ascend-sums n ss ts ls lt few few′ most hs ht =
       let none : (bs : List Bool) → before (multiple 1) 1 bs (pos (fibsum bs)) ≡ pos 0 =
       λ bs. ap (λ (x : ℕ). before (multiple 1) 1 bs (pos x)) (omega arith) ∙ before-sum 1 1 bs in
       rw (none ss, none ts) at
-      (ascend-multiples (length ss) 1 most (pos (fibsum ss)) (pos (fibsum ts)) (within-natural (fibsum ss) hs) (within-natural (fibsum ts) ht)
-      ss ts refl lt few few′)
+      (ascend-multiples n 1 most (pos (fibsum ss)) (pos (fibsum ts)) (within-natural (fibsum ss) hs) (within-natural (fibsum ts) ht) ss ts ls lt few few′)
 
 -- ---- coming down
 

@@ -7,7 +7,7 @@ use Prim.Native.Nat.{ℕ, zero, suc, _+_, _*_, _≤_, _<_, _^_}
 use native.Mathlib.Nat.{add-zero, mul-le-mul, mul-le-mul-left}
 use native.Mathlib.Decide.{decLe}
 use native.Mathlib.Omega.{arith}
-use lib.IntN.{ℤ, pos, _+ℤ_, _-ℤ_, +ℤ-invr, -ℤ-+ℤ-cancel}
+use lib.IntN.{ℤ, pos, _+ℤ_, _-ℤ_, -ℤ-+ℤ-cancel}
 use lib.ListN.{length}
 use Rattle.fibonacci.specs.Fibonacci.{fib}
 use Rattle.fibonacci.specs.Forms.{fibsumFrom, pad, ones}
@@ -42,7 +42,7 @@ before-none u i zero e = refl
 before-none u i (suc n) e = before-none u (suc i) n e
 
 -- at most b for each place that is set
-before-within : (b n : ℕ) (u : ℕ → ℤ) → Sequence b n u → (i : ℕ) (bs : List Bool) (e : ℤ) → i + length bs ≤ suc n → Within b e
+pub before-within : (b n : ℕ) (u : ℕ → ℤ) → Sequence b n u → (i : ℕ) (bs : List Bool) (e : ℤ) → i + length bs ≤ suc n → Within b e
     → Within (b * suc (ones bs)) (before u i bs e)
 unfolding ones
 before-within b n u q i [] e h w = within-more (omega arith) w
@@ -50,13 +50,6 @@ before-within b n u q i (true ∷ bs) e h w =
     within-more (omega arith)
     (within-less (before u (suc i) bs e) (u (suc i)) (before-within b n u q (suc i) bs e (omega arith) w) (q .small (suc i) (omega arith)))
 before-within b n u q i (false ∷ bs) e h w = within-more (omega arith) (before-within b n u q (suc i) bs e (omega arith) w)
-
--- so for m places in range where b (m + 1) is
-pub before-range : (b m n : ℕ) (u : ℕ → ℤ) → Sequence b n u → b * suc m ≤ 2 ^ 62 → (i : ℕ) (bs : List Bool) (e : ℤ) → i + length bs ≤ suc n → ones bs ≤ m
-    → Within b e → Within (2 ^ 62) (before u i bs e)
-before-range b m n u q room i bs e h few w =
-    let fewer : suc (ones bs) ≤ suc m = omega arith in
-    within-more (omega (arith, mul-le-mul-left b fewer)) (before-within b n u q i bs e h w)
 
 -- ---- multiples of the Fibonacci numbers
 
@@ -136,7 +129,7 @@ reaching-now b s t ws wt = record {
     small (suc (suc i)) h = absurd (omega arith)
 
 -- one further down
-pub reaching-back : (b n : ℕ) (s t : ℤ) → Reaching b n (t -ℤ s) s → Within b t → Reaching b (suc n) s t
+reaching-back : (b n : ℕ) (s t : ℤ) → Reaching b n (t -ℤ s) s → Within b t → Reaching b (suc n) s t
 reaching-back b n s t q w = record {
   term = u;
   sequence = record { next = q .sequence .next; small = small };
