@@ -123,6 +123,3 @@ unfolding drawn dual hybrid
 drawn-some Two ss ts Ss Ts = omega (arith, basic-length ss Ss)
 drawn-some Four ss ts Ss Ts = rw length-append (omega arith)
 drawn-some Six ss ts Ss Ts = omega arith
-
-pub generated-some : (f : Forms) → 0 < length (generated f)
-generated-some f = drawn-some (f .figure) (f .first) (f .beside) (f .last) (f .besideLast)

@@ -1,11 +1,9 @@
 -- A named program keeps what the table promises.
 use mathlib.Core.Path.{_≡_}
 use mathlib.Core.Bool.{true, false}
-use mathlib.Core.Logic.{_⊎_, inl, inr}
 use mathlib.Core.List.{List, [], _∷_, map}
 use Prim.Native.Nat.{ℕ, _≤_, _<_, _^_}
 use native.Mathlib.Omega.{arith}
-use native.Mathlib.Decide.{ℕ-discrete}
 use lib.ListN.{length, take}
 use Rattle.modular.specs.Primes.{Prime}
 use Rattle.modular.specs.Inverses.{inverse, badExponent}
@@ -20,9 +18,9 @@ use Rattle.named.specs.Promises.{mostSteps}
 use Rattle.named.specs.Members.{Member}
 use Rattle.named.specs.Parameters.{badModulus, badOrder, unnamed}
 use Rattle.named.proofs.Laws.Members.{first-any, member-map}
-use Rattle.named.proofs.Laws.Parameters.{order-small, named-some, named-most}
-use Rattle.named.proofs.Laws.Sound.{generated-sound}
-use Rattle.named.proofs.Laws.Lengths.{generated-some}
+use Rattle.named.proofs.Laws.Parameters.{order-small}
+use Rattle.named.proofs.Laws.Sound.{sound-drawn}
+use Rattle.named.proofs.Laws.Lengths.{drawn-some}
 use Rattle.named.proofs.Laws.Loops.{naturals-range}
 use Rattle.named.proofs.Laws.Table.{member-program, named-member, named-program}
 
@@ -33,7 +31,7 @@ named-any P variant r k none every = first-any P (programsFor variant r k) [] no
 
 pub named-sound : (variant r k : ℕ) → AllSound (namedSteps variant r k)
 named-sound variant r k =
-    named-any AllSound variant r k tt (member-map AllSound generated (formsFor variant r k) (λ f m. generated-sound f))
+    named-any AllSound variant r k tt (member-map AllSound generated (formsFor variant r k) (λ f m. sound-drawn (f .figure) (f .first) (f .beside) (f .last) (f .besideLast)))
 
 pub named-short : (variant r k : ℕ) → badExponent k r ≡ false → r < 2 ^ 28 → length (namedSteps variant r k) ≤ mostSteps
 named-short variant r k good small =
@@ -43,18 +41,9 @@ pub named-words-short : (p r k variant : ℕ) → badModulus p ≡ false → bad
 named-words-short p r k variant modulus order good =
     omega (arith, program-length (namedProgram p r k variant), named-short variant r k good (order-small p r modulus order))
 
-pub named-is : (variant : ℕ) → unnamed variant ≡ false → (variant ≡ 1) ⊎ ((variant ≡ 2) ⊎ (variant ≡ 3))
-named-is variant named = elim (ℕ-discrete variant 1) [
-  | yes one ↦ inl one
-  | no not-one ↦ inr (elim (ℕ-discrete variant 2) [
-    | yes two ↦ inl two
-    | no not-two ↦ inr (omega (arith, named-some variant named, named-most variant named))
-  ])
-]
-
 pub named-steps-some : (variant r k : ℕ) → unnamed variant ≡ false → 0 < length (namedSteps variant r k)
 named-steps-some variant r k named =
-    member-map (λ (xs : List Step). 0 < length xs) generated (formsFor variant r k) (λ f m. generated-some f)
+    member-map (λ (xs : List Step). 0 < length xs) generated (formsFor variant r k) (λ f m. drawn-some (f .figure) (f .first) (f .beside) (f .last) (f .besideLast))
     (namedSteps variant r k) (named-member variant r k named)
 
 module _ (p : ℕ) (pr : Prime p) (variant r k : ℕ) (good : badExponent k r ≡ false) (small : r < 2 ^ 28) (named : unnamed variant ≡ false) where

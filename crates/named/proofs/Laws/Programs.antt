@@ -1,6 +1,6 @@
 -- Each figure's program for the k-th power, for any forms whose sums fit: what a variant's file hands its forms to. The second half
 -- of every figure goes back along a sequence that is congruent to the multiples of k, so it ends at (0, k, 0, 0) modulo r.
-use mathlib.Core.Path.{_≡_, refl, sym, ap, ap₂, subst, _∙_}
+use mathlib.Core.Path.{_≡_, refl, sym, ap, _∙_}
 use mathlib.Core.Bool.{Bool, false}
 use mathlib.Core.List.{List, [], _∷_}
 use Prim.Native.Nat.{ℕ, suc, _+_, _*_, _%_, _≤_, _<_, _^_}
@@ -19,7 +19,7 @@ use Rattle.tape.specs.Steps.{AllSound}
 use Rattle.machine.specs.Machine.{back}
 use Rattle.machine.specs.Exponents.{shift, startExponents, exponentsAt}
 use Rattle.machine.proofs.Laws.Integers.{Within, within-natural}
-use Rattle.machine.proofs.Laws.Ranges.{four-range, Goes, goes-step, goes-append, goes-back, goes-end}
+use Rattle.machine.proofs.Laws.Ranges.{four-range, Goes, goes-step, goes-append, goes-back}
 use Rattle.machine.proofs.Laws.Congruences.{Congruent, congruent-same, congruent-naturals}
 use Rattle.named.specs.declared.Figure.{Figure}
 use Rattle.named.specs.declared.Figure.the-variants.{Two, Four, Six}

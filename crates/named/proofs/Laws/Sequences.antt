@@ -3,7 +3,7 @@
 use mathlib.Core.Path.{_≡_, refl, sym, ap, ap₂, _∙_}
 use mathlib.Core.Bool.{Bool, true, false, cond}
 use mathlib.Core.List.{List, [], _∷_}
-use Prim.Native.Nat.{ℕ, zero, suc, _+_, _*_, _≤_, _<_, _^_}
+use Prim.Native.Nat.{ℕ, zero, suc, _+_, _*_, _≤_, _^_}
 use native.Mathlib.Nat.{add-zero, mul-le-mul, mul-le-mul-left}
 use native.Mathlib.Decide.{decLe}
 use native.Mathlib.Omega.{arith}
@@ -11,7 +11,7 @@ use lib.IntN.{ℤ, pos, _+ℤ_, _-ℤ_, -ℤ-+ℤ-cancel}
 use lib.ListN.{length}
 use Rattle.fibonacci.specs.Fibonacci.{fib}
 use Rattle.fibonacci.specs.Forms.{fibsumFrom, pad, ones}
-use Rattle.fibonacci.proofs.Laws.Fibonacci.{fib-zero, fib-one, fib-next, fib-grows, fib-monotone}
+use Rattle.fibonacci.proofs.Laws.Fibonacci.{fib-zero, fib-one, fib-next, fib-monotone}
 use Rattle.machine.proofs.Laws.Integers.{over, under, same, over-less, under-less, Within, within-natural, within-less, within-more}
 use Rattle.named.specs.Generators.{lowest, higher}
 

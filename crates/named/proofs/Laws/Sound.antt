@@ -13,16 +13,16 @@ use Rattle.machine.specs.Machine.{back}
 use Rattle.machine.proofs.Laws.Steps.{sound-append, sound-back}
 use Rattle.named.specs.declared.Figure.{Figure}
 use Rattle.named.specs.declared.Figure.the-variants.{Two, Four, Six}
-use Rattle.named.specs.Generators.{select, lowest, higher, ascend, chain, downSteps, descend, basic, dual, hybrid, Forms, drawn, generated}
+use Rattle.named.specs.Generators.{select, lowest, higher, ascend, chain, downSteps, descend, basic, dual, hybrid, drawn}
 
 apart : (t s : ℕ) → T (ltb t 4) → T (ltb s 4) → T (not (eqb t s)) → Apart t s
 apart t s ht hs ne =
     record { target-is-one = ltb→lt t 4 ht; source-is-one = ltb→lt s 4 hs; differ = λ e. T-not (eqb t s) ne (rw (← e) (eqb-refl t)) }
 
-pub mul-sound : (t s : ℕ) → T (ltb t 4) → T (ltb s 4) → T (not (eqb t s)) → Sound (Mul t s)
+mul-sound : (t s : ℕ) → T (ltb t 4) → T (ltb s 4) → T (not (eqb t s)) → Sound (Mul t s)
 mul-sound t s ht hs ne = apart t s ht hs ne
 
-pub swp-sound : (t s : ℕ) → T (ltb t 4) → T (ltb s 4) → T (not (eqb t s)) → T (ltb t s) → Sound (Swp t s)
+swp-sound : (t s : ℕ) → T (ltb t 4) → T (ltb s 4) → T (not (eqb t s)) → T (ltb t s) → Sound (Swp t s)
 swp-sound t s ht hs ne less = (apart t s ht hs ne, ltb→lt t s less)
 
 sound-select : (b : Bool) (x : Step) (xs : List Step) → Sound x → AllSound xs → AllSound (select b x xs)
@@ -41,41 +41,26 @@ sound-ascend (s ∷ ss) ts = (
   ),
 )
 
-pub sound-descend : (bs : List Bool) → AllSound (descend bs)
+sound-descend : (bs : List Bool) → AllSound (descend bs)
 unfolding descend
 sound-descend [] = tt
 sound-descend (b ∷ bs) =
     sound-append (descend bs) (downSteps b) (sound-descend bs)
     (sound-select b _ _ (mul-sound _ _ tt tt tt) (mul-sound 1 2 tt tt tt, (swp-sound 1 2 tt tt tt tt, tt)))
 
-pub sound-basic : (ks Ks : List Bool) → AllSound (basic ks Ks)
-unfolding basic
-sound-basic ks Ks =
+pub sound-drawn : (figure : Figure) (ss ts Ss Ts : List Bool) → AllSound (drawn figure ss ts Ss Ts)
+unfolding drawn basic dual hybrid
+sound-drawn Two ks ts Ks Ts =
     sound-append (ascend ks []) _ (sound-ascend ks [])
     (sound-append (back (chain (length ks))) _ (sound-back (chain (length ks)) (sound-ascend (pad (length ks) []) [])) (
       swp-sound 1 2 tt tt tt tt,
       sound-append (chain (length Ks)) _ (sound-ascend (pad (length Ks) []) []) (sound-back (ascend Ks []) (sound-ascend Ks [])),
     ))
-
-pub sound-dual : (ss ts Ss Ts : List Bool) → AllSound (dual ss ts Ss Ts)
-unfolding dual
-sound-dual ss ts Ss Ts =
+sound-drawn Four ss ts Ss Ts =
     sound-append (ascend ss ts) _ (sound-ascend ss ts)
     (swp-sound 0 2 tt tt tt tt, (swp-sound 1 3 tt tt tt tt, sound-back (ascend Ss Ts) (sound-ascend Ss Ts)))
-
-pub sound-hybrid : (vs Ks : List Bool) → AllSound (hybrid vs Ks)
-unfolding hybrid
-sound-hybrid vs Ks = (
+sound-drawn Six vs ts Ks Ts = (
   swp-sound 0 1 tt tt tt tt,
   sound-append (descend vs) _ (sound-descend vs)
       (swp-sound 0 1 tt tt tt tt, (swp-sound 1 2 tt tt tt tt, sound-back (ascend Ks []) (sound-ascend Ks []))),
 )
-
-pub sound-drawn : (figure : Figure) (ss ts Ss Ts : List Bool) → AllSound (drawn figure ss ts Ss Ts)
-unfolding drawn
-sound-drawn Two ss ts Ss Ts = sound-basic ss Ss
-sound-drawn Four ss ts Ss Ts = sound-dual ss ts Ss Ts
-sound-drawn Six ss ts Ss Ts = sound-hybrid ss Ss
-
-pub generated-sound : (f : Forms) → AllSound (generated f)
-generated-sound f = sound-drawn (f .figure) (f .first) (f .beside) (f .last) (f .besideLast)
