@@ -44,7 +44,7 @@ module _ (r k : ℕ) (good : badExponent k r ≡ false) where
     pub basic-program : IsProgram r k (generated (basicForms r k))
     unfolding basicForms
     basic-program =
-        two-program r k good (2 ^ 56) 41 (omega arith) (zeckendorf k) (zeckendorf K)
+        two-program r k good (2 ^ 57) 21 (omega arith) (zeckendorf k) (zeckendorf K)
         (zeckendorf-sum k) (ap (λ (n : ℕ). k * n % r) (zeckendorf-sum K) ∙ inverse-is r k good .one)
         (omega (arith, low, form-ones r k h)) (omega (arith, low, form-ones r K H))
         (multiple-28 1 (suc (length (zeckendorf k))) (omega arith) (omega (arith, low, zeckendorf-height r k h)))

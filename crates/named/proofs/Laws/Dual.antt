@@ -2,19 +2,22 @@
 use mathlib.Core.Path.{_≡_, ap, _∙_}
 use mathlib.Core.Bool.{false}
 use Prim.Native.Nat.{ℕ, suc, _+_, _*_, _%_, _≤_, _<_, _^_}
-use native.Mathlib.Nat.{mod-lt, mod-mod}
+use native.Mathlib.Nat.{mod-lt, mod-mod, mul-le-mul-left}
 use native.Mathlib.Omega.{arith}
+use lib.IntN.{pos}
 use lib.ListN.{length}
 use Rattle.modular.specs.Inverses.{inverse, badExponent}
 use Rattle.fibonacci.specs.Fibonacci.{fib}
 use Rattle.fibonacci.specs.Forms.{fibsum, ones}
 use Rattle.fibonacci.specs.Height.{height}
-use Rattle.fibonacci.proofs.Laws.Height.{height-least, height-28}
+use Rattle.fibonacci.proofs.Laws.Fibonacci.{fib-one, fib-monotone}
+use Rattle.fibonacci.proofs.Laws.Height.{height-28}
+use Rattle.machine.proofs.Laws.Integers.{Within, within-natural}
 use Rattle.named.specs.Generators.{drawn, generated}
 use Rattle.named.specs.Named.{dualForm, dualForms}
 use Rattle.named.specs.Promises.{Fits, IsProgram}
 use Rattle.named.proofs.Laws.Lengths.{dual-length}
-use Rattle.named.proofs.Laws.Sequences.{multiple-28, reaching-naturals}
+use Rattle.named.proofs.Laws.Sequences.{multiple-28, reaching}
 use Rattle.named.proofs.Laws.Forms.{padded-sum, padded-length, padded-ones}
 use Rattle.named.proofs.Laws.Programs.{FormOf, below, four-program}
 
@@ -67,14 +70,15 @@ module _ (r k : ℕ) (good : badExponent k r ≡ false) where
       aloneLast = tt;
     }
 
-    form : (x i : ℕ) → FormOf r h 41 (x * fib i) (dualForm r x i)
+    form : (x i : ℕ) → FormOf r h 21 (x * fib i) (dualForm r x i)
     form x i = record { places = places x i; few = omega (arith, low, few x i); sum = ap (λ (n : ℕ). n % r) (sum x i) ∙ mod-mod (x * fib i) r }
 
     pub dual-program : IsProgram r k (generated (dualForms r k))
     unfolding dualForms
     dual-program =
-        let at-most : (i : ℕ) → fibsum (dualForm r k i) ≤ 2 ^ 28 = λ i. omega (arith, sum k i, residue-below (k * fib i)) in
-        four-program r k good (2 ^ 56) 41 (omega arith) h (dualForm r k h) (dualForm r k (suc h)) (dualForm r K h) (dualForm r K (suc h))
+        let within : (i j : ℕ) → 1 ≤ j → Within (2 ^ 28 * fib j) (pos (fibsum (dualForm r k i))) =
+        λ i j some. within-natural _ (omega (arith, sum k i, residue-below (k * fib i), mul-le-mul-left (2 ^ 28) (fib-monotone {m = 1} {n = j} some), fib-one)) in
+        four-program r k good (2 ^ 57) 21 (omega arith) h (dualForm r k h) (dualForm r k (suc h)) (dualForm r K h) (dualForm r K (suc h))
         (form k h) (form k (suc h)) (form K h) (form K (suc h))
-        (reaching-naturals (2 ^ 56) (2 ^ 28) h _ _ (height-least r .from) (multiple-28 (2 ^ 28) (suc h) (omega arith) (omega (arith, low))) (at-most h) (at-most (suc h)))
+        (reaching (2 ^ 57) (2 ^ 28) h 1 _ _ (multiple-28 (2 ^ 28) (suc (1 + h)) (omega arith) (omega (arith, low))) (within h 2 (omega arith)) (within (suc h) 1 (omega arith)))
         (multiple-28 1 (suc h) (omega arith) (omega (arith, low))) (omega (arith, low, dual-bound))

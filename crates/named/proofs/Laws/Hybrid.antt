@@ -64,8 +64,8 @@ module _ (r k : ℕ) (good : badExponent k r ≡ false) where
     hybrid-program =
         let eu : fibsumFrom 0 (zeckendorf v) ≡ k * fib (length Ks) = multiple-shift r k h ∙ ap (λ (n : ℕ). k * fib n) (sym places) in
         let ev : fibsum (zeckendorf v) ≡ k * fib (suc (length Ks)) = zeckendorf-sum v ∙ ap (λ (n : ℕ). k * fib (suc n)) (sym places) in
-        six-program r k good (2 ^ 56) 41 (omega arith) (zeckendorf v) Ks
-        (reaching-multiples (2 ^ 56) (length Ks) k (multiple-28 k (suc (length Ks)) (omega (arith, h)) (omega (arith, places, odd-height-28 r small))) eu ev)
+        six-program r k good (2 ^ 57) 21 (omega arith) (zeckendorf v) Ks
+        (reaching-multiples (2 ^ 57) (length Ks) k (multiple-28 k (suc (length Ks)) (omega (arith, h)) (omega (arith, places, odd-height-28 r small))) eu ev)
         (ap (λ (n : ℕ). k * n % r) (padded-sum (oddHeight r) (inverse r k)) ∙ inverse-is r k good .one)
         (ap (λ (n : ℕ). n % r) eu) (ap (λ (n : ℕ). n % r) ev)
         (omega (arith, few, height-28 r small)) (omega arith) (omega (arith, hybrid-bound, height-28 r small))

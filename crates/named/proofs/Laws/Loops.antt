@@ -1,6 +1,6 @@
 -- What the two loops make of whole exponents, in range at every position: going up, registers 0 and 1 go along a sequence, and
 -- registers 2 and 3 are away from where they end by the terms that are still selected; coming down, all grow.
-use mathlib.Core.Path.{_≡_, refl, sym, ap, ap₂, subst, _∙_}
+use mathlib.Core.Path.{_≡_, refl, sym, ap, _∙_}
 use mathlib.Core.Bool.{Bool, true, false, cond}
 use mathlib.Core.List.{List, [], _∷_}
 use Prim.Native.Nat.{ℕ, suc, _+_, _*_, _≤_, _<_, _^_}
@@ -96,10 +96,7 @@ module _ (b m : ℕ) (room : b * (2 + m) < 2 ^ 62) where
         → Goes (ascend ss ts) (pos 0 ∷ pos k ∷ before (multiple k) 1 ss e ∷ before (multiple k) 1 ts f ∷ [])
         (multiple k n ∷ multiple k (suc n) ∷ e ∷ f ∷ [])
     ascend-multiples ss ts ls lt few few′ =
-        let x : ℤ = before (multiple k) 1 ss e in
-        let y : ℤ = before (multiple k) 1 ts f in
-        subst (λ (z : List ℤ). Goes (ascend ss ts) z (multiple k n ∷ multiple k (suc n) ∷ e ∷ f ∷ []))
-        (ap₂ (λ (c d : ℤ). c ∷ d ∷ x ∷ y ∷ []) (multiple-zero k) (multiple-one k))
+        rw (multiple-zero k, multiple-one k) at
         (ascend-from n (multiple k) (multiples b n k most) e f we wf ss ts 0 (omega arith) (omega arith) few few′)
 
     pub chain-multiples : Goes (chain n) (pos 0 ∷ pos k ∷ e ∷ f ∷ []) (multiple k n ∷ multiple k (suc n) ∷ e ∷ f ∷ [])

@@ -71,10 +71,10 @@ multiples b n k most = record {
   small = λ i h. within-natural (k * fib i) (omega (arith, mul-le-mul-left k (fib-monotone {m = i} {n = suc n} h)));
 }
 
--- for k up to 2^28 and 42 terms
-pub multiple-28 : (k i : ℕ) → k ≤ 2 ^ 28 → i ≤ 42 → k * fib i ≤ 2 ^ 56
+-- for k up to 2^28 and 43 terms
+pub multiple-28 : (k i : ℕ) → k ≤ 2 ^ 28 → i ≤ 43 → k * fib i ≤ 2 ^ 57
 unfolding fib
-multiple-28 k i small low = omega (arith, mul-le-mul small (fib-monotone {m = i} {n = 42} low))
+multiple-28 k i small low = omega (arith, mul-le-mul small (fib-monotone {m = i} {n = 43} low))
 
 before-parts : (k i : ℕ) (bs : List Bool) (e : ℤ)
     → over (before (multiple k) i bs e) + k * fibsumFrom i bs + under e ≡ over e + under (before (multiple k) i bs e)
@@ -149,8 +149,8 @@ reaching-back b n s t q w = record {
       | no k ↦ let e : i ≡ suc (suc n) = omega arith in rw (e, top) w
     ]
 
--- down from s and t, that are at most c F_(j+1) and c F_j
-reaching : (b c n j : ℕ) (s t : ℤ) → c * fib (suc (j + n)) ≤ b → Within (c * fib (suc j)) s → Within (c * fib j) t → Reaching b n s t
+-- down from s and t, which are at most c F_(j+1) and c F_j
+pub reaching : (b c n j : ℕ) (s t : ℤ) → c * fib (suc (j + n)) ≤ b → Within (c * fib (suc j)) s → Within (c * fib j) t → Reaching b n s t
 reaching b c zero j s t h ws wt =
     reaching-now b s t
     (within-more (omega (arith, ap (λ (i : ℕ). c * fib (suc i)) (add-zero j))) ws)
@@ -161,15 +161,3 @@ reaching b c (suc n) j s t h ws wt =
     (reaching b c n (suc j) (t -ℤ s) s (omega (arith, ap (λ (i : ℕ). c * fib i) e))
     (within-more (omega (arith, ap (λ (x : ℕ). c * x) (fib-next j))) (within-less t s wt ws)) ws)
     (within-more (omega (arith, mul-le-mul-left c (fib-monotone {m = j} {n = suc (j + suc n)} (omega arith)))) wt)
-
--- through two natural numbers of at most c
-pub reaching-naturals : (b c n s t : ℕ) → 1 ≤ n → c * fib (suc n) ≤ b → s ≤ c → t ≤ c → Reaching b n (pos s) (pos t)
-unfolding fib
-reaching-naturals b c zero s t some room hs ht = absurd (omega arith)
-reaching-naturals b c (suc n) s t some room hs ht =
-    let e : suc (1 + n) ≡ suc (suc n) = omega arith in
-    reaching-back b n (pos s) (pos t)
-    (reaching b c n 1 (pos t -ℤ pos s) (pos s) (rw e room)
-    (record { high = omega (arith, over-less (pos t) (pos s)); low = omega (arith, under-less (pos t) (pos s)) })
-    (within-natural s (omega arith)))
-    (within-natural t (omega (arith, mul-le-mul-left c (fib-monotone {m = 1} {n = suc (suc n)} (omega arith)))))
