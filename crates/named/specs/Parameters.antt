@@ -19,6 +19,6 @@ badOrder p r = ltb r 2 || not (divides r (p - 1))
 unfoldable pub goodInverse : ℕ → ℕ → ℕ
 goodInverse k r = cond (badExponent k r) 0 (inverse r k)
 
--- refusal 4 in build: not 1 to 3
+-- refusal 4 in build: no variant of the table has the number
 unfoldable pub unnamed : ℕ → Bool
 unnamed variant = eqb variant 0 || ltb lastVariant variant

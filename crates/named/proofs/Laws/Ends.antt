@@ -22,7 +22,7 @@ use Rattle.machine.specs.Exponents.{startExponents, exponentsAt, residueOf}
 use Rattle.machine.proofs.Laws.Steps.{good-start, undo-do}
 use Rattle.machine.proofs.Laws.Ranges.{Goes, goes-end}
 use Rattle.machine.proofs.Laws.Orders.{registers-residues}
-use Rattle.machine.proofs.Laws.Congruences.{Congruent, congruent-same, congruent-through, congruent-less, residue-is}
+use Rattle.machine.proofs.Laws.Congruences.{Congruent, congruent-less, residue-is}
 use Rattle.named.specs.Generators.{Raises, Lowers}
 use Rattle.named.proofs.Laws.Sequences.{Adds, before, multiple, multiple-zero, multiple-one, multiple-next, before-sum, Reaching, cameFrom}
 
@@ -77,8 +77,7 @@ came-ends r k {n = n} q ss ts e f h cs ct ls lt ce cf =
     let none : (bs : List Bool) (x : ℤ) → length bs ≤ n → Congruent r x (pos (k * fibsum bs)) → Congruent r (before u 1 bs x) (pos 0) =
     λ bs x l c. rw (before-sum k 1 bs) at (before-congruent r n u (multiple k) terms 1 bs x (pos (k * fibsum bs)) (omega arith) c) in
     ends-at r k (u 0) (u 1) (before u 1 ss e) (before u 1 ts f) h
-    (congruent-through r (u 0) (multiple k 0) (pos 0) (terms 0 (omega arith)) (congruent-same r (multiple k 0) (pos 0) (multiple-zero k)))
-    (congruent-through r (u 1) (multiple k 1) (pos k) (terms 1 (omega arith)) (congruent-same r (multiple k 1) (pos k) (multiple-one k)))
+    (rw (multiple-zero k) at (terms 0 (omega arith))) (rw (multiple-one k) at (terms 1 (omega arith)))
     (none ss e ls ce) (none ts f lt cf)
 
 -- where a program ends that goes there
