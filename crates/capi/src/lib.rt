@@ -154,7 +154,7 @@ pub extern "C" fn fibexp_cut(
     if number != 0 {
         return number;
     }
-    *start = tape::step_index(first) as u32;
+    *start = tape::step_index(tape, first) as u32;
     *count = part.len() as u32;
     0
 }

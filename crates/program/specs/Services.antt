@@ -51,7 +51,7 @@ builtFor h = namedWords (h .modulus) (h .order) (h .exponent) (h .variant)
 unfoldable pub checkRules : List ℕ → List Rule
 checkRules tape =
     let h = headerOf tape in
-    (Length given-if not (isLength (length tape)))
+    (Length given-if not (isLength tape))
     ∷ (Word given-if not (laidOut tape))
     ∷ (Variant given-if ltb lastVariant (h .variant))
     ∷ (Modulus given-if badModulus (h .modulus))

@@ -98,7 +98,7 @@ cutPart (answered words) = words
 
 -- where the part stands in the tape: the index of its first word, and how many words it has
 unfoldable pub cutStart : List ℕ → ℕ → ℕ → Outcome ℕ
-cutStart tape first last = outcome (cutRules tape first last) (stepIndex first)
+cutStart tape first last = outcome (cutRules tape first last) (stepIndex tape first)
 
 unfoldable pub cutCount : List ℕ → ℕ → ℕ → Outcome ℕ
 cutCount tape first last = outcome (cutRules tape first last) (length (stepWords tape first last))

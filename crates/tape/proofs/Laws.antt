@@ -5,3 +5,4 @@ pub mod Shapes
 pub mod Rows
 pub mod Layout
 pub mod Reading
+pub mod Writing

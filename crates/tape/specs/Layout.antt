@@ -3,9 +3,9 @@
 use mathlib.Core.Bool.{Bool, true, not, _&&_, _||_, cond}
 use mathlib.Core.List.{List, [], _∷_, _++_, map}
 use Prim.Native.Nat.{ℕ, _+_, _-_}
-use lib.Dec.{leb, eqb}
-use lib.ListN.{length, getD}
-use lib.Seq.{slice}
+use lib.Dec.{leb, ltb, eqb}
+use lib.ListN.{length, getD, set}
+use lib.Seq.{slice, sets}
 use Rattle.refusal.specs.declared.Refusal.the-variants.{Length, Word}
 use Rattle.refusal.specs.Refusals.{numberOf}
 use Rattle.refusal.specs.Outcomes.{Outcome, refused, answered, outcome, _given-if_}
@@ -16,7 +16,7 @@ use Rattle.tape.specs.declared.Decoded.the-variants.{Heading, P, R, K, A
 use Rattle.tape.specs.declared.Header.{Header}
 use Rattle.tape.specs.declared.Reading.{Reading}
 use Rattle.tape.specs.declared.Reading.the-variants.{Laid, Refused}
-use Rattle.tape.specs.Words.{decoded, encoded, stepWord}
+use Rattle.tape.specs.Words.{numberLimit, variantLimit, decoded, encoded, stepWord}
 
 -- ---- where things stand
 
@@ -26,29 +26,36 @@ headerWords = 4
 
 -- the words that are no steps: the header and the end
 abbrev pub otherWords : ℕ
-otherWords = 5
+otherWords = headerWords + 1
+
+-- the most words of a tape
+abbrev pub mostWords : ℕ
+mostWords = 512
 
 abbrev pub stepCount : List ℕ → ℕ
 stepCount tape = length tape - otherWords
 
 -- the index of the word of the step numbered i + 1
-abbrev pub stepIndex : ℕ → ℕ
-stepIndex i = headerWords + i
+abbrev pub stepIndex : List ℕ → ℕ → ℕ
+stepIndex tape i = headerWords + i
 
 -- that word
 abbrev pub stepAt : List ℕ → ℕ → ℕ
-stepAt tape i = getD tape (stepIndex i) 0
+stepAt tape i = getD tape (stepIndex tape i) 0
 
--- the words of the steps numbered first + 1 to last
+-- the words of the steps numbered first + 1 to last, and of all
 abbrev pub stepWords : List ℕ → ℕ → ℕ → List ℕ
-stepWords tape first last = slice (stepIndex first) (stepIndex last) tape
+stepWords tape first last = slice (stepIndex tape first) (stepIndex tape last) tape
+
+abbrev pub stepWordsOf : List ℕ → List ℕ
+stepWordsOf tape = stepWords tape 0 (stepCount tape)
 
 -- the part of a row from one index up to another; where they are the wrong way round or past the row, the empty part
 unfoldable pub part : List ℕ → ℕ → ℕ → List ℕ
 part row begin end = cond (leb begin end && leb end (length row)) (slice begin end row) []
 
 abbrev pub endAt : List ℕ → ℕ
-endAt tape = getD tape (stepIndex (stepCount tape)) 0
+endAt tape = getD tape (stepIndex tape (stepCount tape)) 0
 
 -- ---- what stands there
 
@@ -101,13 +108,13 @@ abbrev pub stepsIn : List ℕ → List Step
 stepsIn words = map (λ (w : ℕ). stepOf (decoded w)) words
 
 abbrev pub stepsOf : List ℕ → List Step
-stepsOf tape = stepsIn (stepWords tape 0 (stepCount tape))
+stepsOf tape = stepsIn (stepWordsOf tape)
 
 -- ---- the rules
 
 -- 5 to 512 words
-unfoldable pub isLength : ℕ → Bool
-isLength n = leb otherWords n && leb n 512
+unfoldable pub isLength : List ℕ → Bool
+isLength tape = leb otherWords (length tape) && leb (length tape) mostWords
 
 unfoldable pub isHeader : List ℕ → Bool
 isHeader tape =
@@ -132,14 +139,18 @@ unfoldable pub laidOut : List ℕ → Bool
 laidOut tape =
     isHeader tape
     && (isFreeOrNamed (headerOf tape)
-    && (allSteps (stepWords tape 0 (stepCount tape))
+    && (allSteps (stepWordsOf tape)
     && isEnd (stepCount tape) (decoded (endAt tape))))
+
+-- reading only what the header holds: 6
+unfoldable pub headerOutcome : List ℕ → Outcome Header
+headerOutcome tape = outcome ((Length given-if not (isLength tape)) ∷ []) (headerOf tape)
 
 -- reading a tape: 6, 7, else its header
 unfoldable pub readOutcome : List ℕ → Outcome Header
 readOutcome tape =
     outcome
-    ((Length given-if not (isLength (length tape)))
+    ((Length given-if not (isLength tape))
     ∷ (Word given-if not (laidOut tape))
     ∷ [])
     (headerOf tape)
@@ -151,6 +162,10 @@ readingOf (Refused e) = refused (numberOf e)
 
 -- ---- the words of a program
 
+-- the words before the steps
+abbrev pub firstWords : Header → List ℕ
+firstWords h = encoded (Heading (h .variant)) ∷ encoded (P (h .modulus)) ∷ encoded (R (h .order)) ∷ encoded (K (h .exponent)) ∷ []
+
 pub record Program : Type 0 where
   pub variant : ℕ
   pub modulus : ℕ
@@ -158,13 +173,44 @@ pub record Program : Type 0 where
   pub exponent : ℕ
   pub steps : List Step
 
+abbrev pub headerFor : Program → Header
+headerFor q = record { variant = q .variant; modulus = q .modulus; order = q .order; exponent = q .exponent; steps = length (q .steps) }
+
 -- the header, a word for each step, the end
 unfoldable pub wordsOf : Program → List ℕ
-wordsOf q =
-    encoded (Heading (q .variant)) ∷ encoded (P (q .modulus)) ∷ encoded (R (q .order)) ∷ encoded (K (q .exponent))
-    ∷ (map stepWord (q .steps) ++ encoded (End (length (q .steps))) ∷ [])
+wordsOf q = firstWords (headerFor q) ++ (map stepWord (q .steps) ++ encoded (End (length (q .steps))) ∷ [])
 
 abbrev pub programOf : List ℕ → Program
 programOf tape =
     let h = headerOf tape in
     record { variant = h .variant; modulus = h .modulus; order = h .order; exponent = h .exponent; steps = stepsOf tape }
+
+-- ---- laying a tape out in a row
+
+-- how many words the tape of a header has
+abbrev pub wordCount : Header → ℕ
+wordCount h = h .steps + otherWords
+
+-- each number fits its word
+unfoldable pub numbersFit : Header → Bool
+numbersFit h =
+    ltb (h .variant) variantLimit
+    && (ltb (h .modulus) numberLimit
+    && (ltb (h .order) numberLimit
+    && (ltb (h .exponent) numberLimit
+    && ltb (h .steps) numberLimit)))
+
+-- and a row of `room` words has a place for the tape
+unfoldable pub hasPlace : Header → ℕ → Bool
+hasPlace h room = leb (wordCount h) room && numbersFit h
+
+-- the index of the first step's word, or 0 where there is no place
+abbrev pub layBegin : Header → ℕ → ℕ
+layBegin h room = cond (hasPlace h room) headerWords 0
+
+-- the row with all words but those of the steps
+abbrev pub laidRow : Header → List ℕ → List ℕ
+laidRow h row =
+    cond (hasPlace h (length row))
+    (set (sets row 0 (firstWords h)) (headerWords + h .steps) (encoded (End (h .steps))))
+    row

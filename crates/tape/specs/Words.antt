@@ -1,5 +1,5 @@
 -- The words of a tape: bits 31 to 28 are the kind, bits 27 to 0 the payload; bits without a meaning are 0.
-use mathlib.Core.Bool.{not, _&&_, cond}
+use mathlib.Core.Bool.{Bool, not, _&&_, cond}
 use Prim.Native.Nat.{ℕ, _+_, _*_, _/_, _%_, _^_}
 use lib.Dec.{ltb, eqb}
 use Rattle.tape.specs.declared.Step.{Step}
@@ -7,22 +7,33 @@ use Rattle.tape.specs.declared.Step.the-variants.{Mul, Div, Swp}
 use Rattle.tape.specs.declared.Decoded.{Decoded}
 use Rattle.tape.specs.declared.Decoded.the-variants.{Heading, P, R, K, Action, End, Bad}
 
+-- payloads, so p, r, k and the count of steps, are below this
+abbrev pub numberLimit : ℕ
+numberLimit = 2 ^ 28
+
+-- variants are below this
+abbrev pub variantLimit : ℕ
+variantLimit = 16
+
 abbrev pub kindOf : ℕ → ℕ
-kindOf w = w / 2 ^ 28
+kindOf w = w / numberLimit
 
 abbrev pub payloadOf : ℕ → ℕ
-payloadOf w = w % 2 ^ 28
+payloadOf w = w % numberLimit
 
 abbrev pub word : ℕ → ℕ → ℕ
-word kind payload = kind * 2 ^ 28 + payload
+word kind payload = kind * numberLimit + payload
 
 -- kind 1: bits 0-7 are the format, which is 1; bits 8-11 the variant
 unfoldable pub headingIn : ℕ → Decoded
 headingIn payload = cond (eqb (payload % 256) 1 && ltb payload 4096) (Heading (payload / 256)) Bad
 
 -- kinds 5, 6, 7: bits 0-1 are the target, bits 2-3 the source, which differ; in swp the target is the smaller
+abbrev pub areApart : ℕ → Bool
+areApart payload = ltb payload 16 && not (eqb (payload % 4) (payload / 4))
+
 unfoldable pub actionIn : (ℕ → ℕ → Step) → ℕ → Decoded
-actionIn step payload = cond (ltb payload 16 && not (eqb (payload % 4) (payload / 4))) (Action (step (payload % 4) (payload / 4))) Bad
+actionIn step payload = cond (areApart payload) (Action (step (payload % 4) (payload / 4))) Bad
 
 unfoldable pub swapIn : ℕ → Decoded
 swapIn payload = cond (ltb payload 16 && ltb (payload % 4) (payload / 4)) (Action (Swp (payload % 4) (payload / 4))) Bad

@@ -3,11 +3,13 @@ ghost use mathlib.Core.Path.{_≡_};
 ghost use Prim.Native.Nat.{_≤_};
 ghost use lib.ListN.{length};
 ghost use Rattle.tape.specs.Words.{decoded};
-ghost use Rattle.tape.specs.Layout.{stepCount, stepWords, endAt, sortOf, valueOf, meansAt, headerOf, isHeader, isFreeOrNamed, allSteps, isEnd};
+ghost use Rattle.tape.specs.Layout.{mostWords, stepCount, endAt, sortOf, valueOf, meansAt, headerOf, isLength, isHeader, isFreeOrNamed, allSteps, isEnd, numbersFit};
 use crate::Decoded;
 use crate::Header;
+use crate::MOST_WORDS;
+use crate::NUMBER_LIMIT;
 use crate::decode;
-use crate::step_at;
+use crate::words::is_step;
 
 // The words before the first step.
 pub(crate) const HEADER_WORDS: usize = 4;
@@ -15,8 +17,18 @@ pub(crate) const HEADER_WORDS: usize = 4;
 // The words that are no steps: the header and the end.
 pub(crate) const OTHER_WORDS: usize = 5;
 
-// The most words of a tape.
-pub(crate) const MOST_WORDS: usize = 512;
+// Variants are below this.
+const VARIANT_LIMIT: u32 = 16;
+
+// 5 to 512 words.
+pub(crate) fn is_length(tape: &[u32]) -> bool
+    ensures { λ r. ⌜ r ≡ isLength (now (tape .entry)) ⌝ }
+{
+    if tape.len() < OTHER_WORDS {
+        return false;
+    }
+    tape.len() <= MOST_WORDS
+}
 
 // Words of kind 1, 2, 3, 4 come first, in that order.
 pub(crate) fn is_header(tape: &[u32]) -> bool
@@ -35,8 +47,8 @@ pub(crate) fn is_header(tape: &[u32]) -> bool
 }
 
 // What a tape gives beside its steps.
-pub(crate) fn header(tape: &[u32]) -> Header
-    requires { ⌜ length (now tape) ≤ 512 ⌝ }
+pub(crate) fn header_of(tape: &[u32]) -> Header
+    requires { ⌜ length (now tape) ≤ mostWords ⌝ }
     ensures { λ h. ⌜ h ≡ headerOf (now (tape .entry)) ⌝ }
 {
     Header {
@@ -61,14 +73,13 @@ pub(crate) fn is_free_or_named(h: Header) -> bool
     h.exponent == 0
 }
 
-// Each word between the header and the end is a step.
-pub(crate) fn are_steps(tape: &[u32]) -> bool
-    ensures { λ r. ⌜ r ≡ allSteps (stepWords (now (tape .entry)) 0 (stepCount (now (tape .entry)))) ⌝ }
+// Each of the words is a step's.
+pub(crate) fn are_steps(words: &[u32]) -> bool
+    ensures { λ r. ⌜ r ≡ allSteps (now (words .entry)) ⌝ }
 {
-    let count = step_count(tape);
     let mut i: usize = 0;
-    while i < count {
-        if sort_of(step_at(tape, i)) != 5 {
+    while i < words.len() {
+        if !is_step(words[i]) {
             return false;
         }
         i += 1;
@@ -81,7 +92,7 @@ pub(crate) fn is_end(tape: &[u32]) -> bool
     ensures { λ r. ⌜ r ≡ isEnd (stepCount (now (tape .entry))) (decoded (endAt (now (tape .entry)))) ⌝ }
 {
     let count = step_count(tape);
-    let end = step_at(tape, count);
+    let end = means_at(tape, HEADER_WORDS + count);
     if sort_of(end) != 15 {
         return false;
     }
@@ -136,4 +147,23 @@ pub(crate) fn value_of(d: Decoded) -> u32
         Decoded::End(count) => count,
         Decoded::Bad => 0,
     }
+}
+
+// Each number fits its word.
+pub(crate) fn numbers_fit(h: Header) -> bool
+    ensures { λ r. ⌜ r ≡ numbersFit h ⌝ }
+{
+    if VARIANT_LIMIT <= h.variant {
+        return false;
+    }
+    if NUMBER_LIMIT <= h.modulus {
+        return false;
+    }
+    if NUMBER_LIMIT <= h.order {
+        return false;
+    }
+    if NUMBER_LIMIT <= h.exponent {
+        return false;
+    }
+    h.steps < NUMBER_LIMIT
 }

@@ -1,20 +1,28 @@
 // Document 01, "Tape words": what a word means, and the layout of a tape.
 mod layout;
+mod words;
 
 ghost use mathlib.Core.Path.{_≡_};
-ghost use lib.Dec.{eqb};
-ghost use Rattle.tape.specs.Words.{decoded, headingIn, kindsOf};
-ghost use Rattle.tape.specs.Layout.{sortOf, readOutcome, readingOf, stepAt, stepOf, stepIndex, part};
+ghost use lib.ListN.{length, getD};
+ghost use Rattle.tape.specs.Words.{decoded};
+ghost use Rattle.tape.specs.Layout.{headerOutcome, readOutcome, readingOf, stepAt, stepOf, stepIndex, stepWordsOf, part, wordCount, layBegin, laidRow};
 use layout::HEADER_WORDS;
-use layout::MOST_WORDS;
 use layout::OTHER_WORDS;
 use layout::are_steps;
-use layout::header;
+use layout::header_of;
 use layout::is_end;
 use layout::is_free_or_named;
 use layout::is_header;
+use layout::is_length;
 use layout::means_at;
+use layout::numbers_fit;
 use refusal::Refusal;
+use words::division_in;
+use words::heading_in;
+use words::is_step;
+use words::multiplication_in;
+use words::step_in;
+use words::swap_in;
 
 // A step with its target and its source register.
 pub enum Step {
@@ -49,44 +57,53 @@ pub enum Reading {
     Refused(Refusal),
 }
 
-// Payloads are below this.
-const PAYLOAD: u32 = 0x1000_0000;
+// The most words of a tape.
+pub const MOST_WORDS: usize = 512;
 
-// The format that a heading names.
-const FORMAT: u32 = 1;
+// Payloads, so p, r, k and the count of steps, are below this.
+pub const NUMBER_LIMIT: u32 = 0x1000_0000;
 
-// Formats are below this; the variant stands above them.
-const FORMATS: u32 = 0x100;
-
-// Headings' payloads are below this.
-const HEADINGS: u32 = 0x1000;
-
-// Registers are below this; a step's source stands above its target.
-const REGISTERS: u32 = 4;
-
-// Steps' payloads are below this.
-const REGISTER_PAIRS: u32 = 16;
-
-// What a word means, by its kind. Steps come first, since nearly all words of a tape are.
+// What a word means, by its kind.
 pub fn decode(word: u32) -> Decoded
     ensures { λ d. ⌜ d ≡ decoded word ⌝ }
 {
-    if is_step(word) {
-        return Decoded::Action(step_in(word));
-    }
-    let payload = word % PAYLOAD;
-    match word / PAYLOAD {
-        1 => heading(payload),
+    let payload = word % NUMBER_LIMIT;
+    match word / NUMBER_LIMIT {
+        1 => heading_in(payload),
         2 => Decoded::P(payload),
         3 => Decoded::R(payload),
         4 => Decoded::K(payload),
-        5 => Decoded::Bad,
-        6 => Decoded::Bad,
-        7 => Decoded::Bad,
+        5 => multiplication_in(payload),
+        6 => division_in(payload),
+        7 => swap_in(payload),
         15 => Decoded::End(payload),
         0 | 8..=14 => Decoded::Bad,
         _ => Decoded::Bad,
     }
+}
+
+// The step at a place of a row of step words; mul 0 1 stands for what is none, and a tape that is laid out has none such.
+pub fn nth_step(words: &[u32], i: usize) -> Step
+    ensures { λ s. ⌜ s ≡ stepOf (decoded (getD (now (words .entry)) i 0)) ⌝ }
+{
+    if words.len() <= i {
+        return Step::Mul(0, 1);
+    }
+    let word = words[i];
+    if !is_step(word) {
+        return Step::Mul(0, 1);
+    }
+    step_in(word)
+}
+
+// The words of a tape's steps, as a part of it.
+pub fn steps(tape: &[u32]) -> &[u32]
+    ensures { λ words. ⌜ now words ≡ stepWordsOf (now (tape .entry)) ⌝ }
+{
+    if tape.len() < OTHER_WORDS {
+        return &tape[..0];
+    }
+    &tape[HEADER_WORDS..tape.len() - 1]
 }
 
 // What the word of the step numbered position + 1 means; past the tape, nothing.
@@ -116,17 +133,17 @@ pub fn step_of(d: Decoded) -> Step
 }
 
 // The index of the word of the step numbered position + 1.
-pub fn step_index(position: u32) -> usize
-    ensures { λ i. ⌜ i ≡ stepIndex position ⌝ }
+pub fn step_index(tape: &[u32], position: u32) -> usize
+    ensures { λ i. ⌜ i ≡ stepIndex (now (tape .entry)) position ⌝ }
 {
     HEADER_WORDS + position as usize
 }
 
 // The words of the steps numbered first + 1 to last, as a part of the tape.
 pub fn step_words(tape: &[u32], first: u32, last: u32) -> &[u32]
-    ensures { λ words. ⌜ now words ≡ part (now (tape .entry)) (stepIndex first) (stepIndex last) ⌝ }
+    ensures { λ words. ⌜ now words ≡ part (now (tape .entry)) (stepIndex (now (tape .entry)) first) (stepIndex (now (tape .entry)) last) ⌝ }
 {
-    between(tape, step_index(first), step_index(last))
+    between(tape, step_index(tape, first), step_index(tape, last))
 }
 
 // The part of a row from one index up to another; where they are the wrong way round or past the row, the empty part.
@@ -148,24 +165,31 @@ fn between(row: &[u32], begin: usize, end: usize) -> &[u32]
     &row[begin..end]
 }
 
+// Reads what a tape's header holds, without a test of the layout: 6.
+pub fn read_header(tape: &[u32]) -> Reading
+    ensures { λ r. ⌜ readingOf r ≡ headerOutcome (now (tape .entry)) ⌝ }
+{
+    if !is_length(tape) {
+        return Reading::Refused(Refusal::Length);
+    }
+    Reading::Laid(header_of(tape))
+}
+
 // Reads a tape's header and tests its layout: 6, 7.
 pub fn read(tape: &[u32]) -> Reading
     ensures { λ r. ⌜ readingOf r ≡ readOutcome (now (tape .entry)) ⌝ }
 {
-    if tape.len() < OTHER_WORDS {
-        return Reading::Refused(Refusal::Length);
-    }
-    if MOST_WORDS < tape.len() {
+    if !is_length(tape) {
         return Reading::Refused(Refusal::Length);
     }
     if !is_header(tape) {
         return Reading::Refused(Refusal::Word);
     }
-    let header = header(tape);
+    let header = header_of(tape);
     if !is_free_or_named(header) {
         return Reading::Refused(Refusal::Word);
     }
-    if !are_steps(tape) {
+    if !are_steps(steps(tape)) {
         return Reading::Refused(Refusal::Word);
     }
     if !is_end(tape) {
@@ -174,60 +198,29 @@ pub fn read(tape: &[u32]) -> Reading
     Reading::Laid(header)
 }
 
-// Kind 1: the heading of a tape of this format.
-fn heading(payload: u32) -> Decoded
-    ensures { λ d. ⌜ d ≡ headingIn payload ⌝ }
+// How many words the tape of a header has.
+pub fn word_count(header: Header) -> usize
+    ensures { λ n. ⌜ n ≡ wordCount header ⌝ }
 {
-    if payload % FORMATS != FORMAT {
-        return Decoded::Bad;
-    }
-    if HEADINGS <= payload {
-        return Decoded::Bad;
-    }
-    Decoded::Heading(payload / FORMATS)
+    header.steps as usize + OTHER_WORDS
 }
 
-// Whether a word is a step's. Its kinds are told apart by arithmetic: a way of its own for each would cost a wrong guess of the
-// processor at most steps.
-fn is_step(word: u32) -> bool
-    ensures { λ r. ⌜ r ≡ eqb (sortOf (decoded word)) 5 ⌝ }
+// Lays a tape out: writes the words before the steps and the word past them, and answers the index of the first step's word. Where
+// the row is too short or a number doesn't fit its word, it writes nothing and answers 0.
+pub fn lay_out(row: &mut [u32], header: Header) -> usize
+    ensures { λ begin. ⌜ begin ≡ layBegin header (length (now (row .entry))) ⌝ }
+    ensures { λ begin. ⌜ now (row .exit) ≡ laidRow header (now (row .entry)) ⌝ }
 {
-    let payload = word % PAYLOAD;
-    if REGISTER_PAIRS <= payload {
-        return false;
+    if row.len() < word_count(header) {
+        return 0;
     }
-    let kinds = kinds_of(payload % REGISTERS, payload / REGISTERS);
-    let kind = word / PAYLOAD;
-    if kind < 5 {
-        return false;
+    if !numbers_fit(header) {
+        return 0;
     }
-    kind - 5 < kinds
-}
-
-// How many kinds from 5 on take a target and a source: none where they are equal, and swp where the target is the smaller.
-fn kinds_of(target: u32, source: u32) -> u32
-    ensures { λ n. ⌜ n ≡ kindsOf target source ⌝ }
-{
-    if target < source {
-        return 3;
-    }
-    if source < target {
-        return 2;
-    }
-    0
-}
-
-// The step of a step's word.
-fn step_in(word: u32) -> Step
-    requires { ⌜ sortOf (decoded word) ≡ 5 ⌝ }
-    ensures { λ step. ⌜ Decoded.Action step ≡ decoded word ⌝ }
-{
-    let payload = word % PAYLOAD;
-    let target = payload % REGISTERS;
-    let source = payload / REGISTERS;
-    match word / PAYLOAD {
-        5 => Step::Mul(target, source),
-        6 => Step::Div(target, source),
-        _ => Step::Swp(target, source),
-    }
+    row[0] = NUMBER_LIMIT + (1 + 256 * header.variant);
+    row[1] = 2 * NUMBER_LIMIT + header.modulus;
+    row[2] = 3 * NUMBER_LIMIT + header.order;
+    row[3] = 4 * NUMBER_LIMIT + header.exponent;
+    row[HEADER_WORDS + header.steps as usize] = 15 * NUMBER_LIMIT + header.steps;
+    HEADER_WORDS
 }

@@ -35,6 +35,6 @@ module _ (bytes : List ℕ) where
       (λ some. rw some (omega (arith, tape-length bytes, ltb-false 2048 (length bytes) (neither (ltb 2048 (length bytes)) _ some .0))))
 
   -- what is no tape gives words of a length that the layout doesn't have
-  pub words-none : noTape bytes ≡ true → isLength (length (tapeIn bytes)) ≡ false
+  pub words-none : noTape bytes ≡ true → isLength (tapeIn bytes) ≡ false
   unfolding tapeIn isLength
   words-none e = rw e

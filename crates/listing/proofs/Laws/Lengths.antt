@@ -84,7 +84,7 @@ value tape i = value-small (meansAt tape i) (decoded-lawful (getD tape i 0))
 
 accepted-most : (tape : List ℕ) (h : Header) → acceptOutcome tape ≡ answered h → length (firstLine h ++ stepLines 1 (stepsOf tape)) ≤ mostWritten
 accepted-most tape h e =
-    let most = length-most (length tape) (accepted (headerOf tape) tape e .long) in
+    let most = length-most tape (accepted (headerOf tape) tape e .long) in
     let count = steps-count tape in
     rw (header-is tape h e)
     (omega (

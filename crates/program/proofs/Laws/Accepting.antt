@@ -13,9 +13,9 @@ use Rattle.modular.specs.Inverses.{inverse, badExponent}
 use Rattle.modular.proofs.Laws.Primes.{prime-test}
 use Rattle.modular.proofs.Laws.Inverses.{good-exponent}
 use Rattle.tape.specs.declared.Header.{Header}
-use Rattle.tape.specs.Layout.{headerOf, stepsOf}
+use Rattle.tape.specs.Layout.{headerOf, stepsOf, headerFor}
 use Rattle.tape.proofs.Laws.Reading.{ReadAs, length-good}
-use Rattle.tape.proofs.Laws.Layout.{LawfulProgram, program-length, program-laid-out, program-header, program-steps}
+use Rattle.tape.proofs.Laws.Layout.{Fits, LawfulProgram, program-length, program-laid-out, program-header, program-steps}
 use Rattle.named.specs.Generators.{Raises, Lowers}
 use Rattle.named.specs.Named.{namedSteps, namedProgram, namedWords}
 use Rattle.named.specs.Parameters.{badModulus, badOrder, unnamed}
@@ -30,24 +30,27 @@ module _ (p r k variant : ℕ)
   short : length (namedWords p r k variant) ≤ 512
   short = named-words-short p r k variant modulus order exponent
 
+  abbrev header : Header
+  header = headerFor (namedProgram p r k variant)
+
   pub named-lawful : LawfulProgram (namedProgram p r k variant)
   named-lawful =
       let m = good-modulus p modulus in
       let o = good-order p r order in
       let e = good-exponent k r exponent in
       let below : r ≤ p - 1 = le-of-dvd (omega arith) (o .divisor) in
-      record {
+      let fits : Fits header = record {
         variant-small = omega (arith, named-most variant is);
         modulus-small = m .high;
         order-small = omega arith;
         exponent-small = omega arith;
         count-small = omega (arith, short, program-length (namedProgram p r k variant));
+      } in
+      record {
+        fits = fits;
         free = λ zero. absurd (named-some variant is zero);
         sound = named-sound variant r k;
       }
-
-  abbrev header : Header
-  header = record { variant = variant; modulus = p; order = r; exponent = k; steps = length (namedSteps variant r k) }
 
   read : ReadAs (namedWords p r k variant) header
   read =

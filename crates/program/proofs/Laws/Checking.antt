@@ -134,7 +134,7 @@ module _ {A : Type 0} (x : A) (tape : List ℕ) (h : Header) (read : ReadAs tape
 -- ---- an accepted tape
 
 pub record Accepted (tape : List ℕ) : Type 0 where
-  pub long : isLength (length tape) ≡ true
+  pub long : isLength tape ≡ true
   pub laid : laidOut tape ≡ true
   pub variant : headerOf tape .variant ≤ lastVariant
   pub modulus : badModulus (headerOf tape .modulus) ≡ false

@@ -79,11 +79,11 @@ run-answered tape v from goal w e = answer-is _ _ e
 -- most 512 words
 pub record Stands (tape : List ℕ) (first last : ℕ) : Type 0 where
   pub words : cutOutcome tape first last ≡ answered (stepWords tape first last)
-  pub start : (held : ℕ) → after (cutStart tape first last) held ≡ stepIndex first
+  pub start : (held : ℕ) → after (cutStart tape first last) held ≡ stepIndex tape first
   pub count : (held : ℕ) → after (cutCount tape first last) held ≡ length (stepWords tape first last)
-  pub part : take (length (stepWords tape first last)) (drop (stepIndex first) tape) ≡ stepWords tape first last
+  pub part : take (length (stepWords tape first last)) (drop (stepIndex tape first) tape) ≡ stepWords tape first last
   pub order : first ≤ last
-  pub inside : stepIndex last ≤ length tape
+  pub inside : stepIndex tape last ≤ length tape
   pub short : length tape ≤ 512
   pub most : length (stepWords tape first last) ≤ length tape
 
@@ -99,13 +99,13 @@ module _ (tape : List ℕ) (first last : ℕ) where
       let all = accepted words tape (parts .0) in
       let within = good-cut (headerOf tape .steps) first last (passed _ _ _ _ _ (parts .1) .0) in
       let long = laid-out-long tape (all .laid) in
-      let short = length-most (length tape) (all .long) in
-      let size = length-slice (stepIndex first) (stepIndex last) tape (omega arith) in
+      let short = length-most tape (all .long) in
+      let size = length-slice (stepIndex tape first) (stepIndex tape last) tape (omega arith) in
       record {
         words = answer;
-        start = λ held. zero-answered words (stepIndex first) held (cutRules tape first last) e .1;
+        start = λ held. zero-answered words (stepIndex tape first) held (cutRules tape first last) e .1;
         count = λ held. zero-answered words (length words) held (cutRules tape first last) e .1;
-        part = rw size (sym (slice-from (stepIndex first) (stepIndex last) tape));
+        part = rw size (sym (slice-from (stepIndex tape first) (stepIndex tape last) tape));
         order = within .0;
         inside = omega arith;
         short = short;
@@ -117,7 +117,7 @@ module _ (tape : List ℕ) (first last : ℕ) where
       → (after (cutStart tape first last) held ≡ held) × (after (cutCount tape first last) held ≡ held)
   unfolding cutOutcome cutStart cutCount
   cut-not some held =
-      (other-refused words (stepIndex first) held (cutRules tape first last) some, other-refused words (length words) held (cutRules tape first last) some)
+      (other-refused words (stepIndex tape first) held (cutRules tape first last) some, other-refused words (length words) held (cutRules tape first last) some)
 
 -- every run of every list is refused or answers as said
 as-said : (q : Request) (v : List ℕ) → AsSaid q v

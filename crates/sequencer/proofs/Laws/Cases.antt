@@ -194,10 +194,10 @@ module _ (tape : List ℕ) (h : Header) (e : acceptOutcome tape ≡ answered h) 
     pub cut-position : badCut (h .steps) first last ≡ true → cutOutcome tape first last ≡ refused (numberOf Position)
     cut-position bad = cut-rules ∙ gives _ _ _ bad
 
-    pub cut-there : badCut (h .steps) first last ≡ false → cutOutcome tape first last ≡ answered (part tape (stepIndex first) (stepIndex last))
+    pub cut-there : badCut (h .steps) first last ≡ false → cutOutcome tape first last ≡ answered (part tape (stepIndex tape first) (stepIndex tape last))
     cut-there good =
         let long = laid-out-long tape (accepted (headerOf tape) tape e .laid) in
         let within = good-cut (h .steps) first last good in
-        let inside : stepIndex last ≤ length tape = omega (arith, steps-are tape h e) in
-        let order : stepIndex first ≤ stepIndex last = omega arith in
-        cut-rules ∙ passes _ _ _ good ∙ answers _ ∙ ap answered (sym (part-inside tape (stepIndex first) (stepIndex last) order inside))
+        let inside : stepIndex tape last ≤ length tape = omega (arith, steps-are tape h e) in
+        let order : stepIndex tape first ≤ stepIndex tape last = omega arith in
+        cut-rules ∙ passes _ _ _ good ∙ answers _ ∙ ap answered (sym (part-inside tape (stepIndex tape first) (stepIndex tape last) order inside))

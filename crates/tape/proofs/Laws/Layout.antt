@@ -3,20 +3,21 @@
 use mathlib.Core.Path.{_≡_, refl, sym, ap, _∙_}
 use mathlib.Core.Bool.{true, _&&_}
 use mathlib.Core.List.{List, [], _∷_, _++_, map}
-use Prim.Native.Nat.{ℕ, suc, _+_, _≤_, _<_, _^_}
+use Prim.Native.Nat.{ℕ, suc, _+_, _≤_, _<_}
 use native.Mathlib.Decide.{decLe}
 use native.Mathlib.Omega.{arith}
 use lib.Dec.{eqb}
-use lib.ListN.{length, getD, take, drop, length-append, length-map, length-take, length-drop, drop-of-length-le}
+use lib.ListN.{length, getD, take, drop, length-append, length-map, drop-of-length-le}
 use lib.Seq.{split-at, take-at, getD-at, getD-take, length-take-le}
 use borrow.Author.Tests.{eqb-true, eq-eqb}
 use Rattle.tape.specs.declared.Decoded.the-variants.{Heading, P, R, K, End}
+use Rattle.tape.specs.declared.Header.{Header}
 use Rattle.tape.specs.Steps.{AllSound}
-use Rattle.tape.specs.Words.{decoded, encoded, stepWord}
-use Rattle.tape.specs.Layout.{otherWords, stepCount, stepWords, endAt, sortOf, valueOf, meansAt, headerOf, stepsIn, stepsOf, isHeader, isFreeOrNamed, allSteps, isEnd, laidOut, Program, wordsOf, programOf}
+use Rattle.tape.specs.Words.{numberLimit, variantLimit, decoded, encoded, stepWord}
+use Rattle.tape.specs.Layout.{otherWords, stepCount, stepWords, stepWordsOf, endAt, sortOf, valueOf, meansAt, headerOf, stepsIn, stepsOf, isHeader, isFreeOrNamed, allSteps, isEnd, laidOut, Program, headerFor, wordsOf, programOf}
 use Rattle.refusal.proofs.Laws.Tests.{both, and-both, implied, implies}
 use Rattle.tape.proofs.Laws.Words.{decoded-encoded, decoded-lawful, value-small, variant-small, word-again}
-use Rattle.tape.proofs.Laws.Rows.{all-steps-sound, steps-words, words-all-steps, words-steps, means-past}
+use Rattle.tape.proofs.Laws.Rows.{all-steps-sound, steps-words, words-all-steps, words-steps, words-count, means-past}
 
 -- ---- the layout by its rules
 
@@ -26,7 +27,7 @@ pub record LaidOut (tape : List ℕ) : Type 0 where
   pub sort-2 : sortOf (meansAt tape 2) ≡ 3
   pub sort-3 : sortOf (meansAt tape 3) ≡ 4
   pub free : valueOf (meansAt tape 0) ≡ 0 → (valueOf (meansAt tape 2) ≡ 0) × (valueOf (meansAt tape 3) ≡ 0)
-  pub steps : allSteps (stepWords tape 0 (stepCount tape)) ≡ true
+  pub steps : allSteps (stepWordsOf tape) ≡ true
   pub end : sortOf (decoded (endAt tape)) ≡ 15
   pub count : valueOf (decoded (endAt tape)) ≡ stepCount tape
 
@@ -41,7 +42,7 @@ module _ (tape : List ℕ) where
   laid-out-rules e =
       let a = both (isHeader tape) _ e in
       let b = both (isFreeOrNamed (headerOf tape)) _ (a .1) in
-      let c = both (allSteps (stepWords tape 0 (stepCount tape))) _ (b .1) in
+      let c = both (allSteps (stepWordsOf tape)) _ (b .1) in
       let d = both (eqb (sortOf (decoded (endAt tape))) 15) _ (c .1) in
       let h0 = both (eqb (sortOf (meansAt tape 0)) 1) _ (a .0) in
       let h1 = both (eqb (sortOf (meansAt tape 1)) 2) _ (h0 .1) in
@@ -82,7 +83,7 @@ module _ (a b c d e : ℕ) (words : List ℕ) where
   pub row-count : stepCount (row a b c d words e) ≡ length words
   row-count = simp length-append (omega arith)
 
-  pub row-words : stepWords (row a b c d words e) 0 (stepCount (row a b c d words e)) ≡ words
+  pub row-words : stepWordsOf (row a b c d words e) ≡ words
   row-words =
       ap (λ (n : ℕ). stepWords (row a b c d words e) 0 n) row-count
       ∙ ap (drop 4) (take-at (a ∷ b ∷ c ∷ d ∷ words) (e ∷ []) (4 + length words) (omega arith))
@@ -101,7 +102,7 @@ front (a ∷ b ∷ c ∷ d ∷ l) h = refl
 
 -- a tape of at least five words is such a row
 pub tape-row : (tape : List ℕ) → otherWords ≤ length tape
-    → tape ≡ row (getD tape 0 0) (getD tape 1 0) (getD tape 2 0) (getD tape 3 0) (stepWords tape 0 (stepCount tape)) (endAt tape)
+    → tape ≡ row (getD tape 0 0) (getD tape 1 0) (getD tape 2 0) (getD tape 3 0) (stepWordsOf tape) (endAt tape)
 tape-row tape h =
     let n : ℕ = 4 + stepCount tape in
     let t : List ℕ = take n tape in
@@ -119,7 +120,7 @@ tape-row tape h =
 -- ---- from a tape to its program and back
 
 pub steps-count : (tape : List ℕ) → length (stepsOf tape) ≡ stepCount tape
-steps-count tape = simp (length-map, length-drop, length-take) (omega arith)
+steps-count tape = simp length-map (words-count tape)
 
 module _ (tape : List ℕ) (laid : laidOut tape ≡ true) where
   rules : LaidOut tape
@@ -138,31 +139,38 @@ module _ (tape : List ℕ) (laid : laidOut tape ≡ true) where
       let w1 = word-again (getD tape 1 0) (rules .sort-1) (λ z. omega arith) in
       let w2 = word-again (getD tape 2 0) (rules .sort-2) (λ z. omega arith) in
       let w3 = word-again (getD tape 3 0) (rules .sort-3) (λ z. omega arith) in
-      let steps = steps-words (stepWords tape 0 (stepCount tape)) (rules .steps) in
+      let steps = steps-words (stepWordsOf tape) (rules .steps) in
       let end = ap (λ (n : ℕ). encoded (End n)) (steps-count tape ∙ sym (rules .count)) ∙ word-again (endAt tape) (rules .end) (λ z. omega arith) in
       rw (w0, w1, w2, w3, steps, end) (sym (tape-row tape laid-out-long))
 
--- what a program's words can say: the numbers fit their bits, a free program has 0 for r and k, and the steps are sound
+-- the numbers of a header fit their words
+pub record Fits (h : Header) : Type 0 where
+  pub variant-small : h .variant < variantLimit
+  pub modulus-small : h .modulus < numberLimit
+  pub order-small : h .order < numberLimit
+  pub exponent-small : h .exponent < numberLimit
+  pub count-small : h .steps < numberLimit
+
+-- what a program's words can say: its numbers fit, a free program has 0 for r and k, and the steps are sound
 pub record LawfulProgram (q : Program) : Type 0 where
-  pub variant-small : q .variant < 16
-  pub modulus-small : q .modulus < 2 ^ 28
-  pub order-small : q .order < 2 ^ 28
-  pub exponent-small : q .exponent < 2 ^ 28
-  pub count-small : length (q .steps) < 2 ^ 28
+  pub fits : Fits (headerFor q)
   pub free : q .variant ≡ 0 → (q .order ≡ 0) × (q .exponent ≡ 0)
   pub sound : AllSound (q .steps)
 
 pub program-lawful : (tape : List ℕ) → laidOut tape ≡ true → LawfulProgram (programOf tape)
 program-lawful tape laid =
     let rules = laid-out-rules tape laid in
-    record {
+    let fits : Fits (headerFor (programOf tape)) = record {
       variant-small = variant-small (getD tape 0 0) (rules .sort-0);
       modulus-small = value-small (meansAt tape 1) (decoded-lawful (getD tape 1 0));
       order-small = value-small (meansAt tape 2) (decoded-lawful (getD tape 2 0));
       exponent-small = value-small (meansAt tape 3) (decoded-lawful (getD tape 3 0));
       count-small = omega (arith, steps-count tape, rules .count, value-small (decoded (endAt tape)) (decoded-lawful (endAt tape)));
+    } in
+    record {
+      fits = fits;
       free = rules .free;
-      sound = all-steps-sound (stepWords tape 0 (stepCount tape));
+      sound = all-steps-sound (stepWordsOf tape);
     }
 
 -- ---- from a program to its tape and back
@@ -174,24 +182,24 @@ program-length q = simp (length-append, length-map) (omega arith)
 module _ (q : Program) (lawful : LawfulProgram q) where
   means-0 : meansAt (wordsOf q) 0 ≡ Heading (q .variant)
   unfolding wordsOf
-  means-0 = decoded-encoded (Heading (q .variant)) (lawful .variant-small)
+  means-0 = decoded-encoded (Heading (q .variant)) (lawful .fits .variant-small)
 
   means-1 : meansAt (wordsOf q) 1 ≡ P (q .modulus)
   unfolding wordsOf
-  means-1 = decoded-encoded (P (q .modulus)) (lawful .modulus-small)
+  means-1 = decoded-encoded (P (q .modulus)) (lawful .fits .modulus-small)
 
   means-2 : meansAt (wordsOf q) 2 ≡ R (q .order)
   unfolding wordsOf
-  means-2 = decoded-encoded (R (q .order)) (lawful .order-small)
+  means-2 = decoded-encoded (R (q .order)) (lawful .fits .order-small)
 
   means-3 : meansAt (wordsOf q) 3 ≡ K (q .exponent)
   unfolding wordsOf
-  means-3 = decoded-encoded (K (q .exponent)) (lawful .exponent-small)
+  means-3 = decoded-encoded (K (q .exponent)) (lawful .fits .exponent-small)
 
   count-is : stepCount (wordsOf q) ≡ length (q .steps)
   count-is = omega (arith, program-length q)
 
-  words-are : stepWords (wordsOf q) 0 (stepCount (wordsOf q)) ≡ map stepWord (q .steps)
+  words-are : stepWordsOf (wordsOf q) ≡ map stepWord (q .steps)
   unfolding wordsOf
   words-are = row-words _ _ _ _ _ (map stepWord (q .steps))
 
@@ -199,7 +207,7 @@ module _ (q : Program) (lawful : LawfulProgram q) where
   unfolding wordsOf
   end-means =
       ap decoded (row-end _ _ _ _ (encoded (End (length (q .steps)))) (map stepWord (q .steps)))
-      ∙ decoded-encoded (End (length (q .steps))) (lawful .count-small)
+      ∙ decoded-encoded (End (length (q .steps))) (lawful .fits .count-small)
 
   pub program-laid-out : laidOut (wordsOf q) ≡ true
   program-laid-out =
@@ -215,8 +223,7 @@ module _ (q : Program) (lawful : LawfulProgram q) where
         count = ap valueOf end-means ∙ sym count-is;
       })
 
-  pub program-header : headerOf (wordsOf q)
-      ≡ record { variant = q .variant; modulus = q .modulus; order = q .order; exponent = q .exponent; steps = length (q .steps) }
+  pub program-header : headerOf (wordsOf q) ≡ headerFor q
   program-header = cc (ap valueOf means-0, ap valueOf means-1, ap valueOf means-2, ap valueOf means-3, count-is)
 
   pub program-steps : stepsOf (wordsOf q) ≡ q .steps

@@ -1,13 +1,13 @@
 -- What a payload means, by the tests on it: each law rewrites the definition's tests.
-use mathlib.Core.Path.{_≡_}
-use mathlib.Core.Bool.{and-false}
+use mathlib.Core.Path.{_≡_, ap, _∙_}
+use mathlib.Core.Bool.{true, false, not, and-false}
 use Prim.Native.Nat.{ℕ, _/_, _%_, _≤_, _<_}
 use lib.Dec.{eqb, ltb}
 use borrow.Author.Tests.{lt-ltb, le-ltb, eq-eqb, ne-eqb}
 use Rattle.tape.specs.declared.Step.{Step}
 use Rattle.tape.specs.declared.Step.the-variants.{Swp}
 use Rattle.tape.specs.declared.Decoded.the-variants.{Heading, Action, Bad}
-use Rattle.tape.specs.Words.{kindOf, headingIn, actionIn, swapIn, decoded}
+use Rattle.tape.specs.Words.{kindOf, headingIn, areApart, actionIn, swapIn, decoded}
 
 -- ---- a heading's
 
@@ -26,18 +26,24 @@ module _ (payload : ℕ) where
 
 -- ---- a multiplication's or a division's
 
+module _ (payload : ℕ) where
+  pub apart-high : 16 ≤ payload → areApart payload ≡ false
+  apart-high high = rw (le-ltb payload 16 high)
+
+  pub apart-low : payload < 16 → areApart payload ≡ not (eqb (payload % 4) (payload / 4))
+  apart-low low = rw (lt-ltb payload 16 low)
+
 module _ (step : ℕ → ℕ → Step) (payload : ℕ) where
+  pub action-apart : areApart payload ≡ true → actionIn step payload ≡ Action (step (payload % 4) (payload / 4))
+  unfolding actionIn
+  action-apart e = rw e
+
+  pub action-bad : areApart payload ≡ false → actionIn step payload ≡ Bad
+  unfolding actionIn
+  action-bad e = rw e
+
   pub action-good : payload < 16 → (payload % 4 ≡ payload / 4 → ⊥) → actionIn step payload ≡ Action (step (payload % 4) (payload / 4))
-  unfolding actionIn
-  action-good low apart = rw (lt-ltb payload 16 low, ne-eqb (payload % 4) (payload / 4) apart)
-
-  pub action-high : 16 ≤ payload → actionIn step payload ≡ Bad
-  unfolding actionIn
-  action-high high = rw (le-ltb payload 16 high)
-
-  pub action-equal : payload % 4 ≡ payload / 4 → actionIn step payload ≡ Bad
-  unfolding actionIn
-  action-equal same = rw (eq-eqb (payload % 4) (payload / 4) same, and-false (ltb payload 16))
+  action-good low apart = action-apart (apart-low payload low ∙ ap not (ne-eqb (payload % 4) (payload / 4) apart))
 
 -- ---- a swap's
 

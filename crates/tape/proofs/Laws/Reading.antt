@@ -14,26 +14,27 @@ use Rattle.refusal.specs.Outcomes.{Rule, refused, answered, outcome, _given-if_
 use Rattle.tape.specs.declared.Decoded.{Decoded}
 use Rattle.tape.specs.declared.Header.{Header}
 use Rattle.tape.specs.Words.{decoded}
-use Rattle.tape.specs.Layout.{otherWords, stepCount, stepWords, endAt, sortOf, valueOf, meansAt, headerOf, isLength, isHeader, isFreeOrNamed, allSteps, isEnd, laidOut, readOutcome}
+use Rattle.tape.specs.Layout.{otherWords, mostWords, stepCount, stepWordsOf, endAt, sortOf, valueOf, meansAt, headerOf, isLength, isHeader, isFreeOrNamed, allSteps, isEnd, laidOut, headerOutcome, readOutcome}
 use Rattle.refusal.proofs.Laws.Tests.{by-test, both}
 
 -- ---- the rules
 
-pub length-short : (n : ℕ) → n < otherWords → isLength n ≡ false
-unfolding isLength
-length-short n h = rw (lt-leb otherWords n h)
+module _ (tape : List ℕ) where
+  pub length-short : length tape < otherWords → isLength tape ≡ false
+  unfolding isLength
+  length-short h = rw (lt-leb otherWords (length tape) h)
 
-pub length-long : (n : ℕ) → 512 < n → isLength n ≡ false
-unfolding isLength
-length-long n h = rw (lt-leb n 512 h, and-false (leb otherWords n))
+  pub length-good : otherWords ≤ length tape → length tape ≤ mostWords → isLength tape ≡ true
+  unfolding isLength
+  length-good h k = rw (le-leb otherWords (length tape) h, le-leb (length tape) mostWords k)
 
-pub length-good : (n : ℕ) → otherWords ≤ n → n ≤ 512 → isLength n ≡ true
-unfolding isLength
-length-good n h k = rw (le-leb otherWords n h, le-leb n 512 k)
+  pub length-last : otherWords ≤ length tape → isLength tape ≡ leb (length tape) mostWords
+  unfolding isLength
+  length-last h = rw (le-leb otherWords (length tape) h)
 
-pub length-most : (n : ℕ) → isLength n ≡ true → n ≤ 512
-unfolding isLength
-length-most n e = leb-true n 512 (both (leb otherWords n) (leb n 512) e .1)
+  pub length-most : isLength tape ≡ true → length tape ≤ mostWords
+  unfolding isLength
+  length-most e = leb-true (length tape) mostWords (both (leb otherWords (length tape)) (leb (length tape) mostWords) e .1)
 
 module _ (tape : List ℕ) where
   pub header-not-1 : (sortOf (meansAt tape 0) ≡ 1 → ⊥) → isHeader tape ≡ false
@@ -92,22 +93,30 @@ module _ (tape : List ℕ) where
     laid-not-free e = rw (header, e)
 
     module _ (free : isFreeOrNamed (headerOf tape) ≡ true) where
-      pub laid-not-steps : allSteps (stepWords tape 0 (stepCount tape)) ≡ false → laidOut tape ≡ false
+      pub laid-not-steps : allSteps (stepWordsOf tape) ≡ false → laidOut tape ≡ false
       unfolding laidOut
       laid-not-steps e = rw (header, free, e)
 
-      pub laid-end : allSteps (stepWords tape 0 (stepCount tape)) ≡ true → laidOut tape ≡ isEnd (stepCount tape) (decoded (endAt tape))
+      pub laid-end : allSteps (stepWordsOf tape) ≡ true → laidOut tape ≡ isEnd (stepCount tape) (decoded (endAt tape))
       unfolding laidOut
       laid-end steps = rw (header, free, steps)
 
 -- ---- the outcome
 
 module _ (tape : List ℕ) where
-  pub read-length : isLength (length tape) ≡ false → readOutcome tape ≡ refused (numberOf Length)
+  pub header-length : isLength tape ≡ false → headerOutcome tape ≡ refused (numberOf Length)
+  unfolding headerOutcome
+  header-length e = gives _ _ _ (ap not e)
+
+  pub header-read : isLength tape ≡ true → headerOutcome tape ≡ answered (headerOf tape)
+  unfolding headerOutcome
+  header-read e = passes _ _ _ (ap not e) ∙ answers _
+
+  pub read-length : isLength tape ≡ false → readOutcome tape ≡ refused (numberOf Length)
   unfolding readOutcome
   read-length e = gives _ _ _ (ap not e)
 
-  module _ (long : isLength (length tape) ≡ true) where
+  module _ (long : isLength tape ≡ true) where
     pub read-word : laidOut tape ≡ false → readOutcome tape ≡ refused (numberOf Word)
     unfolding readOutcome
     read-word e = passes _ _ _ (ap not long) ∙ gives _ _ _ (ap not e)
@@ -119,14 +128,14 @@ module _ (tape : List ℕ) where
 -- ---- what the outcome says of the tape
 
 pub record ReadAs (tape : List ℕ) (h : Header) : Type 0 where
-  pub long : isLength (length tape) ≡ true
+  pub long : isLength tape ≡ true
   pub laid : laidOut tape ≡ true
   pub header : h ≡ headerOf tape
 
 module _ (tape : List ℕ) where
   pub read-answered : (h : Header) → readOutcome tape ≡ answered h → ReadAs tape h
   read-answered h e =
-      by-test (isLength (length tape))
+      by-test (isLength tape)
       (λ long.
       by-test (laidOut tape)
       (λ laid. let read = read-laid tape long laid in record { long = long; laid = laid; header = cc })
@@ -136,9 +145,9 @@ module _ (tape : List ℕ) where
   -- a service that reads the tape before its other rules: a refusal stands, and an answer leaves the other rules
   module _ {A : Type 0} (rules : List Rule) (x : A) where
     pub reading-refused : (n : ℕ) → readOutcome tape ≡ refused n
-        → outcome ((Length given-if not (isLength (length tape))) ∷ (Word given-if not (laidOut tape)) ∷ rules) x ≡ refused n
+        → outcome ((Length given-if not (isLength tape)) ∷ (Word given-if not (laidOut tape)) ∷ rules) x ≡ refused n
     reading-refused n e =
-        by-test (isLength (length tape))
+        by-test (isLength tape)
         (λ long.
         by-test (laidOut tape)
         (λ laid. let read = read-laid tape long laid in let z : _≡_ {A = ℕ} 0 1 = cc in absurd (omega arith))
@@ -148,5 +157,5 @@ module _ (tape : List ℕ) where
         (λ short. let read = read-length tape short in gives _ _ _ (ap not short) ∙ cc)
 
     pub reading-passed : (h : Header) → ReadAs tape h
-        → outcome ((Length given-if not (isLength (length tape))) ∷ (Word given-if not (laidOut tape)) ∷ rules) x ≡ outcome rules x
+        → outcome ((Length given-if not (isLength tape)) ∷ (Word given-if not (laidOut tape)) ∷ rules) x ≡ outcome rules x
     reading-passed h read = passes _ _ _ (ap not (read .long)) ∙ passes _ _ _ (ap not (read .laid))

@@ -1,19 +1,19 @@
 -- Rows of step words: the words of sound steps pass the test and give the steps back, and words that pass it are those of
--- their steps; and the test from one step on, as a loop over the steps makes it.
+-- their steps; the test from one word on, as a loop over the words makes it; and the step at a place.
 use mathlib.Core.Path.{_≡_, refl, sym, ap, _∙_}
 use mathlib.Core.Bool.{true, false, _&&_, and-false}
 use mathlib.Core.List.{List, [], _∷_, map}
 use Prim.Native.Nat.{ℕ, zero, suc, _+_, _-_, _≤_, _<_}
 use native.Mathlib.Omega.{arith}
 use lib.Dec.{leb, eqb}
-use lib.ListN.{length, getD, take, drop, List·getD-eq-default, List·getD-map}
-use lib.Seq.{slice, slice-empty, slice-cons, getD-drop, getD-take, take-nil, drop-nil}
-use borrow.Author.Tests.{le-leb, lt-leb, eqb-true, eq-eqb, ne-eqb}
+use lib.ListN.{length, getD, take, drop, length-take, length-drop, drop-of-length-le, List·getD-eq-default, List·getD-map}
+use lib.Seq.{slice, drop-cons, getD-drop, getD-take, take-nil, drop-nil}
+use borrow.Author.Tests.{le-leb, lt-leb, eqb-true}
 use Rattle.tape.specs.declared.Step.{Step}
 use Rattle.tape.specs.declared.Decoded.the-variants.{Bad}
 use Rattle.tape.specs.Steps.{AllSound}
 use Rattle.tape.specs.Words.{decoded, stepWord, encoded}
-use Rattle.tape.specs.Layout.{part, stepCount, stepAt, stepWords, sortOf, stepOf, meansAt, stepsIn, stepsOf, allSteps}
+use Rattle.tape.specs.Layout.{headerWords, otherWords, part, stepCount, stepIndex, stepAt, stepWordsOf, sortOf, stepOf, meansAt, stepsIn, stepsOf, allSteps}
 use Rattle.refusal.proofs.Laws.Tests.{both}
 use Rattle.tape.proofs.Laws.Words.{decoded-step, decoded-lawful, decoded-zero, step-sound, word-again}
 
@@ -41,32 +41,41 @@ pub words-steps : (steps : List Step) → AllSound steps → stepsIn (map stepWo
 words-steps [] sound = refl
 words-steps (x ∷ steps) sound = rw (decoded-step x (sound .0), words-steps steps (sound .1))
 
--- ---- the test from step i + 1 on
+-- ---- the test from a word on
 
-module _ (tape : List ℕ) (i : ℕ) (inside : i < stepCount tape) where
-  steps-from : allSteps (stepWords tape i (stepCount tape)) ≡ (eqb (sortOf (decoded (stepAt tape i))) 5 && allSteps (stepWords tape (i + 1) (stepCount tape)))
+module _ (words : List ℕ) (i : ℕ) (inside : i < length words) where
+  steps-from : allSteps (drop i words) ≡ (eqb (sortOf (decoded (getD words i 0))) 5 && allSteps (drop (suc i) words))
   unfolding allSteps
-  steps-from =
-      let next : suc (4 + i) ≡ 4 + (i + 1) = omega arith in
-      ap allSteps (slice-cons (4 + i) (4 + stepCount tape) tape 0 (omega arith) (omega arith))
-      ∙ ap (λ (j : ℕ). eqb (sortOf (decoded (stepAt tape i))) 5 && allSteps (slice j (4 + stepCount tape) tape)) next
+  steps-from = ap allSteps (drop-cons words i 0 inside)
 
-  pub steps-stop : (sortOf (decoded (stepAt tape i)) ≡ 5 → ⊥) → allSteps (stepWords tape i (stepCount tape)) ≡ false
-  steps-stop other = steps-from ∙ rw (ne-eqb (sortOf (decoded (stepAt tape i))) 5 other)
+  pub steps-stop : eqb (sortOf (decoded (getD words i 0))) 5 ≡ false → allSteps (drop i words) ≡ false
+  steps-stop other = steps-from ∙ rw other
 
-  pub steps-on : sortOf (decoded (stepAt tape i)) ≡ 5 → allSteps (stepWords tape i (stepCount tape)) ≡ allSteps (stepWords tape (i + 1) (stepCount tape))
-  steps-on step = steps-from ∙ rw (eq-eqb (sortOf (decoded (stepAt tape i))) 5 step)
+  pub steps-on : eqb (sortOf (decoded (getD words i 0))) 5 ≡ true → allSteps (drop i words) ≡ allSteps (drop (i + 1) words)
+  steps-on step = let next : suc i ≡ i + 1 = omega arith in steps-from ∙ rw (step, next)
 
-pub steps-end : (tape : List ℕ) (n : ℕ) → allSteps (stepWords tape n n) ≡ true
+pub steps-end : (words : List ℕ) (i : ℕ) → length words ≤ i → allSteps (drop i words) ≡ true
 unfolding allSteps
-steps-end tape n = rw (slice-empty (4 + n) tape)
+steps-end words i past = ap allSteps (drop-of-length-le words past)
+
+-- ---- the step at a place
+
+pub steps-nth : (words : List ℕ) (i : ℕ) → getD (stepsIn words) i (stepOf (decoded 0)) ≡ stepOf (decoded (getD words i 0))
+steps-nth words i = List·getD-map (λ (w : ℕ). stepOf (decoded w)) words i 0
+
+pub words-count : (tape : List ℕ) → length (stepWordsOf tape) ≡ stepCount tape
+words-count tape = simp (length-drop, length-take) (omega arith)
+
+pub words-none : (tape : List ℕ) → length tape < otherWords → stepWordsOf tape ≡ []
+words-none tape short = drop-of-length-le (take (4 + stepCount tape) tape) {i = 4} (simp length-take (omega arith))
+
+pub words-at : (tape : List ℕ) (i : ℕ) → i < stepCount tape → getD (stepWordsOf tape) i 0 ≡ stepAt tape i
+words-at tape i inside =
+    getD-drop 4 (take (4 + stepCount tape) tape) i 0 ∙ getD-take (4 + stepCount tape) tape (4 + i) 0 (omega arith)
 
 -- the step numbered i + 1
 pub steps-at : (tape : List ℕ) (i : ℕ) → i < stepCount tape → getD (stepsOf tape) i (stepOf (decoded 0)) ≡ stepOf (decoded (stepAt tape i))
-steps-at tape i inside =
-    List·getD-map (λ (w : ℕ). stepOf (decoded w)) (stepWords tape 0 (stepCount tape)) i 0
-    ∙ ap (λ (w : ℕ). stepOf (decoded w))
-    (getD-drop 4 (take (4 + stepCount tape) tape) i 0 ∙ getD-take (4 + stepCount tape) tape (4 + i) 0 (omega arith))
+steps-at tape i inside = steps-nth (stepWordsOf tape) i ∙ ap (λ (w : ℕ). stepOf (decoded w)) (words-at tape i inside)
 
 -- ---- the part of a row
 
@@ -90,6 +99,12 @@ slice-from (suc f) zero l = let none : 0 ≡ 0 - suc f = omega arith in drop-nil
 slice-from (suc f) (suc t) [] = sym (take-nil (suc t - suc f))
 slice-from (suc f) (suc t) (x ∷ l) =
     let less : t - f ≡ suc t - suc f = omega arith in slice-from f t l ∙ ap (λ (n : ℕ). take n (drop f l)) less
+
+-- a tape's step words, taken from their beginning on
+pub words-part : (tape : List ℕ) → otherWords ≤ length tape → stepWordsOf tape ≡ take (length tape - 1 - headerWords) (drop headerWords tape)
+words-part tape long =
+    let end : stepIndex tape (stepCount tape) ≡ length tape - 1 = omega arith in
+    ap (λ (n : ℕ). slice headerWords n tape) end ∙ slice-from headerWords (length tape - 1) tape
 
 -- past the tape a word is 0, which means nothing
 pub means-past : (tape : List ℕ) (i : ℕ) → length tape ≤ i → meansAt tape i ≡ Bad

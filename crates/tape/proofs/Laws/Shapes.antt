@@ -13,7 +13,7 @@ use Rattle.tape.specs.declared.Step.{Step}
 use Rattle.tape.specs.declared.Step.the-variants.{Mul, Div, Swp}
 use Rattle.tape.specs.declared.Decoded.the-variants.{Action, Bad}
 use Rattle.tape.specs.Steps.{Sound}
-use Rattle.tape.specs.Words.{kindOf, payloadOf, actionIn, swapIn, kindsOf, decoded, stepWord, encoded}
+use Rattle.tape.specs.Words.{kindOf, payloadOf, word, actionIn, swapIn, kindsOf, decoded, stepWord, encoded}
 use Rattle.tape.specs.Layout.{sortOf, stepOf}
 use Rattle.tape.proofs.Laws.Payloads.{action-good, swap-good}
 use Rattle.tape.proofs.Laws.Words.{decoded-lawful, step-sound, word-again}
@@ -60,7 +60,7 @@ pub record Shape (w : ℕ) : Type 0 where
   pub first : 5 ≤ kindOf w
   pub taken : kindOf w < 5 + kindsOf (payloadOf w % 4) (payloadOf w / 4)
 
-of-word : (t s kind w : ℕ) → t < 4 → s < 4 → 5 ≤ kind → kind < 5 + kindsOf t s → kind * 268435456 + (t + 4 * s) ≡ w → Shape w
+of-word : (t s kind w : ℕ) → t < 4 → s < 4 → 5 ≤ kind → kind < 5 + kindsOf t s → word kind (t + 4 * s) ≡ w → Shape w
 of-word t s kind w target source first taken e =
     let p : payloadOf w ≡ t + 4 * s = omega (arith, e) in
     let k : kindOf w ≡ kind = omega (arith, e) in
@@ -113,23 +113,3 @@ module _ (w : ℕ) (shape : Shape w) where
       ⊎-elim (λ e. ap sortOf (means-5 (sym e)))
       (λ h. ⊎-elim (λ e. ap sortOf (means-6 (sym e))) (λ last. ap sortOf (means-7 last)) (eq-or-lt-of-le h))
       (eq-or-lt-of-le (shape .first))
-
--- ---- a word of a step's kind that isn't one
-
--- a guarded step that isn't one
-guarded-bad : (t : Bool) (x : Step) → (sortOf (cond t (Action x) Bad) ≡ 5 → ⊥) → cond t (Action x) Bad ≡ Bad
-guarded-bad true x other = absurd (other refl)
-guarded-bad false x other = refl
-
-module _ (w : ℕ) (other : sortOf (decoded w) ≡ 5 → ⊥) where
-  pub bad-5 : kindOf w ≡ 5 → decoded w ≡ Bad
-  unfolding decoded actionIn
-  bad-5 k = rw k (guarded-bad (ltb (payloadOf w) 16 && not (eqb (payloadOf w % 4) (payloadOf w / 4))) (Mul (payloadOf w % 4) (payloadOf w / 4)) (rw k at other))
-
-  pub bad-6 : kindOf w ≡ 6 → decoded w ≡ Bad
-  unfolding decoded actionIn
-  bad-6 k = rw k (guarded-bad (ltb (payloadOf w) 16 && not (eqb (payloadOf w % 4) (payloadOf w / 4))) (Div (payloadOf w % 4) (payloadOf w / 4)) (rw k at other))
-
-  pub bad-7 : kindOf w ≡ 7 → decoded w ≡ Bad
-  unfolding decoded swapIn
-  bad-7 k = rw k (guarded-bad (ltb (payloadOf w) 16 && ltb (payloadOf w % 4) (payloadOf w / 4)) (Swp (payloadOf w % 4) (payloadOf w / 4)) (rw k at other))

@@ -1,7 +1,7 @@
 -- Words and their meanings: each lawful meaning is that of its word, and each word that means something is the word of its
 -- meaning. A word is its kind times 2^28 and its payload, so the tests of `decoded` are arithmetic on the two.
 use mathlib.Core.Path.{_≡_, refl, sym, ap, _∙_, subst}
-use mathlib.Core.Bool.{Bool, true, false, _&&_, not, cond}
+use mathlib.Core.Bool.{Bool, true, false, _&&_, not, cond, true≢false}
 use Prim.Native.Nat.{ℕ, _+_, _*_, _/_, _%_, _^_, _<_}
 use native.Mathlib.Omega.{arith}
 use lib.Dec.{eqb, ltb}
@@ -11,24 +11,24 @@ use Rattle.tape.specs.declared.Step.the-variants.{Mul, Div, Swp}
 use Rattle.tape.specs.declared.Decoded.{Decoded}
 use Rattle.tape.specs.declared.Decoded.the-variants.{Heading, P, R, K, Action, End, Bad}
 use Rattle.tape.specs.Steps.{Apart, Sound}
-use Rattle.tape.specs.Words.{kindOf, payloadOf, word, headingIn, actionIn, swapIn, decoded, stepWord, encoded}
+use Rattle.tape.specs.Words.{numberLimit, variantLimit, kindOf, payloadOf, word, headingIn, actionIn, swapIn, decoded, stepWord, encoded}
 use Rattle.tape.specs.Layout.{sortOf, valueOf, stepOf}
 use Rattle.refusal.proofs.Laws.Tests.{both}
 use Rattle.tape.proofs.Laws.Payloads.{heading-good, action-good, swap-good}
 
 -- what a word can mean: the numbers fit their bits, and a step is sound
 abbrev pub Lawful : Decoded → Type 0
-Lawful (Heading variant) = variant < 16
-Lawful (P p) = p < 2 ^ 28
-Lawful (R r) = r < 2 ^ 28
-Lawful (K k) = k < 2 ^ 28
+Lawful (Heading variant) = variant < variantLimit
+Lawful (P p) = p < numberLimit
+Lawful (R r) = r < numberLimit
+Lawful (K k) = k < numberLimit
 Lawful (Action step) = Sound step
-Lawful (End count) = count < 2 ^ 28
+Lawful (End count) = count < numberLimit
 Lawful Bad = Unit {0}
 
 -- ---- from a meaning to its word and back
 
-module _ (kind payload : ℕ) (fits : payload < 2 ^ 28) where
+module _ (kind payload : ℕ) (fits : payload < numberLimit) where
   pub word-kind : kindOf (word kind payload) ≡ kind
   word-kind = omega arith
 
@@ -167,7 +167,7 @@ decoded-zero = refl
 apart-default : Apart 0 1
 apart-default = record { target-is-one = omega arith; source-is-one = omega arith; differ = λ e. omega arith }
 
-pub value-small : (d : Decoded) → Lawful d → valueOf d < 2 ^ 28
+pub value-small : (d : Decoded) → Lawful d → valueOf d < numberLimit
 value-small (Heading v) h = omega arith
 value-small (P p) h = h
 value-small (R r) h = h
@@ -184,6 +184,16 @@ step-sound (K k) h = apart-default
 step-sound (Action step) h = h
 step-sound (End n) h = apart-default
 step-sound Bad h = apart-default
+
+-- mul 0 1 stands for what is no step
+pub step-none : (d : Decoded) → eqb (sortOf d) 5 ≡ false → stepOf d ≡ Mul 0 1
+step-none (Heading v) e = refl
+step-none (P p) e = refl
+step-none (R r) e = refl
+step-none (K k) e = refl
+step-none (Action step) e = absurd (true≢false e)
+step-none (End n) e = refl
+step-none Bad e = refl
 
 -- the meaning of a sort with a value or a step
 abbrev pub meaningOf : ℕ → ℕ → Step → Decoded
@@ -212,5 +222,5 @@ meaning-sort d e = sym (meaning d) ∙ ap (λ (s : ℕ). meaningOf s (valueOf d)
 pub word-again : (w : ℕ) {sort : ℕ} → sortOf (decoded w) ≡ sort → (sort ≡ 0 → ⊥) → encoded (meaningOf sort (valueOf (decoded w)) (stepOf (decoded w))) ≡ w
 word-again w e some = ap encoded (sym (meaning-sort (decoded w) e)) ∙ encoded-decoded w (λ z. some (sym e ∙ z))
 
-pub variant-small : (w : ℕ) → sortOf (decoded w) ≡ 1 → valueOf (decoded w) < 16
+pub variant-small : (w : ℕ) → sortOf (decoded w) ≡ 1 → valueOf (decoded w) < variantLimit
 variant-small w e = subst Lawful (meaning-sort (decoded w) e) (decoded-lawful w)

@@ -1,6 +1,7 @@
 -- `layout::is_end` meets its contract: the word past the steps is tested for its sort, then for its count.
 use mathlib.Core.Path.{_≡_, sym, ap, ap₂, _∙_}
 use Prim.Native.Nat.{ℕ}
+use native.Mathlib.Omega.{arith}
 use lib.Dec.{eqb}
 use borrow.Author.Needs.{needs}
 use Rattle.tape.specs.Words.{decoded}
@@ -10,8 +11,8 @@ use Rattle.tape.proofs.layout.is_end.Statement.{statement}
 use Rattle.tape.proofs.layout.is_end.Tie as tie
 
 -- the word that is read is the one past the steps
-end : (c : tie.After-step-at) → c .step-at .result ≡ decoded (endAt (c .before .before .before .args .tape .now))
-end c = c .step-at .ensures ∙ ap (λ (n : ℕ). decoded (stepAt (c .before .before .before .args .tape .now) n)) (c .before .step-count .ensures)
+end : (c : tie.After-means-at) → c .means-at .result ≡ decoded (endAt (c .before .before .before .args .tape .now))
+end c = c .means-at .ensures ∙ ap (λ (n : ℕ). decoded (stepAt (c .before .before .before .args .tape .now) n)) (c .before .step-count .ensures)
 
 sort : (c : tie.After-sort-of) → c .sort-of .result ≡ sortOf (decoded (endAt (c .before .before .before .before .args .tape .now)))
 sort c = c .sort-of .ensures ∙ ap sortOf (end (c .before))
@@ -19,8 +20,11 @@ sort c = c .sort-of .ensures ∙ ap sortOf (end (c .before))
 step-count-requires : tie.Need-step-count-requires
 step-count-requires c κs = search needs
 
-step-at-requires : tie.Need-step-at-requires
-step-at-requires c κs = search needs
+add-means-at : tie.Need-add-means-at
+add-means-at c = omega (arith, c .step-count .ensures, c .before .before .good)
+
+means-at-requires : tie.Need-means-at-requires
+means-at-requires c κs = search needs
 
 sort-of-requires : tie.Need-sort-of-requires
 sort-of-requires c κs = search needs
@@ -46,7 +50,8 @@ is-end-spec =
     tie.close
     (tie.spec
     step-count-requires
-    step-at-requires
+    add-means-at
+    means-at-requires
     sort-of-requires
     returns
     value-of-requires

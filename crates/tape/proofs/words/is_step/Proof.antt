@@ -1,4 +1,4 @@
--- `is_step` meets its contract: its tests are the parts of the shape of a step's word, and a word means a step where it has that shape.
+-- `words::is_step` meets its contract: its tests are the parts of the shape of a step's word, and a word means a step where it has that shape.
 use mathlib.Core.Path.{sym, _∙_}
 use native.Mathlib.Omega.{arith}
 use Prim.Native.Nat.{_-_}
@@ -9,8 +9,8 @@ use Rattle.refusal.proofs.Laws.Tests.{by-test}
 use Rattle.tape.specs.Words.{kindOf, decoded}
 use Rattle.tape.specs.Layout.{sortOf}
 use Rattle.tape.proofs.Laws.Shapes.{Shape, step-shape, shape-sort}
-use Rattle.tape.proofs.is_step.Statement.{statement}
-use Rattle.tape.proofs.is_step.Tie as tie
+use Rattle.tape.proofs.words.is_step.Statement.{statement}
+use Rattle.tape.proofs.words.is_step.Tie as tie
 
 returns : tie.Need-returns
 returns c =

@@ -1,8 +1,8 @@
--- `step_in` meets its contract: a step's word has its registers in its payload, and its kind says which step.
+-- `words::step_in` meets its contract: a step's word has its registers in its payload, and its kind says which step.
 use mathlib.Core.Path.{sym}
 use Rattle.tape.proofs.Laws.Shapes.{step-shape, kind-7, means-5, means-6, means-7}
-use Rattle.tape.proofs.step_in.Statement.{statement}
-use Rattle.tape.proofs.step_in.Tie as tie
+use Rattle.tape.proofs.words.step_in.Statement.{statement}
+use Rattle.tape.proofs.words.step_in.Tie as tie
 
 returns : tie.Need-returns
 returns c = sym (means-5 _ (step-shape _ (c .before .pre)) (c .match .keys1))

@@ -1,7 +1,7 @@
--- `layout::header` meets its contract: each field is what the word at its place holds.
+-- `layout::header_of` meets its contract: each field is what the word at its place holds.
 use borrow.Author.Needs.{needs}
-use Rattle.tape.proofs.layout.header.Statement.{statement}
-use Rattle.tape.proofs.layout.header.Tie as tie
+use Rattle.tape.proofs.layout.header_of.Statement.{statement}
+use Rattle.tape.proofs.layout.header_of.Tie as tie
 
 means-at-requires : tie.Need-means-at-requires
 means-at-requires c κs = search needs
@@ -36,8 +36,8 @@ cast-t11 c = search needs
 returns : tie.Need-returns
 returns c = cc
 
-pub header-spec : {M : Type 1} → statement M
-header-spec =
+pub header-of-spec : {M : Type 1} → statement M
+header-of-spec =
     tie.close
     (tie.spec
     means-at-requires

@@ -1,9 +1,9 @@
--- `kinds_of` meets its contract: each return is a case of the definition by its tests.
+-- `words::kinds_of` meets its contract: each return is a case of the definition by its tests.
 use mathlib.Core.Path.{sym}
 use native.Mathlib.Nat.{le-antisymm}
 use Rattle.tape.proofs.Laws.Shapes.{kinds-below, kinds-above, kinds-none}
-use Rattle.tape.proofs.kinds_of.Statement.{statement}
-use Rattle.tape.proofs.kinds_of.Tie as tie
+use Rattle.tape.proofs.words.kinds_of.Statement.{statement}
+use Rattle.tape.proofs.words.kinds_of.Tie as tie
 
 returns : tie.Need-returns
 returns c = sym (kinds-below _ _ (c .if1 .taken))
