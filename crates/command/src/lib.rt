@@ -13,7 +13,6 @@ ghost use Rattle.tool.specs.Replies.{means, ownIn, replyTo, reply, answers, ver
 ghost use Rattle.tool.specs.Texts.{usage, versionLine};
 ghost use Rattle.tool.specs.Rows.{Told, Within};
 use arguments::understand;
-use encoding::MOST_WORDS;
 use encoding::WORD_BYTES;
 use encoding::tape_words;
 use numbers::build;
@@ -23,6 +22,7 @@ use printing::put_unread;
 use printing::put_usage;
 use printing::put_wrong_count;
 use refusal::Refusal;
+use tape::MOST_WORDS;
 use tapes::on_tape;
 use text::put;
 use text::word;

@@ -4,14 +4,15 @@ use mathlib.Core.List.{List, [], _∷_}
 use Prim.Native.Nat.{ℕ, _+_, _*_, _/_, _%_}
 use lib.Dec.{ltb, eqb}
 use lib.ListN.{length}
-
--- the most bytes of a tape
-abbrev pub mostBytes : ℕ
-mostBytes = 2048
+use Rattle.tape.specs.Layout.{mostWords}
 
 -- the bytes of a word
 abbrev pub wordBytes : ℕ
 wordBytes = 4
+
+-- the most bytes of a tape: 2048
+abbrev pub mostBytes : ℕ
+mostBytes = wordBytes * mostWords
 
 -- four bytes, least significant first
 abbrev pub wordOf : ℕ → ℕ → ℕ → ℕ → ℕ
@@ -30,7 +31,7 @@ unfoldable pub bytesOf : List ℕ → List ℕ
 bytesOf [] = []
 bytesOf (w ∷ words) = w % 256 ∷ w / 256 % 256 ∷ w / 65536 % 256 ∷ w / 16777216 % 256 ∷ bytesOf words
 
--- above 2048 bytes, or not a multiple of 4
+-- above the most bytes of a tape, or not a multiple of 4
 unfoldable pub noTape : List ℕ → Bool
 noTape bytes = ltb mostBytes (length bytes) || not (eqb (length bytes % wordBytes) 0)
 

@@ -6,17 +6,15 @@ ghost use mathlib.Core.List.{[], _∷_};
 ghost use Prim.Native.Nat.{_%_};
 ghost use Rattle.text.specs.Rows.{Put};
 ghost use Rattle.encoding.specs.Encoding.{bytesOf, tapeIn};
+use tape::MOST_WORDS;
 use text::put_byte;
 use words::words;
 
-// The most bytes of a tape.
-pub const MOST_BYTES: usize = 2048;
-
-// The most words of a tape.
-pub const MOST_WORDS: usize = 512;
-
 // The bytes of a word.
 pub const WORD_BYTES: usize = 4;
+
+// The most bytes of a tape.
+pub const MOST_BYTES: usize = WORD_BYTES * MOST_WORDS;
 
 // The words of a tape that is given as bytes, from the row's start: how many they are. Bytes that are no tape give none, and a tape
 // of no words gets refusal 6 from every service on a tape.

@@ -9,13 +9,14 @@ ghost use Rattle.tape.specs.Layout.{stepsOf};
 ghost use Rattle.program.specs.Services.{acceptOutcome};
 ghost use Rattle.text.specs.Rows.{Put};
 ghost use Rattle.listing.specs.Listing.{listingNumber, listingOf, listingAnswer, listingRow, refusedLine, linesFor};
-use encoding::MOST_WORDS;
 use encoding::tape_words;
 use lines::first_line;
 use lines::refused_line;
 use lines::step_lines;
 use refusal::Refusal;
 use tape::Header;
+use tape::MOST_STEPS;
+use tape::MOST_WORDS;
 use tape::Reading;
 use text::put;
 
@@ -26,7 +27,7 @@ pub struct Listed {
 }
 
 // The most bytes of a listing (`tape-listing-most`).
-pub const MOST_WRITTEN: usize = 6137;
+pub const MOST_WRITTEN: usize = 53 + 12 * MOST_STEPS;
 
 // Writes the listing of a tape that is given as bytes; a refusal is one line. 5 where the row is shorter than the listing.
 pub fn listing(bytes: &[u8], lines: &mut [u8]) -> Listed
@@ -70,12 +71,11 @@ fn list_bytes(bytes: &[u8], row: &mut [u8]) -> Listed
 
 // The listing of an accepted tape.
 fn list_accepted(tape: &[u32], header: Header, row: &mut [u8]) -> Listed
-    requires { ⌜ acceptOutcome (now tape) ≡ answered header ⌝ }
     ensures { λ r. ⌜ Put (now (row .entry)) 0 (linesFor (answered header) (stepsOf (now (tape .entry)))) (r .written) (now (row .exit)) ⌝ }
     ensures { λ r. ⌜ r .number ≡ 0 ⌝ }
 {
     let next = first_line(row, 0, header);
-    let end = step_lines(row, next, tape, header.steps);
+    let end = step_lines(row, next, tape::steps(tape));
     Listed {
         written: end,
         number: 0,

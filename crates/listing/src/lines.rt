@@ -1,7 +1,6 @@
 // The lines of a listing. Each function writes from `at` on and answers the index past what it wrote.
-ghost use mathlib.Core.Path.{_≡_};
 ghost use mathlib.Core.List.{[], _∷_, _++_};
-ghost use Rattle.tape.specs.Layout.{stepCount, stepsOf};
+ghost use Rattle.tape.specs.Layout.{stepsIn};
 ghost use Rattle.text.specs.Text.{decimal, blank};
 ghost use Rattle.text.specs.Rows.{Put};
 ghost use Rattle.named.specs.Named.{variantName};
@@ -9,8 +8,7 @@ ghost use Rattle.listing.specs.Listing.{refusedLine, firstLine, namedLin
 use named::VARIANT_NAMES;
 use tape::Header;
 use tape::Step;
-use tape::step_at;
-use tape::step_of;
+use tape::nth_step;
 use text::BLANK;
 use text::NEWLINE;
 use text::put;
@@ -54,21 +52,20 @@ pub(crate) fn first_line(row: &mut [u8], at: usize, header: Header) -> usize
 }
 
 // A line for each step, numbered from 1.
-pub(crate) fn step_lines(row: &mut [u8], at: usize, tape: &[u32], count: u32) -> usize
-    requires { ⌜ count ≡ stepCount (now tape) ⌝ }
-    ensures { λ next. ⌜ Put (now (row .entry)) at (stepLines 1 (stepsOf (now (tape .entry)))) next (now (row .exit)) ⌝ }
+pub(crate) fn step_lines(row: &mut [u8], at: usize, words: &[u32]) -> usize
+    ensures { λ next. ⌜ Put (now (row .entry)) at (stepLines 1 (stepsIn (now (words .entry)))) next (now (row .exit)) ⌝ }
 {
     let mut next = at;
-    let mut i: u32 = 0;
-    while i < count {
-        next = step_line(row, next, i + 1, step_of(step_at(tape, i as usize)));
+    let mut i: usize = 0;
+    while i < words.len() {
+        next = step_line(row, next, i as u64 + 1, nth_step(words, i));
         i += 1;
     }
     next
 }
 
 // A step's line.
-fn step_line(row: &mut [u8], at: usize, n: u32, step: Step) -> usize
+fn step_line(row: &mut [u8], at: usize, n: u64, step: Step) -> usize
     ensures { λ next. ⌜ Put (now (row .entry)) at (stepLine n step) next (now (row .exit)) ⌝ }
 {
     match step {
@@ -79,10 +76,10 @@ fn step_line(row: &mut [u8], at: usize, n: u32, step: Step) -> usize
 }
 
 // A step's number, its name, target and source.
-fn named_line(row: &mut [u8], at: usize, n: u32, name: &[u8], target: u32, source: u32) -> usize
+fn named_line(row: &mut [u8], at: usize, n: u64, name: &[u8], target: u32, source: u32) -> usize
     ensures { λ next. ⌜ Put (now (row .entry)) at (namedLine n (now (name .entry)) target source) next (now (row .exit)) ⌝ }
 {
-    let b = put_number_then(row, at, n as u64, BLANK);
+    let b = put_number_then(row, at, n, BLANK);
     let c = put_then(row, b, name, BLANK);
     let d = put_number_then(row, c, target as u64, BLANK);
     put_number_then(row, d, source as u64, NEWLINE)

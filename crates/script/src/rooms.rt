@@ -8,14 +8,14 @@ ghost use Rattle.refusal.specs.Rows.{Wrote};
 ghost use Rattle.text.specs.Text.{numberLine, numbersLine};
 ghost use Rattle.text.specs.Rows.{Put};
 ghost use Rattle.tool.specs.Verbs.{largest32, mostRoom};
-ghost use Rattle.tool.specs.Replies.{mostWords, printed};
+ghost use Rattle.tape.specs.Layout.{mostWords};
+ghost use Rattle.tool.specs.Replies.{printed};
 ghost use Rattle.tool.specs.Rows.{Within};
 ghost use Rattle.scripting.specs.Script.{mostTapes, mostCommanded, withTape, builtAs, buildInto, placesInto, listInto, buildLine, buildIn, placesIn, listIn};
 ghost use Rattle.scripting.specs.States.{stateIn, Inside, countIn, Did};
 use crate::edits::ending;
 use crate::edits::full;
 use crate::edits::parameter;
-use encoding::MOST_WORDS;
 use encoding::WORD_BYTES;
 use encoding::tape_bytes;
 use lines::bytes_line;
@@ -28,6 +28,7 @@ use scripting::MOST_ROOM;
 use scripting::MOST_TAPES;
 use scripting::Marks;
 use scripting::Printed;
+use tape::MOST_WORDS;
 
 // What an element of a buffer holds before a call.
 const HELD: u8 = 255;

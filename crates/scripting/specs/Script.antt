@@ -23,7 +23,8 @@ use Rattle.tool.specs.declared.Verb.{Verb}
 use Rattle.tool.specs.declared.Verb.the-variants.{Unknown, Build, Script, Help, Version, OnTape, OnNumbers, InScript}
 use Rattle.tool.specs.declared.Row.{Row}
 use Rattle.tool.specs.Calls.{Asked, noWord, noVerb, wrongCount, unread, known, askedBy}
-use Rattle.tool.specs.Replies.{printed, at, mostWords, replyTo}
+use Rattle.tape.specs.Layout.{mostWords}
+use Rattle.tool.specs.Replies.{printed, at, replyTo}
 
 -- ---- the state
 

@@ -28,9 +28,12 @@ headerWords = 4
 abbrev pub otherWords : ℕ
 otherWords = headerWords + 1
 
--- the most words of a tape
+-- the most words of a tape, and the most steps
 abbrev pub mostWords : ℕ
 mostWords = 512
+
+abbrev pub mostSteps : ℕ
+mostSteps = mostWords - otherWords
 
 abbrev pub stepCount : List ℕ → ℕ
 stepCount tape = length tape - otherWords

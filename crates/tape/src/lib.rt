@@ -17,6 +17,8 @@ use layout::is_length;
 use layout::means_at;
 use layout::numbers_fit;
 use refusal::Refusal;
+use words::FORMAT;
+use words::FORMATS;
 use words::division_in;
 use words::heading_in;
 use words::is_step;
@@ -59,6 +61,9 @@ pub enum Reading {
 
 // The most words of a tape.
 pub const MOST_WORDS: usize = 512;
+
+// The most steps of a tape.
+pub const MOST_STEPS: usize = MOST_WORDS - OTHER_WORDS;
 
 // Payloads, so p, r, k and the count of steps, are below this.
 pub const NUMBER_LIMIT: u32 = 0x1000_0000;
@@ -217,7 +222,7 @@ pub fn lay_out(row: &mut [u32], header: Header) -> usize
     if !numbers_fit(header) {
         return 0;
     }
-    row[0] = NUMBER_LIMIT + (1 + 256 * header.variant);
+    row[0] = NUMBER_LIMIT + (FORMAT + FORMATS * header.variant);
     row[1] = 2 * NUMBER_LIMIT + header.modulus;
     row[2] = 3 * NUMBER_LIMIT + header.order;
     row[3] = 4 * NUMBER_LIMIT + header.exponent;

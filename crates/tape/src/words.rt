@@ -9,10 +9,10 @@ use crate::NUMBER_LIMIT;
 use crate::Step;
 
 // The format that a heading names.
-const FORMAT: u32 = 1;
+pub(crate) const FORMAT: u32 = 1;
 
 // Formats are below this; the variant stands above them.
-const FORMATS: u32 = 0x100;
+pub(crate) const FORMATS: u32 = 0x100;
 
 // Headings' payloads are below this.
 const HEADINGS: u32 = 0x1000;

@@ -14,7 +14,7 @@ use Rattle.fibonacci.specs.Hofstadter.{G}
 use Rattle.fibonacci.specs.Height.{height}
 use Rattle.fibonacci.specs.Services.{fibonacciOutcome, placesOf, numberOutcome}
 use Rattle.tape.specs.Words.{decoded}
-use Rattle.tape.specs.Layout.{stepsOf}
+use Rattle.tape.specs.Layout.{mostWords, stepsOf}
 use Rattle.encoding.specs.Encoding.{bytesOf, tapeIn, wordBytes}
 use Rattle.named.specs.Named.{namedWords}
 use Rattle.program.specs.Services.{buildOutcome, checkOutcome, acceptOutcome}
@@ -81,10 +81,6 @@ registersIn v = at v 0 ∷ at v 1 ∷ at v 2 ∷ at v 3 ∷ []
 -- a truth as a number
 abbrev pub bit : Bool → ℕ
 bit b = cond b 1 0
-
--- the most words of a tape
-abbrev pub mostWords : ℕ
-mostWords = 512
 
 -- the tape's bytes
 unfoldable pub built : ℕ → List ℕ → Replied

@@ -1,22 +1,21 @@
--- How long a listing is: at most 53 bytes for the first line and 12 for each of at most 507 steps, so that a row of that length is
+-- How long a listing is: at most 53 bytes for the first line and 12 for each of as many steps as a tape can have, so that a row of that length is
 -- never too short; and never empty, so that a count of 0 says that there was no room.
 use mathlib.Core.Path.{_≡_, refl, sym, ap, _∙_}
 use mathlib.Core.List.{List, [], _∷_, _++_}
-use Prim.Native.Nat.{ℕ, zero, suc, _+_, _*_, _^_, _≤_, _<_}
+use Prim.Native.Nat.{ℕ, zero, suc, _+_, _*_, _≤_, _<_}
 use native.Mathlib.Decide.{decLt}
 use native.Mathlib.Omega.{arith}
-use lib.ListN.{length, getD, drop, length-append}
+use lib.ListN.{length, drop, length-append}
 use Rattle.refusal.specs.Outcomes.{Outcome, refused, answered, after}
 use Rattle.refusal.proofs.Laws.Rules.{refused-range}
 use Rattle.tape.specs.declared.Step.{Step}
 use Rattle.tape.specs.declared.Step.the-variants.{Mul, Div, Swp}
 use Rattle.tape.specs.declared.Header.{Header}
 use Rattle.tape.specs.Steps.{Apart, Sound, AllSound}
-use Rattle.tape.specs.Layout.{stepCount, stepWords, valueOf, meansAt, headerOf, stepsOf}
-use Rattle.tape.proofs.Laws.Words.{decoded-lawful, value-small}
+use Rattle.tape.specs.Layout.{stepWordsOf, headerOf, stepsOf}
 use Rattle.tape.proofs.Laws.Reading.{length-most}
 use Rattle.tape.proofs.Laws.Rows.{all-steps-sound}
-use Rattle.tape.proofs.Laws.Layout.{steps-count}
+use Rattle.tape.proofs.Laws.Layout.{Fits, steps-count, header-fits}
 use Rattle.encoding.specs.Encoding.{tapeOf, tapeIn}
 use Rattle.named.specs.Named.{variantName}
 use Rattle.program.specs.Services.{roomOutcome, checkRules, acceptOutcome}
@@ -46,8 +45,8 @@ name-most (suc (suc zero)) = omega arith
 name-most (suc (suc (suc zero))) = omega arith
 name-most (suc (suc (suc (suc variant)))) = omega arith
 
-first-most : (h : Header) → h .modulus < 2 ^ 28 → h .order < 2 ^ 28 → h .exponent < 2 ^ 28 → h .steps < 1000 → length (firstLine h) ≤ 53
-first-most h p r k n =
+first-most : (h : Header) → Fits h → h .steps < 1000 → length (firstLine h) ≤ 53
+first-most h fits n =
     let words = (ascii "p=" ++ decimal (h .modulus)) ∷ (ascii "r=" ++ decimal (h .order)) ∷ (ascii "k=" ++ decimal (h .exponent)) ∷ (ascii "steps=" ++ decimal (h .steps)) ∷ [] in
     omega (
       arith,
@@ -79,19 +78,17 @@ steps-most n (x ∷ steps) h sound =
 
 -- ---- the listing
 
-value : (tape : List ℕ) (i : ℕ) → valueOf (meansAt tape i) < 2 ^ 28
-value tape i = value-small (meansAt tape i) (decoded-lawful (getD tape i 0))
-
 accepted-most : (tape : List ℕ) (h : Header) → acceptOutcome tape ≡ answered h → length (firstLine h ++ stepLines 1 (stepsOf tape)) ≤ mostWritten
 accepted-most tape h e =
-    let most = length-most tape (accepted (headerOf tape) tape e .long) in
+    let passed = accepted (headerOf tape) tape e in
+    let most = length-most tape (passed .long) in
     let count = steps-count tape in
     rw (header-is tape h e)
     (omega (
       arith,
       length-append (firstLine (headerOf tape)) (stepLines 1 (stepsOf tape)),
-      first-most (headerOf tape) (value tape 1) (value tape 2) (value tape 3) (omega arith),
-      steps-most 1 (stepsOf tape) (omega arith) (all-steps-sound (stepWords tape 0 (stepCount tape))),
+      first-most (headerOf tape) (header-fits tape (passed .laid)) (omega arith),
+      steps-most 1 (stepsOf tape) (omega arith) (all-steps-sound (stepWordsOf tape)),
     ))
 
 lines-most : (tape : List ℕ) (o : Outcome Header) → acceptOutcome tape ≡ o → length (linesFor o (stepsOf tape)) ≤ mostWritten

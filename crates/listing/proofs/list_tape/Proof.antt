@@ -28,7 +28,7 @@ enum-known-header : tie.Need-enum-known-header
 enum-known-header c = search needs
 
 list-accepted-requires : tie.Need-list-accepted-requires
-list-accepted-requires c κs = accepted (c .before .before)
+list-accepted-requires c κs = search needs
 
 same-length : tie.Need-same-length
 same-length c = search needs

@@ -23,7 +23,8 @@ use Rattle.listing.specs.declared.Listed.{Listed}
 use Rattle.listing.specs.Listing.{listingAnswer, listingRow}
 use Rattle.tool.specs.Verbs.{mostRoom}
 use Rattle.tool.specs.declared.Reply.{Reply}
-use Rattle.tool.specs.Replies.{at, mostWords, printed}
+use Rattle.tape.specs.Layout.{mostWords}
+use Rattle.tool.specs.Replies.{at, printed}
 use Rattle.tool.specs.Rows.{Told}
 use Rattle.scripting.specs.declared.Marks.{Marks}
 use Rattle.scripting.specs.declared.Printed.{Printed}

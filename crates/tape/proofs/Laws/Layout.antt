@@ -157,18 +157,23 @@ pub record LawfulProgram (q : Program) : Type 0 where
   pub free : q .variant ≡ 0 → (q .order ≡ 0) × (q .exponent ≡ 0)
   pub sound : AllSound (q .steps)
 
-pub program-lawful : (tape : List ℕ) → laidOut tape ≡ true → LawfulProgram (programOf tape)
-program-lawful tape laid =
+pub header-fits : (tape : List ℕ) → laidOut tape ≡ true → Fits (headerOf tape)
+header-fits tape laid =
     let rules = laid-out-rules tape laid in
-    let fits : Fits (headerFor (programOf tape)) = record {
+    record {
       variant-small = variant-small (getD tape 0 0) (rules .sort-0);
       modulus-small = value-small (meansAt tape 1) (decoded-lawful (getD tape 1 0));
       order-small = value-small (meansAt tape 2) (decoded-lawful (getD tape 2 0));
       exponent-small = value-small (meansAt tape 3) (decoded-lawful (getD tape 3 0));
-      count-small = omega (arith, steps-count tape, rules .count, value-small (decoded (endAt tape)) (decoded-lawful (endAt tape)));
-    } in
+      count-small = omega (arith, rules .count, value-small (decoded (endAt tape)) (decoded-lawful (endAt tape)));
+    }
+
+pub program-lawful : (tape : List ℕ) → laidOut tape ≡ true → LawfulProgram (programOf tape)
+program-lawful tape laid =
+    let rules = laid-out-rules tape laid in
+    let same : headerFor (programOf tape) ≡ headerOf tape = rw (steps-count tape) refl in
     record {
-      fits = fits;
+      fits = rw same (header-fits tape laid);
       free = rules .free;
       sound = all-steps-sound (stepWordsOf tape);
     }

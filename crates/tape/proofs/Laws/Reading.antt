@@ -1,7 +1,7 @@
 -- Reading a tape by cases: its rules one after another, and the outcome by the length and the layout. Each law rewrites the
 -- tests that are known.
 use mathlib.Core.Path.{_≡_, ap, _∙_}
-use mathlib.Core.Bool.{true, false, not, and-false}
+use mathlib.Core.Bool.{true, false, not}
 use mathlib.Core.List.{List, _∷_}
 use Prim.Native.Nat.{ℕ, _≤_, _<_}
 use native.Mathlib.Omega.{arith}

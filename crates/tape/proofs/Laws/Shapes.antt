@@ -1,19 +1,18 @@
 -- The words of steps by arithmetic: a payload of two registers, and a kind from 5 on of as many as take them. Such a word means a step,
 -- and a word that means a step is one.
-use mathlib.Core.Path.{_≡_, refl, sym, ap}
-use mathlib.Core.Bool.{Bool, true, false, _&&_, not, cond}
+use mathlib.Core.Path.{_≡_, sym, ap}
 use mathlib.Core.Logic.{⊎-elim}
 use Prim.Native.Nat.{ℕ, _+_, _*_, _/_, _%_, _≤_, _<_}
 use native.Mathlib.Nat.{eq-or-lt-of-le}
 use native.Mathlib.Omega.{arith}
-use lib.Dec.{eqb, ltb}
+use lib.Dec.{ltb}
 use borrow.Author.Tests.{ltb-true, ltb-false, lt-ltb, le-ltb}
 use Rattle.refusal.proofs.Laws.Tests.{by-test}
 use Rattle.tape.specs.declared.Step.{Step}
 use Rattle.tape.specs.declared.Step.the-variants.{Mul, Div, Swp}
-use Rattle.tape.specs.declared.Decoded.the-variants.{Action, Bad}
+use Rattle.tape.specs.declared.Decoded.the-variants.{Action}
 use Rattle.tape.specs.Steps.{Sound}
-use Rattle.tape.specs.Words.{kindOf, payloadOf, word, actionIn, swapIn, kindsOf, decoded, stepWord, encoded}
+use Rattle.tape.specs.Words.{kindOf, payloadOf, word, kindsOf, decoded, stepWord, encoded}
 use Rattle.tape.specs.Layout.{sortOf, stepOf}
 use Rattle.tape.proofs.Laws.Payloads.{action-good, swap-good}
 use Rattle.tape.proofs.Laws.Words.{decoded-lawful, step-sound, word-again}

@@ -15,7 +15,7 @@ use Rattle.tape.specs.declared.Decoded.the-variants.{Heading, P, R, K, Action, 
 use Rattle.modular.specs.Inverses.{inverseOutcome}
 use Rattle.fibonacci.specs.Services.{fibonacciOutcome, numberOutcome}
 use Rattle.tape.specs.Words.{decoded}
-use Rattle.tape.specs.Layout.{stepsOf, wordsOf}
+use Rattle.tape.specs.Layout.{mostWords, stepsOf, wordsOf}
 use Rattle.encoding.specs.Encoding.{bytesOf}
 use Rattle.named.specs.Named.{namedWords}
 use Rattle.program.specs.Services.{buildOutcome, checkOutcome, acceptOutcome}
@@ -29,7 +29,7 @@ use Rattle.tool.specs.declared.Verb.{Verb}
 use Rattle.tool.specs.declared.Verb.the-variants.{Unknown, Build, Script, Help, Version, OnTape, OnNumbers, InScript}
 use Rattle.tool.specs.Texts.{exponentsLine, powerLines, meaning, stepMeaning, refusalLine, noVerbLine, wrongCountLine, unreadLine, lines, usage}
 use Rattle.tool.specs.Calls.{Asked, noWord, noVerb, wrongCount, unread, known, askedBy}
-use Rattle.tool.specs.Replies.{Replied, printed, at, registersIn, mostWords, Streams, built, onNumbers, onTape, means, ownIn, replyTo, reply, isWhole}
+use Rattle.tool.specs.Replies.{Replied, printed, at, registersIn, Streams, built, onNumbers, onTape, means, ownIn, replyTo, reply, isWhole}
 
 -- ---- texts
 

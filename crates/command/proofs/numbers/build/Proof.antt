@@ -5,6 +5,7 @@ use native.Mathlib.Omega.{arith}
 use lib.ListN.{length, take}
 use lib.Seq.{length-take-le}
 use Rattle.refusal.specs.Outcomes.{answered, outcomeOf}
+use Rattle.tape.specs.Layout.{mostWords}
 use Rattle.encoding.specs.Encoding.{bytesOf}
 use Rattle.encoding.proofs.Laws.Bytes.{bytes-length}
 use Rattle.named.specs.Named.{namedWords}
@@ -16,7 +17,7 @@ use borrow.Author.Needs.{needs}
 use Rattle.command.proofs.numbers.build.Statement.{statement}
 use Rattle.command.proofs.numbers.build.Tie as tie
 
-made : (c : tie.After-answer) → buildOutcome (c .before .before .before .before .before .before .before .before .small .result) (c .before .before .before .before .before .before .before .small2 .result) (c .before .before .before .before .before .before .small3 .result) (c .before .before .before .before .before .small4 .result) 512 ≡ answered (c .answer .given .0 .0)
+made : (c : tie.After-answer) → buildOutcome (c .before .before .before .before .before .before .before .before .small .result) (c .before .before .before .before .before .before .before .small2 .result) (c .before .before .before .before .before .before .small3 .result) (c .before .before .before .before .before .small4 .result) mostWords ≡ answered (c .answer .given .0 .0)
 made c = sym (c .before .before .before .build .ensures .0) ∙ ap outcomeOf (c .answer .given .1)
 
 words : (c : tie.After-answer)
@@ -26,7 +27,7 @@ words c = ap (take (c .answer .given .0 .0)) (c .before .before .before .build .
 fits : (c : tie.After-answer) → c .answer .given .0 .0 ≤ length (c .before .before .before .build .last .1 .1 .1 .1 .0)
 fits c = omega (arith, build-count _ _ _ _ _ _ (made c) .1, c .before .before .before .build .kept .1 .1 .1 .1 .0)
 
--- no tape has more than 2048 bytes
+-- the bytes of no tape are more than the most text
 short : (c : tie.After-answer) → length (bytesOf (namedWords (c .before .before .before .before .before .before .before .before .small .result) (c .before .before .before .before .before .before .before .small2 .result) (c .before .before .before .before .before .before .small3 .result) (c .before .before .before .before .before .small4 .result))) ≤ mostText
 short c = rw (← words c, bytes-length (take (c .answer .given .0 .0) (c .before .before .before .build .last .1 .1 .1 .1 .0))) (omega (arith, length-take-le (c .answer .given .0 .0) (c .before .before .before .build .last .1 .1 .1 .1 .0) (fits c), build-count _ _ _ _ _ _ (made c) .1))
 

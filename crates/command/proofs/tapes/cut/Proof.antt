@@ -1,4 +1,4 @@
--- `tapes::cut` meets its contract: its number isn't 0 exactly where it is refused, and a part has at most 512 words.
+-- `tapes::cut` meets its contract: its number isn't 0 exactly where it is refused, and a part has no more words than a tape.
 use mathlib.Core.Path.{_∙_, sym}
 use Rattle.sequencer.specs.Services.{cutOutcome}
 use Rattle.command.proofs.Laws.Tapes.{by-number, cut-told}

@@ -1,7 +1,6 @@
 -- `layout::numbers_fit` meets its contract: each return is a case of the definition by its tests.
-use mathlib.Core.Path.{sym}
-use Rattle.tape.specs.Layout.{numbersFit}
 use borrow.Author.Tests.{lt-ltb, le-ltb}
+use Rattle.tape.specs.Layout.{numbersFit}
 use Rattle.tape.proofs.layout.numbers_fit.Statement.{statement}
 use Rattle.tape.proofs.layout.numbers_fit.Tie as tie
 
