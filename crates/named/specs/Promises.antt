@@ -9,6 +9,7 @@ use Rattle.modular.specs.Inverses.{inverse}
 use Rattle.fibonacci.specs.Services.{lastPlace}
 use Rattle.tape.specs.declared.Step.{Step}
 use Rattle.tape.specs.Steps.{AllSound}
+use Rattle.tape.specs.Layout.{mostSteps}
 use Rattle.machine.specs.Exponents.{startExponents, exponentsAt, staysInRange, residueOf}
 use Rattle.named.specs.declared.Figure.{Figure}
 use Rattle.named.specs.declared.Figure.the-variants.{Two, Four, Six}
@@ -32,10 +33,6 @@ pub record Fits (f : Forms) : Type 0 where
   pub aloneLast : Alone (f .figure) (f .besideLast)
 
 -- ---- the programs
-
--- the steps that a tape has room for: 512 words, of which five are no steps
-abbrev pub mostSteps : ℕ
-mostSteps = 507
 
 -- xs is a program for the k-th power of what has order r, or an order that divides r
 pub record IsProgram (r k : ℕ) (xs : List Step) : Type 0 where

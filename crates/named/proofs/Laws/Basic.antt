@@ -9,6 +9,7 @@ use Rattle.fibonacci.specs.Forms.{zeckendorf}
 use Rattle.fibonacci.specs.Height.{height}
 use Rattle.fibonacci.proofs.Laws.Zeckendorf.{zeckendorf-sum}
 use Rattle.fibonacci.proofs.Laws.Height.{zeckendorf-height, height-28}
+use Rattle.tape.specs.Words.{numberLimit}
 use Rattle.named.specs.declared.Figure.the-variants.{Two}
 use Rattle.named.specs.Generators.{drawn, generated}
 use Rattle.named.specs.Named.{basicForms}
@@ -33,7 +34,7 @@ module _ (r k : ℕ) (good : badExponent k r ≡ false) where
   basic-bound =
       omega (arith, basic-length (zeckendorf k) (zeckendorf K), zeckendorf-height r k h, zeckendorf-height r K H, form-ones r k h, form-ones r K H)
 
-  module _ (small : r < 2 ^ 28) where
+  module _ (small : r < numberLimit) where
     low : height r ≤ 41
     low = height-28 r small
 

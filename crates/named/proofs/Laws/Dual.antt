@@ -12,6 +12,7 @@ use Rattle.fibonacci.specs.Forms.{fibsum, ones}
 use Rattle.fibonacci.specs.Height.{height}
 use Rattle.fibonacci.proofs.Laws.Fibonacci.{fib-one, fib-monotone}
 use Rattle.fibonacci.proofs.Laws.Height.{height-28}
+use Rattle.tape.specs.Words.{numberLimit}
 use Rattle.machine.proofs.Laws.Integers.{Within, within-natural}
 use Rattle.named.specs.Generators.{drawn, generated}
 use Rattle.named.specs.Named.{dualForm, dualForms}
@@ -55,7 +56,7 @@ module _ (r k : ℕ) (good : badExponent k r ≡ false) where
         few K (suc h),
       )
 
-  module _ (small : r < 2 ^ 28) where
+  module _ (small : r < numberLimit) where
     low : h ≤ 41
     low = height-28 r small
 

@@ -13,6 +13,7 @@ use Rattle.fibonacci.proofs.Laws.Forms.{ones-places}
 use Rattle.fibonacci.proofs.Laws.Zeckendorf.{zeckendorf-sum}
 use Rattle.fibonacci.proofs.Laws.Height.{height-least, height-28, height-le-odd, odd-height-le, odd-height-28}
 use Rattle.fibonacci.proofs.Laws.Lengths.{multiple-length, multiple-shift, multiple-count}
+use Rattle.tape.specs.Words.{numberLimit}
 use Rattle.named.specs.declared.Figure.the-variants.{Six}
 use Rattle.named.specs.Generators.{drawn, generated}
 use Rattle.named.specs.Named.{hybridForms}
@@ -53,7 +54,7 @@ module _ (r k : ℕ) (good : badExponent k r ≡ false) where
         height-least r .from,
       )
 
-  module _ (small : r < 2 ^ 28) where
+  module _ (small : r < numberLimit) where
     pub hybrid-fits : Fits (hybridForms r k)
     unfolding hybridForms
     hybrid-fits =

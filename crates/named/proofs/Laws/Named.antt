@@ -2,19 +2,20 @@
 use mathlib.Core.Path.{_≡_}
 use mathlib.Core.Bool.{true, false}
 use mathlib.Core.List.{List, [], _∷_, map}
-use Prim.Native.Nat.{ℕ, _≤_, _<_, _^_}
+use Prim.Native.Nat.{ℕ, _≤_, _<_}
 use native.Mathlib.Omega.{arith}
 use lib.ListN.{length, take}
 use Rattle.modular.specs.Primes.{Prime}
 use Rattle.modular.specs.Inverses.{inverse, badExponent}
 use Rattle.tape.specs.declared.Step.{Step}
+use Rattle.tape.specs.Words.{numberLimit}
+use Rattle.tape.specs.Layout.{mostSteps}
 use Rattle.tape.specs.Steps.{AllSound}
 use Rattle.tape.proofs.Laws.Layout.{program-length}
 use Rattle.machine.specs.Exponents.{startExponents, exponentsAt, staysInRange, residueOf}
 use Rattle.machine.proofs.Laws.Ranges.{stays-take, goes-none}
 use Rattle.named.specs.Generators.{generated, Raises, Lowers}
 use Rattle.named.specs.Named.{formsFor, programsFor, namedSteps, namedProgram, namedWords}
-use Rattle.named.specs.Promises.{mostSteps}
 use Rattle.named.specs.Members.{Member}
 use Rattle.named.specs.Parameters.{badModulus, badOrder, unnamed}
 use Rattle.named.proofs.Laws.Members.{first-any, member-map}
@@ -33,7 +34,7 @@ pub named-sound : (variant r k : ℕ) → AllSound (namedSteps variant r k)
 named-sound variant r k =
     named-any AllSound variant r k tt (member-map AllSound generated (formsFor variant r k) (λ f m. sound-drawn (f .figure) (f .first) (f .beside) (f .last) (f .besideLast)))
 
-pub named-short : (variant r k : ℕ) → badExponent k r ≡ false → r < 2 ^ 28 → length (namedSteps variant r k) ≤ mostSteps
+pub named-short : (variant r k : ℕ) → badExponent k r ≡ false → r < numberLimit → length (namedSteps variant r k) ≤ mostSteps
 named-short variant r k good small =
     named-any (λ (xs : List Step). length xs ≤ mostSteps) variant r k (omega arith) (λ xs m. member-program variant r k good small xs m .short)
 
@@ -46,7 +47,7 @@ named-steps-some variant r k named =
     member-map (λ (xs : List Step). 0 < length xs) generated (formsFor variant r k) (λ f m. drawn-some (f .figure) (f .first) (f .beside) (f .last) (f .besideLast))
     (namedSteps variant r k) (named-member variant r k named)
 
-module _ (p : ℕ) (pr : Prime p) (variant r k : ℕ) (good : badExponent k r ≡ false) (small : r < 2 ^ 28) (named : unnamed variant ≡ false) where
+module _ (p : ℕ) (pr : Prime p) (variant r k : ℕ) (good : badExponent k r ≡ false) (small : r < numberLimit) (named : unnamed variant ≡ false) where
   pub named-raises : Raises p r k (namedSteps variant r k)
   named-raises = named-program variant r k good small named .raises p pr
 

@@ -1,7 +1,7 @@
 -- What the tests of p, r, k and the variant say: each is by its parts, so a law rewrites the parts that are known or takes them apart.
 use mathlib.Core.Path.{_≡_, sym, _∙_}
 use mathlib.Core.Bool.{true, false, not, true≢false, and-true, and-false}
-use Prim.Native.Nat.{ℕ, _-_, _%_, _^_, _≤_, _<_, _∣_}
+use Prim.Native.Nat.{ℕ, _-_, _%_, _≤_, _<_, _∣_}
 use native.Mathlib.Nat.{le-of-dvd, dvd-of-mod-eq-zero}
 use native.Mathlib.Omega.{arith}
 use lib.Dec.{leb, ltb, eqb}
@@ -11,6 +11,7 @@ use Rattle.modular.specs.Primes.{isPrime}
 use Rattle.modular.specs.Inverses.{inverse, badExponent}
 use Rattle.refusal.proofs.Laws.Tests.{by-test, both, neither}
 use Rattle.modular.proofs.Laws.Inverses.{inverse-none, exponent-good}
+use Rattle.tape.specs.Words.{numberLimit}
 use Rattle.named.specs.Named.{lastVariant}
 use Rattle.named.specs.Parameters.{badModulus, badOrder, goodInverse, unnamed}
 
@@ -21,26 +22,26 @@ module _ (p : ℕ) where
   unfolding badModulus
   modulus-low low = rw (lt-leb 3 p low, and-false (isPrime p))
 
-  pub modulus-high : 2 ^ 28 ≤ p → badModulus p ≡ true
+  pub modulus-high : numberLimit ≤ p → badModulus p ≡ true
   unfolding badModulus
-  modulus-high high = rw (le-ltb p (2 ^ 28) high, and-false (leb 3 p), and-false (isPrime p))
+  modulus-high high = rw (le-ltb p numberLimit high, and-false (leb 3 p), and-false (isPrime p))
 
-  pub modulus-between : 3 ≤ p → p < 2 ^ 28 → badModulus p ≡ not (isPrime p)
+  pub modulus-between : 3 ≤ p → p < numberLimit → badModulus p ≡ not (isPrime p)
   unfolding badModulus
-  modulus-between low high = rw (le-leb 3 p low, lt-ltb p (2 ^ 28) high, and-true (isPrime p))
+  modulus-between low high = rw (le-leb 3 p low, lt-ltb p numberLimit high, and-true (isPrime p))
 
 -- a modulus that refusal 1 lets pass
 pub record GoodModulus (p : ℕ) : Type 0 where
   pub prime : isPrime p ≡ true
   pub low : 3 ≤ p
-  pub high : p < 2 ^ 28
+  pub high : p < numberLimit
 
 pub good-modulus : (p : ℕ) → badModulus p ≡ false → GoodModulus p
 unfolding badModulus
 good-modulus p good =
     let a = both (isPrime p) _ (not-false _ good) in
     let b = both (leb 3 p) _ (a .1) in
-    record { prime = a .0; low = leb-true 3 p (b .0); high = ltb-true p (2 ^ 28) (b .1) }
+    record { prime = a .0; low = leb-true 3 p (b .0); high = ltb-true p numberLimit (b .1) }
 
 -- ---- the order
 
@@ -70,7 +71,7 @@ order-below p r modulus order =
     let m = good-modulus p modulus in
     omega (arith, m .low, le-of-dvd {m = r} {n = p - 1} (omega (arith, m .low)) (good-order p r order .divisor))
 
-pub order-small : (p r : ℕ) → badModulus p ≡ false → badOrder p r ≡ false → r < 2 ^ 28
+pub order-small : (p r : ℕ) → badModulus p ≡ false → badOrder p r ≡ false → r < numberLimit
 order-small p r modulus order = omega (arith, good-modulus p modulus .high, order-below p r modulus order)
 
 -- ---- the exponent and its inverse

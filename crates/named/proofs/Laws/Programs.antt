@@ -15,6 +15,7 @@ use Rattle.modular.proofs.Laws.Inverses.{good-exponent, inverse-order}
 use Rattle.fibonacci.specs.Fibonacci.{fib}
 use Rattle.fibonacci.specs.Forms.{fibsumFrom, fibsum, pad, ones}
 use Rattle.tape.specs.declared.Step.{Step}
+use Rattle.tape.specs.Layout.{mostSteps}
 use Rattle.tape.specs.Steps.{AllSound}
 use Rattle.machine.specs.Machine.{back}
 use Rattle.machine.specs.Exponents.{shift, startExponents, exponentsAt}
@@ -24,7 +25,7 @@ use Rattle.machine.proofs.Laws.Congruences.{Congruent, congruent-same, congruen
 use Rattle.named.specs.declared.Figure.{Figure}
 use Rattle.named.specs.declared.Figure.the-variants.{Two, Four, Six}
 use Rattle.named.specs.Generators.{ascend, chain, descend, basic, dual, hybrid, drawn, Raises}
-use Rattle.named.specs.Promises.{mostSteps, IsProgram}
+use Rattle.named.specs.Promises.{IsProgram}
 use Rattle.named.proofs.Laws.Sound.{sound-ascend, sound-drawn}
 use Rattle.named.proofs.Laws.Lengths.{drawn-some}
 use Rattle.named.proofs.Laws.Sequences.{multiple, multiple-one, multiples, Reaching, cameFrom, reaching-multiples}

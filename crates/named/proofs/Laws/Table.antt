@@ -3,7 +3,7 @@
 use mathlib.Core.Path.{_≡_, refl, sym, _∙_}
 use mathlib.Core.Bool.{Bool, true, false, _&&_, true≢false}
 use mathlib.Core.List.{List, [], _∷_, map}
-use Prim.Native.Nat.{ℕ, suc, _+_, _≤_, _<_, _^_}
+use Prim.Native.Nat.{ℕ, suc, _+_, _≤_, _<_}
 use native.Mathlib.Omega.{arith}
 use lib.Dec.{eqb}
 use lib.ListN.{length, length-map}
@@ -11,6 +11,7 @@ use borrow.Author.Tests.{eqb-true, eqb-false}
 use Rattle.refusal.proofs.Laws.Tests.{test-true, by-test, both}
 use Rattle.modular.specs.Inverses.{badExponent}
 use Rattle.tape.specs.declared.Step.{Step}
+use Rattle.tape.specs.Words.{numberLimit}
 use Rattle.named.specs.Generators.{Forms, generated}
 use Rattle.named.specs.Named.{Variant, basicForms, dualForms, hybridForms, variants, formsIn, formsFor, programsFor, namedSteps}
 use Rattle.named.specs.Promises.{Fits, IsProgram}
@@ -31,11 +32,11 @@ AllRows P (row ∷ rows) = P row × AllRows P rows
 -- what a row promises: one program for each r and k, and where r and k are not refused what Promises says
 pub record Promised (row : Variant) : Type 0 where
   pub one : (r k : ℕ) → length (row .forms r k) ≡ 1
-  pub kept : (r k : ℕ) → badExponent k r ≡ false → r < 2 ^ 28 → (f : Forms) → Member f (row .forms r k) → Fits f × IsProgram r k (generated f)
+  pub kept : (r k : ℕ) → badExponent k r ≡ false → r < numberLimit → (f : Forms) → Member f (row .forms r k) → Fits f × IsProgram r k (generated f)
 
 promised : {number : ℕ} {name : List ℕ} (forms : ℕ → ℕ → Forms)
-    → ((r k : ℕ) → badExponent k r ≡ false → r < 2 ^ 28 → Fits (forms r k))
-    → ((r k : ℕ) → badExponent k r ≡ false → r < 2 ^ 28 → IsProgram r k (generated (forms r k)))
+    → ((r k : ℕ) → badExponent k r ≡ false → r < numberLimit → Fits (forms r k))
+    → ((r k : ℕ) → badExponent k r ≡ false → r < numberLimit → IsProgram r k (generated (forms r k)))
     → Promised (record { number = number; name = name; forms = λ (r k : ℕ). forms r k ∷ [] })
 promised forms fits program = record {
   one = λ r k. refl;
@@ -77,15 +78,15 @@ module _ (variant r k : ℕ) where
       by-row P variant r k 1 variants all-promised refl
       (λ out. none (test-true (unnamed variant) (λ is. out (omega (arith, named-some variant is)) (omega (arith, named-most variant is))))) some
 
-  kept-forms : badExponent k r ≡ false → r < 2 ^ 28 → (f : Forms) → Member f (formsFor variant r k) → Fits f × IsProgram r k (generated f)
+  kept-forms : badExponent k r ≡ false → r < numberLimit → (f : Forms) → Member f (formsFor variant r k) → Fits f × IsProgram r k (generated f)
   kept-forms good small =
       by-variant (λ (fs : List Forms). (f : Forms) → Member f fs → Fits f × IsProgram r k (generated f)) (λ un f m. absurd m)
       (λ row q. q .kept r k good small)
 
-  pub member-fits : badExponent k r ≡ false → r < 2 ^ 28 → (f : Forms) → Member f (formsFor variant r k) → Fits f
+  pub member-fits : badExponent k r ≡ false → r < numberLimit → (f : Forms) → Member f (formsFor variant r k) → Fits f
   member-fits good small f m = kept-forms good small f m .0
 
-  pub member-program : badExponent k r ≡ false → r < 2 ^ 28 → (xs : List Step) → Member xs (programsFor variant r k) → IsProgram r k xs
+  pub member-program : badExponent k r ≡ false → r < numberLimit → (xs : List Step) → Member xs (programsFor variant r k) → IsProgram r k xs
   member-program good small = member-map (IsProgram r k) generated (formsFor variant r k) (λ f m. kept-forms good small f m .1)
 
   -- today a variant allows one program
@@ -103,5 +104,5 @@ module _ (variant r k : ℕ) where
       (by-variant (λ (fs : List Forms). 0 < length (map generated fs)) (λ un. absurd (true≢false (sym un ∙ named)))
       (λ row q. omega (arith, length-map (row .forms r k) generated, q .one r k)))
 
-  pub named-program : badExponent k r ≡ false → r < 2 ^ 28 → unnamed variant ≡ false → IsProgram r k (namedSteps variant r k)
+  pub named-program : badExponent k r ≡ false → r < numberLimit → unnamed variant ≡ false → IsProgram r k (namedSteps variant r k)
   named-program good small named = member-program good small (namedSteps variant r k) (named-member named)
