@@ -1,27 +1,33 @@
--- What the builders are given and leave, for their contracts.
+-- What the functions under build and check are given and leave, for their contracts.
 use mathlib.Core.Path.{_≡_}
-use mathlib.Core.Bool.{false}
+use mathlib.Core.Bool.{true, false, not}
 use mathlib.Core.List.{List, [], _∷_}
-use Prim.Native.Nat.{ℕ, _<_, _^_}
+use Prim.Native.Nat.{ℕ, _<_}
 use lib.ListN.{length}
+use Rattle.refusal.specs.declared.Refusal.{Refusal}
+use Rattle.refusal.specs.declared.Refusal.the-variants.{Length, Word}
 use Rattle.refusal.specs.declared.Answer.{Answer}
-use Rattle.refusal.specs.Outcomes.{outcomeOf, rowAfter}
-use Rattle.modular.specs.Inverses.{inverse, badExponent}
-use Rattle.tape.specs.declared.Decoded.the-variants.{Heading, P, R, K}
-use Rattle.tape.specs.Words.{encoded}
+use Rattle.refusal.specs.Outcomes.{Outcome, outcome, outcomeOf, _given-if_, rowAfter}
+use Rattle.modular.specs.Inverses.{badExponent}
+use Rattle.tape.specs.declared.Header.{Header}
+use Rattle.tape.specs.Words.{numberLimit}
+use Rattle.tape.specs.Layout.{headerOf, isLength, laidOut}
+use Rattle.named.specs.Parameters.{unnamed}
 use Rattle.program.specs.Services.{roomOutcome}
 
--- numbers that no test of build refuses, with the inverse of k
-pub record Buildable (p r k K : ℕ) : Type 0 where
-  pub modulus : p < 2 ^ 28
-  pub order : r < 2 ^ 28
+-- numbers that no test of build refuses
+pub record Writable (p r k variant : ℕ) : Type 0 where
+  pub modulus : p < numberLimit
+  pub order : r < numberLimit
   pub exponent : badExponent k r ≡ false
-  pub inverse-is : K ≡ inverse r k
+  pub named : unnamed variant ≡ false
 
 -- the answer and the row at exit of a call whose result is these words
 pub record Built (words row : List ℕ) (answer : Answer) (after : List ℕ) : Type 0 where
   pub outcome-is : outcomeOf answer ≡ roomOutcome words (length row)
   pub row-is : after ≡ rowAfter (roomOutcome words (length row)) words row
 
-abbrev pub headerWordsOf : ℕ → ℕ → ℕ → ℕ → List ℕ
-headerWordsOf variant p r k = encoded (Heading variant) ∷ encoded (P p) ∷ encoded (R r) ∷ encoded (K k) ∷ []
+-- a tape that is refused, unless the layout refuses it first
+abbrev pub refusedPast : List ℕ → Refusal → Outcome Header
+refusedPast tape e =
+    outcome ((Length given-if not (isLength tape)) ∷ (Word given-if not (laidOut tape)) ∷ (e given-if true) ∷ []) (headerOf tape)

@@ -1,5 +1,5 @@
 -- Document 01, "Services and refusals": build and check.
-use mathlib.Core.Bool.{Bool, true, false, not, _&&_}
+use mathlib.Core.Bool.{Bool, not, _&&_}
 use mathlib.Core.List.{List, [], _∷_}
 use Prim.Native.Nat.{ℕ}
 use lib.Dec.{ltb, eqb}
@@ -8,8 +8,9 @@ use Rattle.refusal.specs.declared.Refusal.the-variants.{Modulus, Order, Exponen
 use Rattle.refusal.specs.Outcomes.{Outcome, Rule, outcome, _given-if_, rowAfter}
 use Rattle.modular.specs.Inverses.{badExponent}
 use Rattle.tape.specs.declared.Header.{Header}
-use Rattle.tape.specs.Layout.{headerOf, isLength, laidOut}
-use Rattle.named.specs.Named.{lastVariant, namedWords}
+use Rattle.tape.specs.Layout.{headerOf, stepsOf, isLength, laidOut}
+use Rattle.named.specs.Named.{lastVariant, programsFor, namedWords}
+use Rattle.named.specs.Members.{isOneOf}
 use Rattle.named.specs.Parameters.{badModulus, badOrder, unnamed}
 
 -- refusal 5 for the words of a result, into a row of `room` words
@@ -32,20 +33,9 @@ buildOutcome p r k variant room =
 unfoldable pub buildRow : ℕ → ℕ → ℕ → ℕ → List ℕ → List ℕ
 buildRow p r k variant row = rowAfter (buildOutcome p r k variant (length row)) (namedWords p r k variant) row
 
--- two rows of words are the same
-unfoldable pub sameWords : List ℕ → List ℕ → Bool
-sameWords [] [] = true
-sameWords [] (w ∷ ws) = false
-sameWords (v ∷ vs) [] = false
-sameWords (v ∷ vs) (w ∷ ws) = eqb v w && sameWords vs ws
-
 -- the program is named: its variant isn't 0
 abbrev pub isNamed : Header → Bool
 isNamed h = not (eqb (h .variant) 0)
-
--- the words that build writes for a tape's p, r, k and variant
-abbrev pub builtFor : Header → List ℕ
-builtFor h = namedWords (h .modulus) (h .order) (h .exponent) (h .variant)
 
 -- check's refusals; 2, 3 and 8 are for named programs only
 unfoldable pub checkRules : List ℕ → List Rule
@@ -57,7 +47,7 @@ checkRules tape =
     ∷ (Modulus given-if badModulus (h .modulus))
     ∷ (Order given-if (isNamed h && badOrder (h .modulus) (h .order)))
     ∷ (Exponent given-if (isNamed h && badExponent (h .exponent) (h .order)))
-    ∷ (Mismatch given-if (isNamed h && not (sameWords tape (builtFor h))))
+    ∷ (Mismatch given-if (isNamed h && not (isOneOf (stepsOf tape) (programsFor (h .variant) (h .order) (h .exponent)))))
     ∷ []
 
 -- check: 0 where the tape is accepted

@@ -3,9 +3,14 @@ use mathlib.Core.Bool.{Bool, cond}
 use mathlib.Core.List.{List, [], _∷_, _++_, map}
 use Prim.Native.Nat.{ℕ}
 use lib.Dec.{eqb}
+use lib.ListN.{take}
+use Rattle.tape.specs.declared.Step.the-variants.{Swp}
 use Rattle.tape.specs.Words.{stepWord}
 use Rattle.machine.specs.Machine.{back}
-use Rattle.named.specs.Generators.{ascend, descend, basic, dual, hybrid}
+use Rattle.named.specs.declared.Figure.{Figure}
+use Rattle.named.specs.declared.Figure.the-variants.{Two, Four, Six}
+use Rattle.named.specs.Generators.{ascend, descend}
+use Rattle.program.specs.declared.forms.FormRows.{FormRows}
 
 abbrev pub isSet : ℕ → Bool
 isSet bit = eqb bit 1
@@ -37,19 +42,17 @@ backWords first second = ascendBackWords (first ∷ []) (second ∷ [])
 abbrev pub downWords : ℕ → List ℕ
 downWords bit = descendWords (bit ∷ [])
 
--- a form up with the chain back, and the chain up with a form back; `none` has no place set
-abbrev pub halfWords : List ℕ → List ℕ → List ℕ
-halfWords bits none = ascendWords bits none ++ ascendBackWords none none
+-- what a figure writes before its last loop, from the rows of its forms; where it selects nothing beside, those rows have no place
+-- set and stand for the chains
+abbrev pub frontWords : Figure → List ℕ → List ℕ → List ℕ → List ℕ
+frontWords Two first none noneLast = ascendWords first none ++ (ascendBackWords none none ++ (stepWord (Swp 1 2) ∷ ascendWords noneLast noneLast))
+frontWords Four first beside besideLast = ascendWords first beside ++ (stepWord (Swp 0 2) ∷ stepWord (Swp 1 3) ∷ [])
+frontWords Six first none noneLast = stepWord (Swp 0 1) ∷ (descendWords first ++ (stepWord (Swp 0 1) ∷ stepWord (Swp 1 2) ∷ []))
 
-abbrev pub halfBackWords : List ℕ → List ℕ → List ℕ
-halfBackWords bits none = ascendWords none none ++ ascendBackWords bits none
-
--- the words of a program's steps
-abbrev pub basicWords : List ℕ → List ℕ → List ℕ
-basicWords ks inverse = map stepWord (basic (formIn ks) (formIn inverse))
-
-abbrev pub dualWords : List ℕ → List ℕ → List ℕ → List ℕ → List ℕ
-dualWords s t s′ t′ = map stepWord (dual (formIn s) (formIn t) (formIn s′) (formIn t′))
-
-abbrev pub hybridWords : List ℕ → List ℕ → List ℕ
-hybridWords v inverse = map stepWord (hybrid (formIn v) (formIn inverse))
+-- and in all (`rows-words` of proofs/Laws/Forms)
+abbrev pub drawnWords : FormRows → List ℕ
+drawnWords rows =
+    let m = rows .«first_length» in
+    let n = rows .«last_length» in
+    frontWords (rows .figure) (take m (rows .first)) (take m (rows .beside)) (take n (rows .«beside_last»))
+    ++ ascendBackWords (take n (rows .last)) (take n (rows .«beside_last»))

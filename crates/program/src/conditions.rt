@@ -1,8 +1,11 @@
 // The conditions of the refusals of build and check.
 ghost use mathlib.Core.Path.{_≡_};
 ghost use Prim.Native.Nat.{_≤_};
-ghost use Rattle.named.specs.Parameters.{badModulus, badOrder, goodInverse};
-ghost use Rattle.program.specs.Services.{sameWords};
+ghost use Rattle.named.specs.Parameters.{badModulus, badOrder, goodInverse, unnamed};
+ghost use Rattle.program.specs.Same.{sameWords};
+
+// The variants of named programs go from 1 up to this.
+const LAST_VARIANT: u32 = 3;
 
 // Refusal 1: p isn't a prime from 3 to 268435455.
 pub(crate) fn is_bad_modulus(p: u32) -> bool
@@ -11,7 +14,7 @@ pub(crate) fn is_bad_modulus(p: u32) -> bool
     if p < 3 {
         return true;
     }
-    if 0x0FFF_FFFF < p {
+    if tape::NUMBER_LIMIT <= p {
         return true;
     }
     !modular::is_prime(p)
@@ -39,6 +42,16 @@ pub(crate) fn good_inverse(k: u32, r: u32) -> u32
         return 0;
     }
     modular::inverse_or_zero(k, r)
+}
+
+// Refusal 4 in build: the number names no variant.
+pub(crate) fn is_unnamed(variant: u32) -> bool
+    ensures { λ bad. ⌜ bad ≡ unnamed variant ⌝ }
+{
+    if variant == 0 {
+        return true;
+    }
+    LAST_VARIANT < variant
 }
 
 // Whether two rows hold the same words.

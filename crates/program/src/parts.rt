@@ -1,9 +1,12 @@
-// The steps of the three programs as words, written into the lent row from `at` on. Each function answers the index past them.
+// The steps that a figure draws, as words, written into the lent row from `at` on. Each function answers the index past them.
 ghost use mathlib.Core.Path.{_≡_};
 ghost use Prim.Native.Nat.{_+_, _≤_};
-ghost use lib.ListN.{length, replicate};
+ghost use mathlib.Core.List.{[]};
+ghost use lib.ListN.{length};
 ghost use Rattle.refusal.specs.Rows.{Wrote};
-ghost use Rattle.program.specs.Writing.{halfWords, halfBackWords, basicWords, dualWords, hybridWords};
+ghost use Rattle.program.specs.Forms.{Whole};
+ghost use Rattle.program.specs.Writing.{frontWords, drawnWords};
+use crate::forms::FormRows;
 use crate::words::SWP_0_1;
 use crate::words::SWP_0_2;
 use crate::words::SWP_1_2;
@@ -12,75 +15,82 @@ use crate::writer::ascend;
 use crate::writer::ascend_back;
 use crate::writer::descend;
 use crate::writer::put;
+use named::Figure;
 
-// Figure 2: up the form of k and the chain back; swap; the chain up and the form of K back.
-pub(crate) fn basic(row: &mut [u32], at: usize, ks: &[u8], inverse: &[u8]) -> usize
-    requires { ⌜ (length (now ks) ≤ 92) × (length (now inverse) ≤ 92) ⌝ }
-    requires { ⌜ at + length (basicWords (now ks) (now inverse)) ≤ length (now row) ⌝ }
-    ensures { λ next. ⌜ Wrote (now (row .entry)) at (basicWords (now (ks .entry)) (now (inverse .entry))) next (now (row .exit)) ⌝ }
+// Every figure ends with its last form taken back.
+pub(crate) fn draw(row: &mut [u32], at: usize, forms: FormRows) -> usize
+    requires { ⌜ Whole forms ⌝ }
+    requires { ⌜ at + length (drawnWords forms) ≤ length (now row) ⌝ }
+    ensures { λ next. ⌜ Wrote (now (row .entry)) at (drawnWords forms) next (now (row .exit)) ⌝ }
 {
-    let zeros = no_places();
-    let b = half(row, at, ks, &zeros[..ks.len()]);
-    let c = put(row, b, SWP_1_2);
-    half_back(row, c, inverse, &zeros[..inverse.len()])
+    let figure = forms.figure;
+    let first = forms.first;
+    let beside = forms.beside;
+    let last = forms.last;
+    let beside_last = forms.beside_last;
+    let m = forms.first_length;
+    let n = forms.last_length;
+    let b = front(
+        row,
+        at,
+        figure,
+        &first[..m],
+        &beside[..m],
+        &beside_last[..n],
+    );
+    ascend_back(row, b, &last[..n], &beside_last[..n])
 }
 
-// A form up, and the chain back: `none` has as many bits, none of them set.
-fn half(row: &mut [u32], at: usize, bits: &[u8], none: &[u8]) -> usize
-    requires { ⌜ length (now bits) ≡ length (now none) ⌝ }
-    requires { ⌜ at + length (halfWords (now bits) (now none)) ≤ length (now row) ⌝ }
-    ensures { λ next. ⌜ Wrote (now (row .entry)) at (halfWords (now (bits .entry)) (now (none .entry))) next (now (row .exit)) ⌝ }
-{
-    let b = ascend(row, at, bits, none);
-    ascend_back(row, b, none, none)
-}
-
-// The chain up, and a form back.
-fn half_back(row: &mut [u32], at: usize, bits: &[u8], none: &[u8]) -> usize
-    requires { ⌜ length (now bits) ≡ length (now none) ⌝ }
-    requires { ⌜ at + length (halfBackWords (now bits) (now none)) ≤ length (now row) ⌝ }
-    ensures { λ next. ⌜ Wrote (now (row .entry)) at (halfBackWords (now (bits .entry)) (now (none .entry))) next (now (row .exit)) ⌝ }
-{
-    let b = ascend(row, at, none, none);
-    ascend_back(row, b, bits, none)
-}
-
-// Figure 4: up two forms; swap both pairs; two forms back.
-pub(crate) fn dual(
+// What comes before.
+fn front(
     row: &mut [u32],
     at: usize,
-    s: &[u8],
-    t: &[u8],
-    s_back: &[u8],
-    t_back: &[u8],
+    figure: Figure,
+    first: &[u8],
+    beside: &[u8],
+    beside_last: &[u8],
 ) -> usize
-    requires { ⌜ (length (now s) ≡ length (now t)) × (length (now «s_back») ≡ length (now «t_back»)) ⌝ }
-    requires { ⌜ at + length (dualWords (now s) (now t) (now «s_back») (now «t_back»)) ≤ length (now row) ⌝ }
-    ensures { λ next. ⌜ Wrote (now (row .entry)) at (dualWords (now (s .entry)) (now (t .entry)) (now («s_back» .entry)) (now («t_back» .entry))) next (now (row .exit)) ⌝ }
+    requires { ⌜ length (now first) ≡ length (now beside) ⌝ }
+    requires { ⌜ at + length (frontWords figure (now first) (now beside) (now «beside_last»)) ≤ length (now row) ⌝ }
+    ensures { λ next. ⌜ Wrote (now (row .entry)) at (frontWords figure (now (first .entry)) (now (beside .entry)) (now («beside_last» .entry))) next (now (row .exit)) ⌝ }
 {
-    let b = ascend(row, at, s, t);
+    match figure {
+        Figure::Two => front_2(row, at, first, beside, beside_last),
+        Figure::Four => front_4(row, at, first, beside),
+        Figure::Six => front_6(row, at, first),
+    }
+}
+
+// Figure 2: up the first form and the chain back; swap; the chain up. The rows beside have no place set, so they are the chains.
+fn front_2(row: &mut [u32], at: usize, first: &[u8], none: &[u8], none_last: &[u8]) -> usize
+    requires { ⌜ length (now first) ≡ length (now none) ⌝ }
+    requires { ⌜ at + length (frontWords Figure.Two (now first) (now none) (now «none_last»)) ≤ length (now row) ⌝ }
+    ensures { λ next. ⌜ Wrote (now (row .entry)) at (frontWords Figure.Two (now (first .entry)) (now (none .entry)) (now («none_last» .entry))) next (now (row .exit)) ⌝ }
+{
+    let b = ascend(row, at, first, none);
+    let c = ascend_back(row, b, none, none);
+    let d = put(row, c, SWP_1_2);
+    ascend(row, d, none_last, none_last)
+}
+
+// Figure 4: up two forms; swap both pairs.
+fn front_4(row: &mut [u32], at: usize, first: &[u8], beside: &[u8]) -> usize
+    requires { ⌜ length (now first) ≡ length (now beside) ⌝ }
+    requires { ⌜ at + length (frontWords Figure.Four (now first) (now beside) []) ≤ length (now row) ⌝ }
+    ensures { λ next. ⌜ Wrote (now (row .entry)) at (frontWords Figure.Four (now (first .entry)) (now (beside .entry)) []) next (now (row .exit)) ⌝ }
+{
+    let b = ascend(row, at, first, beside);
     let c = put(row, b, SWP_0_2);
-    let d = put(row, c, SWP_1_3);
-    ascend_back(row, d, s_back, t_back)
+    put(row, c, SWP_1_3)
 }
 
-// Figure 6: swp 0 1; down the form of v; the reordering; the form of K back.
-pub(crate) fn hybrid(row: &mut [u32], at: usize, v: &[u8], inverse: &[u8]) -> usize
-    requires { ⌜ length (now inverse) ≤ 92 ⌝ }
-    requires { ⌜ at + length (hybridWords (now v) (now inverse)) ≤ length (now row) ⌝ }
-    ensures { λ next. ⌜ Wrote (now (row .entry)) at (hybridWords (now (v .entry)) (now (inverse .entry))) next (now (row .exit)) ⌝ }
+// Figure 6: swp 0 1; down the first form; the reordering.
+fn front_6(row: &mut [u32], at: usize, first: &[u8]) -> usize
+    requires { ⌜ at + length (frontWords Figure.Six (now first) [] []) ≤ length (now row) ⌝ }
+    ensures { λ next. ⌜ Wrote (now (row .entry)) at (frontWords Figure.Six (now (first .entry)) [] []) next (now (row .exit)) ⌝ }
 {
-    let zeros = no_places();
     let b = put(row, at, SWP_0_1);
-    let c = descend(row, b, v);
+    let c = descend(row, b, first);
     let d = put(row, c, SWP_0_1);
-    let e = put(row, d, SWP_1_2);
-    ascend_back(row, e, inverse, &zeros[..inverse.len()])
-}
-
-// A form of 92 places with none set.
-fn no_places() -> [u8; 92]
-    ensures { λ bits. ⌜ bits ≡ replicate 92 0 ⌝ }
-{
-    [0u8; 92]
+    put(row, d, SWP_1_2)
 }

@@ -11,7 +11,8 @@ use Rattle.text.specs.Reading.{wordsOf}
 use Rattle.fibonacci.specs.Services.{placesOutcome, placesRow}
 use Rattle.encoding.specs.Encoding.{bytesOf}
 use Rattle.named.specs.Named.{namedWords}
-use Rattle.program.specs.Services.{sameWords, buildOutcome, buildRow}
+use Rattle.program.specs.Services.{buildOutcome, buildRow}
+use Rattle.program.specs.Same.{sameWords}
 use Rattle.listing.specs.Listing.{listingAnswer, listingRow}
 use Rattle.tool.specs.declared.TapeVerb.{TapeVerb}
 use Rattle.tool.specs.declared.TapeVerb.the-variants.{Check, Listing, Load, Run, Power, Trace, Cut, Play}

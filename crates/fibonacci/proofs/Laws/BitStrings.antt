@@ -22,16 +22,14 @@ bits w bs = map bit (pad w bs)
 pub bit-row-at : (n i : ℕ) → getD (bitRow n) i 0 ≡ bit (getD (zeckendorf n) i false)
 bit-row-at n i = List·getD-map bit (pad 92 (zeckendorf n)) i false ∙ ap bit (pad-at 92 i (zeckendorf n))
 
-take-bits : (m w : ℕ) (bs : List Bool) → m ≤ w → length bs ≤ m → take m (bits w bs) ≡ bits m bs
+-- the first m bits are the form padded to m
+pub take-bits : (m w : ℕ) (bs : List Bool) → m ≤ w → length bs ≤ m → take m (bits w bs) ≡ bits m bs
 unfolding pad
 take-bits zero w [] h l = refl
 take-bits zero w (b ∷ bs) h l = absurd (omega arith)
 take-bits (suc m) zero bs h l = absurd (omega arith)
 take-bits (suc m) (suc w) [] h l = ap (λ (r : List ℕ). 0 ∷ r) (take-bits m w [] (omega arith) (omega arith))
 take-bits (suc m) (suc w) (b ∷ bs) h l = ap (λ (r : List ℕ). bit b ∷ r) (take-bits m w bs (omega arith) (omega arith))
-
-pub bit-row-padded : (n m : ℕ) → m ≤ 92 → length (zeckendorf n) ≤ m → take m (bitRow n) ≡ map bit (pad m (zeckendorf n))
-bit-row-padded n m h l = take-bits m 92 (zeckendorf n) h l
 
 -- ---- setting its bits
 

@@ -1,6 +1,6 @@
 -- Build by cases: the first test that fails gives the refusal and keeps the row; where all four pass, what is left is the room, which
--- is the builders' part.
-use mathlib.Core.Path.{_≡_, sym, ap, ap₂, _∙_}
+-- is tested where the words are written.
+use mathlib.Core.Path.{_≡_, sym, ap, _∙_}
 use mathlib.Core.Bool.{true, false}
 use mathlib.Core.List.{List}
 use Prim.Native.Nat.{ℕ}
@@ -13,9 +13,10 @@ use Rattle.refusal.proofs.Laws.Tests.{by-test}
 use Rattle.modular.proofs.Laws.Inverses.{inverse-order}
 use Rattle.named.specs.Named.{namedWords}
 use Rattle.named.specs.Parameters.{badModulus, badOrder, goodInverse, unnamed}
-use Rattle.named.proofs.Laws.Parameters.{good-modulus, order-below, inverse-refused, inverse-passed}
+use Rattle.named.proofs.Laws.Parameters.{good-modulus, order-small, inverse-refused, inverse-passed}
 use Rattle.program.specs.Services.{roomOutcome, buildOutcome, buildRow}
-use Rattle.program.specs.Building.{Buildable, Built}
+use Rattle.program.specs.Forms.{Invertible}
+use Rattle.program.specs.Building.{Writable, Built}
 
 module _ (p r k variant : ℕ) (row : List ℕ) where
   -- what build promises of its answer and of the row at exit
@@ -45,16 +46,14 @@ module _ (p r k variant : ℕ) (row : List ℕ) where
         unfolding buildOutcome
         variant-refused bad = kept (passes _ _ _ modulus ∙ passes _ _ _ order ∙ passes _ _ _ exponent ∙ gives _ _ _ bad)
 
-        pub left-to-room : unnamed variant ≡ false → {n : ℕ} {answer : Answer} {after : List ℕ} → variant ≡ n
-            → Built (namedWords p r k n) row answer after → Promised (outcomeOf answer) after
+        pub left-to-room : unnamed variant ≡ false → {answer : Answer} {after : List ℕ} → Built (namedWords p r k variant) row answer after
+            → Promised (outcomeOf answer) after
         unfolding buildOutcome buildRow roomOutcome
-        left-to-room is-named {n} {answer} {after} is b =
+        left-to-room is-named b =
             let words : List ℕ = namedWords p r k variant in
-            let same : namedWords p r k n ≡ words = ap (namedWords p r k) (sym is) in
-            let e : roomOutcome (namedWords p r k n) (length row) ≡ buildOutcome p r k variant (length row) =
-            ap (λ (ws : List ℕ). roomOutcome ws (length row)) same
-            ∙ sym (passes _ _ _ modulus ∙ passes _ _ _ order ∙ passes _ _ _ exponent ∙ passes _ _ _ is-named) in
-            (b .outcome-is ∙ e, b .row-is ∙ ap₂ (λ (o : Outcome ℕ) (ws : List ℕ). rowAfter o ws row) e same)
+            let e : roomOutcome words (length row) ≡ buildOutcome p r k variant (length row) =
+            sym (passes _ _ _ modulus ∙ passes _ _ _ order ∙ passes _ _ _ exponent ∙ passes _ _ _ is-named) in
+            (b .outcome-is ∙ e, b .row-is ∙ ap (λ (o : Outcome ℕ). rowAfter o words row) e)
 
 -- ---- the exponent by its inverse
 
@@ -67,11 +66,12 @@ module _ (k r : ℕ) where
   pub some-inverse : ¬ (goodInverse k r ≡ 0) → badExponent k r ≡ false
   some-inverse some = by-test (badExponent k r) (λ bad. absurd (some (inverse-refused k r bad))) (λ good. good)
 
-pub buildable : (p r k : ℕ) → badModulus p ≡ false → badOrder p r ≡ false → badExponent k r ≡ false → Buildable p r k (goodInverse k r)
-buildable p r k modulus order exponent = let m = good-modulus p modulus in
-    record {
-      modulus = m .high;
-      order = omega (arith, m .high, order-below p r modulus order);
-      exponent = exponent;
-      inverse-is = inverse-passed k r exponent;
-    }
+-- ---- what the tests leave
+
+module _ (p r k : ℕ) (modulus : badModulus p ≡ false) (order : badOrder p r ≡ false) (exponent : badExponent k r ≡ false) where
+  pub invertible : {K : ℕ} → K ≡ goodInverse k r → Invertible r k K
+  invertible e = record { order = order-small p r modulus order; exponent = exponent; inverse-is = e ∙ inverse-passed k r exponent }
+
+  pub writable : (variant : ℕ) → unnamed variant ≡ false → Writable p r k variant
+  writable variant named =
+      record { modulus = good-modulus p modulus .high; order = order-small p r modulus order; exponent = exponent; named = named }

@@ -1,31 +1,33 @@
--- The rows of bits that the builders hold are the programs' forms, so what they write is the named program's words; and a row that
--- holds its words from the start is what the definition leaves.
-use mathlib.Core.Path.{_≡_, refl, sym, ap, _∙_}
-use mathlib.Core.Bool.{Bool, true, false}
-use mathlib.Core.List.{List, [], _∷_, map}
-use Prim.Native.Nat.{ℕ, _≤_, _<_, _^_}
+-- A call whose result is a program's words: it is refused where the row is too short; else the tape is laid out in the row and the words
+-- of its steps are written, and that row is what the definition leaves.
+use mathlib.Core.Path.{_≡_, sym, ap, _∙_}
+use mathlib.Core.List.{List, [], map}
+use Prim.Native.Nat.{ℕ, _+_, _≤_, _<_}
 use native.Mathlib.Omega.{arith}
 use borrow.Author.Tests.{lt-ltb, le-ltb}
-use lib.ListN.{length, take}
+use lib.ListN.{length, getD, length-map}
 use Rattle.refusal.specs.declared.Refusal.the-variants.{Room}
 use Rattle.refusal.specs.declared.Answer.the-variants.{Value, Refused}
 use Rattle.refusal.specs.Outcomes.{refused, answered, gives, passes, answers, row-kept, row-written}
 use Rattle.refusal.specs.Rows.{Wrote}
-use Rattle.refusal.proofs.Laws.Rows.{wrote-front}
-use Rattle.modular.proofs.Laws.Inverses.{good-exponent, inverse-order}
-use Rattle.fibonacci.specs.Forms.{pad, zeckendorf, ones}
-use Rattle.fibonacci.specs.Services.{bit, bitRow, placesOf}
-use Rattle.fibonacci.proofs.Laws.Fibonacci.{fib-64}
-use Rattle.fibonacci.proofs.Laws.Forms.{ones-places}
-use Rattle.fibonacci.proofs.Laws.Zeckendorf.{zeckendorf-length, zeckendorf-count-64}
-use Rattle.fibonacci.proofs.Laws.BitStrings.{bit-row-padded}
-use Rattle.tape.specs.declared.Step.{Step}
+use Rattle.modular.proofs.Laws.Inverses.{good-exponent}
+use Rattle.tape.specs.declared.Header.{Header}
 use Rattle.tape.specs.Words.{stepWord}
+use Rattle.tape.specs.Layout.{mostWords, Program, headerFor, wordsOf, wordCount, layBegin, laidRow}
+use Rattle.tape.proofs.Laws.Layout.{LawfulProgram, program-length}
+use Rattle.tape.proofs.Laws.Writing.{steps-fit, program-laid}
+use Rattle.named.specs.Generators.{Forms, generated, stepsFrom}
+use Rattle.named.specs.Named.{namedSteps, namedProgram, namedWords}
+use Rattle.named.proofs.Laws.Parameters.{named-some, named-most}
+use Rattle.named.proofs.Laws.Table.{named-program}
+use Rattle.program.specs.declared.forms.FormRows.{FormRows}
 use Rattle.program.specs.Services.{roomOutcome}
-use Rattle.program.specs.Writing.{formIn}
-use Rattle.program.specs.Building.{Buildable, Built}
+use Rattle.program.specs.Forms.{Given, Whole}
+use Rattle.program.specs.Writing.{drawnWords}
+use Rattle.program.specs.Building.{Writable, Built}
+use Rattle.program.proofs.Laws.Forms.{rows-words, rows-whole, few-ones, rows-count}
 
--- ---- a call whose result is these words
+-- ---- the room
 
 pub short : (words : List ℕ) (room : ℕ) → room < length words → roomOutcome words room ≡ refused 5
 unfolding roomOutcome
@@ -35,60 +37,79 @@ pub enough : (words : List ℕ) (room : ℕ) → length words ≤ room → roomO
 unfolding roomOutcome
 enough words room h = passes Room [] (length words) (le-ltb room (length words) h) ∙ answers (length words)
 
-pub built-short : (words row : List ℕ) → length row < length words → Built words row (Refused Room) row
-built-short words row h =
-    let e = short words (length row) h in
-    record { outcome-is = sym e; row-is = sym (row-kept words row e) }
+-- ---- a named program's words can be read back, and fit the longest tape
 
-pub built-written : {words row after : List ℕ} {n : ℕ} → Wrote row 0 words n after → length words ≤ length row → Built words row (Value n) after
-built-written {words} {row} {after} {n} w h = record {
-  outcome-is = ap answered (w .next-is ∙ omega arith) ∙ sym (enough words (length row) h);
-  row-is = wrote-front w h ∙ sym (row-written words row (enough words (length row) h));
-}
+module _ (p r k variant : ℕ) (w : Writable p r k variant) where
+  pub named-lawful : LawfulProgram (namedProgram p r k variant)
+  named-lawful =
+      let q = named-program variant r k (w .exponent) (w .order) (w .named) in
+      let below = good-exponent k r (w .exponent) .high in
+      record {
+        fits =
+            record {
+              variant-small = omega (arith, named-most variant (w .named));
+              modulus-small = w .modulus;
+              order-small = w .order;
+              exponent-small = omega (arith, w .order);
+              count-small = omega (arith, q .short);
+            };
+        free = λ zero. absurd (named-some variant (w .named) zero);
+        sound = q .sound;
+      }
 
--- ---- a number's bits as its form
+  pub named-short : length (namedWords p r k variant) ≤ mostWords
+  named-short =
+      omega (arith, program-length (namedProgram p r k variant), named-program variant r k (w .exponent) (w .order) (w .named) .short)
 
-form-bits : (bs : List Bool) → formIn (map bit bs) ≡ bs
-form-bits [] = refl
-form-bits (true ∷ bs) = ap (λ (l : List Bool). true ∷ l) (form-bits bs)
-form-bits (false ∷ bs) = ap (λ (l : List Bool). false ∷ l) (form-bits bs)
+-- ---- writing it
 
-pad-same : (bs : List Bool) → pad (length bs) bs ≡ bs
-unfolding pad
-pad-same [] = refl
-pad-same (b ∷ bs) = ap (λ (l : List Bool). b ∷ l) (pad-same bs)
+module _ {p r k variant : ℕ} {rows : FormRows} (w : Writable p r k variant) (g : Given variant r k rows) where
+  abbrev q : Program
+  q = namedProgram p r k variant
 
--- a row of bits up to m is the form padded to m
-pub padded-form : {bits : List ℕ} (n m : ℕ) → bits ≡ bitRow n → m ≤ 92 → length (zeckendorf n) ≤ m → formIn (take m bits) ≡ pad m (zeckendorf n)
-padded-form n m e h l = rw (e, bit-row-padded n m h l) (form-bits (pad m (zeckendorf n)))
+  steps-are : namedSteps variant r k ≡ generated (g .forms)
+  unfolding namedSteps
+  steps-are = ap (λ (fs : List Forms). getD (map generated fs) 0 []) (g .forms-are)
 
--- and up to the form's own length, the form
-pub own-form : {bits : List ℕ} {m : ℕ} (n : ℕ) → bits ≡ bitRow n → m ≡ length (zeckendorf n) → m ≤ 92 → formIn (take m bits) ≡ zeckendorf n
-own-form n e f h = padded-form n _ e h (omega arith) ∙ rw f (pad-same (zeckendorf n))
+  pub words-are : drawnWords rows ≡ map stepWord (namedSteps variant r k)
+  words-are = ap drawnWords (g .rows-are) ∙ rows-words (g .forms) (g .fits) ∙ ap (map stepWord) (sym steps-are)
 
--- the size of a 64-bit number's form
-pub form-size : (n : ℕ) → n < 2 ^ 64 → (length (zeckendorf n) ≤ 92) × (length (placesOf n) ≤ 46)
-form-size n h = (zeckendorf-length 92 n (fib-64 n h), zeckendorf-count-64 n h)
+  pub whole : Whole rows
+  whole = rw (g .rows-are) (rows-whole (g .forms) (g .fits))
 
--- what `bit_string` answers for n
-abbrev pub Holds : ℕ → ℕ → List ℕ → ℕ → Type 0
-Holds n top bits count = (top ≡ length (zeckendorf n)) × ((bits ≡ bitRow n) × (count ≡ length (placesOf n)))
+  pub small : (rows .«first_length» ≤ 92) × (rows .«last_length» ≤ 92) × (rows .count ≤ 368)
+  small = rw (g .rows-are) (g .fits .first, g .fits .last, few-ones (g .forms) (g .fits))
 
-pub count-ones : (n : ℕ) → length (placesOf n) ≡ ones (zeckendorf n)
-count-ones n = ones-places 1 (zeckendorf n)
+  pub count-is : {n : ℕ} → n ≡ stepsFrom (rows .figure) (rows .«first_length») (rows .«last_length») (rows .count) → n ≡ length (namedSteps variant r k)
+  count-is e =
+      e ∙ ap (λ (f : FormRows). stepsFrom (f .figure) (f .«first_length») (f .«last_length») (f .count)) (g .rows-are)
+      ∙ rows-count (g .forms) (g .fits) ∙ ap length (sym steps-are)
 
--- ---- what each builder's forms come to: the words of the steps, how many there are, and numbers small enough to add
+  module _ {h : Header} (header-is : h ≡ headerFor q) where
+    total-is : wordCount h ≡ length (wordsOf q)
+    total-is = ap wordCount header-is ∙ sym (program-length q)
 
-pub record Parts (steps : List Step) (words : List ℕ) (count : ℕ) : Type 0 where
-  pub words-are : words ≡ map stepWord steps
-  pub count-is : count ≡ length steps
+    pub built-short : {row : List ℕ} → length row < wordCount h → Built (wordsOf q) row (Refused Room) row
+    built-short {row} less =
+        let e = short (wordsOf q) (length row) (omega (arith, total-is)) in
+        record { outcome-is = sym e; row-is = sym (row-kept (wordsOf q) row e) }
 
-module _ {p r k K : ℕ} (b : Buildable p r k K) where
-  pub exponent-below : k < r
-  exponent-below = good-exponent k r (b .exponent) .high
+    module _ (row : List ℕ) (room : wordCount h ≤ length row) where
+      long : length (wordsOf q) ≤ length row
+      long = omega (arith, total-is)
 
-  pub inverse-below : K < r
-  inverse-below = rw (b .inverse-is) (inverse-order k r (b .exponent) .high)
+      pub steps-room : layBegin h (length row) + length (drawnWords rows) ≤ length (laidRow h row)
+      steps-room =
+          rw (header-is, words-are, length-map (namedSteps variant r k) stepWord) (steps-fit q (named-lawful p r k variant w) row long)
 
-  pub number-64 : (n : ℕ) → n < r → n < 2 ^ 64
-  number-64 n h = omega (arith, b .order)
+      pub built-written : {laid after : List ℕ} {at next n : ℕ} → at ≡ layBegin h (length row) → laid ≡ laidRow h row
+          → Wrote laid at (drawnWords rows) next after → n ≡ wordCount h → Built (wordsOf q) row (Value n) after
+      built-written begin is v e =
+          let done = enough (wordsOf q) (length row) long in
+          record {
+            outcome-is = ap answered (e ∙ total-is) ∙ sym done;
+            row-is =
+                v .after-is
+                ∙ rw (begin, is, header-is, words-are) (program-laid q (named-lawful p r k variant w) row long)
+                ∙ sym (row-written (wordsOf q) row done);
+          }

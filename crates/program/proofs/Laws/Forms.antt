@@ -1,153 +1,128 @@
--- The forms that the builders hold: a row of bits, taken up to a length, is a named program's form, since the numbers
--- are the program's and fit their widths; and a header, the words of the steps and the end are the named program's words.
-use mathlib.Core.Path.{_≡_, refl, sym, ap, ap₂, subst, _∙_}
+-- The rows of bits that the code holds are a named program's forms, since the numbers are the program's and fit their widths; and the
+-- forms fit the rows, since r is below 2^28.
+use mathlib.Core.Path.{_≡_, refl, sym, ap, ap₂, _∙_}
 use mathlib.Core.Bool.{Bool, true, false, cond}
-use mathlib.Core.List.{List, [], _∷_, _++_, map}
-use Prim.Native.Nat.{ℕ, suc, _+_, _*_, _-_, _%_, _≤_, _<_, _^_}
+use mathlib.Core.List.{List, [], _∷_, map}
+use Prim.Native.Nat.{ℕ, zero, suc, _+_, _*_, _-_, _%_, _≤_, _<_, _^_}
 use native.Mathlib.Nat.{mod-lt}
 use native.Mathlib.Omega.{arith}
 use borrow.Author.Tests.{le-leb}
-use lib.ListN.{length, take, length-map}
-use lib.Seq.{length-take-le}
-use Rattle.refusal.specs.declared.Refusal.the-variants.{Room}
-use Rattle.refusal.specs.declared.Answer.the-variants.{Value, Refused}
-use Rattle.refusal.specs.Rows.{Wrote}
-use Rattle.refusal.proofs.Laws.Rows.{wrote-more, wrote-length}
+use lib.ListN.{length, take, replicate, length-map}
 use Rattle.modular.specs.Residues.{remainder}
-use Rattle.modular.specs.Inverses.{inverse}
+use Rattle.modular.specs.Inverses.{inverse, badExponent}
 use Rattle.modular.proofs.Laws.Residues.{remainder-is}
+use Rattle.modular.proofs.Laws.Inverses.{good-exponent, inverse-order}
+use Rattle.fibonacci.specs.declared.BitString.{BitString}
 use Rattle.fibonacci.specs.Fibonacci.{fib, odd}
 use Rattle.fibonacci.specs.Forms.{pad, zeckendorf, ones}
 use Rattle.fibonacci.specs.Height.{height, oddHeight}
-use Rattle.fibonacci.specs.Services.{fibonacciOrZero, bit, bitRow}
+use Rattle.fibonacci.specs.Services.{fibonacciOrZero, bit, bitRow, placesOf}
 use Rattle.fibonacci.proofs.Laws.Fibonacci.{fib-monotone, odd-one, odd-zero}
-use Rattle.fibonacci.proofs.Laws.Forms.{pad-length, ones-pad}
-use Rattle.fibonacci.proofs.Laws.Height.{zeckendorf-height, height-28, height-le-odd, odd-height-is, odd-height-le}
-use Rattle.fibonacci.proofs.Laws.Lengths.{multiple-64}
-use Rattle.tape.specs.declared.Step.{Step}
-use Rattle.tape.specs.Words.{stepWord, encoded}
-use Rattle.tape.specs.Layout.{wordsOf}
-use Rattle.tape.proofs.Laws.Layout.{program-length}
-use Rattle.named.specs.Generators.{basic, hybrid, drawn}
-use Rattle.named.specs.Named.{basicForms, dualForm, dualForms, hybridForms, formsIn, namedSteps, namedProgram, namedWords}
-use Rattle.named.proofs.Laws.Lengths.{basic-length, dual-length, hybrid-length}
-use Rattle.program.specs.Writing.{formIn, basicWords, dualWords, hybridWords}
-use Rattle.program.specs.Building.{Buildable, Built, headerWordsOf}
-use Rattle.program.proofs.Laws.Building.{built-short, built-written, padded-form, own-form, form-size, Holds, count-ones, Parts, exponent-below, inverse-below, number-64}
+use Rattle.fibonacci.proofs.Laws.Forms.{pad-length, ones-pad, ones-places}
+use Rattle.fibonacci.proofs.Laws.Zeckendorf.{zeckendorf-count-64}
+use Rattle.fibonacci.proofs.Laws.BitStrings.{take-bits}
+use Rattle.fibonacci.proofs.Laws.Height.{zeckendorf-height, height-28, height-le-odd, odd-height-is, odd-height-28}
+use Rattle.fibonacci.proofs.Laws.Lengths.{multiple-64, multiple-length}
+use Rattle.tape.specs.Words.{stepWord}
+use Rattle.named.specs.declared.Figure.{Figure}
+use Rattle.named.specs.declared.Figure.the-variants.{Two, Four, Six}
+use Rattle.named.specs.Generators.{Forms, generated, stepsFrom}
+use Rattle.named.specs.Named.{basicForms, dualForm, dualForms, hybridForms, formsIn}
+use Rattle.named.proofs.Laws.Forms.{dual-form-length, padded-length}
+use Rattle.named.proofs.Laws.Lengths.{Fits as Fitting, generated-count}
+use Rattle.program.specs.declared.forms.FormRows.{FormRows}
+use Rattle.program.specs.Forms.{Invertible, BitsOf, bitsOf, rowsOf, lone, Alone, Fits, Whole, Given}
+use Rattle.program.specs.Writing.{drawnWords}
+use Rattle.program.proofs.Laws.Writing.{drawn-words}
 
--- ---- from the parts of a named program to its words
+-- ---- the row of a form
 
-words-count : {steps : List Step} {words : List ℕ} {count : ℕ} → Parts steps words count → length words ≡ count
-words-count {steps} q = ap length (q .words-are) ∙ length-map steps stepWord ∙ sym (q .count-is)
+-- what `bit_string` answers for n
+abbrev pub Answers : ℕ → BitString → Type 0
+Answers n b = (b .length ≡ length (zeckendorf n)) × ((b .bits ≡ bitRow n) × (b .count ≡ length (placesOf n)))
 
-module _ (p r k variant : ℕ) {words : List ℕ} {count : ℕ} (q : Parts (namedSteps variant r k) words count) where
-  named-length : length (namedWords p r k variant) ≡ count + 5
-  named-length = program-length (namedProgram p r k variant) ∙ ap (λ (n : ℕ). n + 5) (sym (q .count-is))
+pub bits-of : (n : ℕ) {b : BitString} → n < 2 ^ 64 → Answers n b → BitsOf n b
+bits-of n h a =
+    record { bits-are = a .1 .0; count-is = a .1 .1 ∙ ones-places 1 (zeckendorf n); few = omega (arith, a .1 .1, zeckendorf-count-64 n h) }
 
-  named-words : headerWordsOf variant p r k ++ (words ++ (4026531840 + count) ∷ []) ≡ namedWords p r k variant
-  unfolding wordsOf encoded
-  named-words = ap₂ (λ (ws : List ℕ) (n : ℕ). headerWordsOf variant p r k ++ (ws ++ (4026531840 + n) ∷ [])) (q .words-are) (q .count-is)
+-- a row of bits with a form's length and count
+pub record Holds (form : List Bool) (bits : List ℕ) (size count : ℕ) : Type 0 where
+  pub bits-are : bits ≡ bitsOf form
+  pub size-is : size ≡ length form
+  pub count-is : count ≡ ones form
 
-  -- a row that is too short
-  pub short-row : {row : List ℕ} → length row < count + 5 → Built (namedWords p r k variant) row (Refused Room) row
-  short-row {row} h = built-short (namedWords p r k variant) row (omega (arith, named-length))
+pub whole : (n : ℕ) {b : BitString} → Answers n b → Holds (zeckendorf n) (b .bits) (b .length) (b .count)
+whole n a = record { bits-are = a .1 .0; size-is = a .0; count-is = a .1 .1 ∙ ones-places 1 (zeckendorf n) }
 
-  -- a row with room: where the steps go, and where the end goes
-  pub steps-room : {row headed : List ℕ} {a : ℕ} → count + 5 ≤ length row → Wrote row 0 (headerWordsOf variant p r k) a headed → a + length words ≤ length headed
-  steps-room h w = omega (arith, words-count q, w .next-is, wrote-length w)
+pad-pad : (m n : ℕ) (bs : List Bool) → m ≤ n → pad n (pad m bs) ≡ pad n bs
+unfolding pad
+pad-pad zero n bs h = refl
+pad-pad (suc m) zero bs h = absurd (omega arith)
+pad-pad (suc m) (suc n) [] h = ap (λ (l : List Bool). false ∷ l) (pad-pad m n [] (omega arith))
+pad-pad (suc m) (suc n) (b ∷ bs) h = ap (λ (l : List Bool). b ∷ l) (pad-pad m n bs (omega arith))
 
-  pub end-room : {row headed stepped : List ℕ} {a b : ℕ} → count + 5 ≤ length row
-      → Wrote row 0 (headerWordsOf variant p r k) a headed → Wrote headed a words b stepped → b < length stepped
-  end-room h w v = omega (arith, words-count q, w .next-is, wrote-length w, v .next-is, wrote-length v)
-
-  -- and once the header, the steps and the end are written
-  pub long-row : {row headed stepped after : List ℕ} {a b c : ℕ} → count + 5 ≤ length row
-      → Wrote row 0 (headerWordsOf variant p r k) a headed → Wrote headed a words b stepped → Wrote stepped b ((4026531840 + count) ∷ []) c after
-      → Built (namedWords p r k variant) row (Value c) after
-  long-row {row} {after = after} {c = c} h w v u =
-      built-written (subst (λ (ws : List ℕ). Wrote row 0 ws c after) named-words (wrote-more w (wrote-more v u))) (omega (arith, named-length))
-
--- ---- a row of bits, up to n, as a form of n places
-
-pub record Padded (n : ℕ) (bits : List ℕ) (count : ℕ) (form : List Bool) : Type 0 where
-  pub form-is : formIn (take n bits) ≡ form
-  pub size : length form ≡ n
-  pub ones-are : count ≡ ones form
-  pub row-size : length bits ≡ 92
-  pub fits : n ≤ 92
-  pub few : count ≤ 46
-
-pub prefix-length : {n count : ℕ} {bits : List ℕ} {form : List Bool} → Padded n bits count form → length (take n bits) ≡ n
-prefix-length {n} {bits = bits} q = length-take-le n bits (omega (arith, q .row-size, q .fits))
-
-bit-row-length : (n : ℕ) → n < 2 ^ 64 → length (bitRow n) ≡ 92
-bit-row-length n h = length-map (pad 92 (zeckendorf n)) bit ∙ pad-length 92 (zeckendorf n) (form-size n h .0)
-
-padded : {top count : ℕ} {bits : List ℕ} (n m : ℕ) → n < 2 ^ 64 → m ≤ 92 → length (zeckendorf n) ≤ m → Holds n top bits count
-    → Padded m bits count (pad m (zeckendorf n))
-padded n m small high low e = record {
-  form-is = padded-form n m (e .1 .0) high low;
-  size = pad-length m (zeckendorf n) low;
-  ones-are = e .1 .1 ∙ count-ones n ∙ sym (ones-pad m (zeckendorf n));
-  row-size = ap length (e .1 .0) ∙ bit-row-length n small;
-  fits = high;
-  few = omega (arith, e .1 .1, form-size n small .1);
+padded : (n m : ℕ) {b : BitString} → m ≤ 92 → length (zeckendorf n) ≤ m → BitsOf n b → Holds (pad m (zeckendorf n)) (b .bits) m (b .count)
+padded n m high low b = record {
+  bits-are = b .bits-are ∙ ap (map bit) (sym (pad-pad m 92 (zeckendorf n) high));
+  size-is = sym (pad-length m (zeckendorf n) low);
+  count-is = b .count-is ∙ sym (ones-pad m (zeckendorf n));
 }
 
-whole : {m count : ℕ} {bits : List ℕ} (n : ℕ) → n < 2 ^ 64 → Holds n m bits count → Padded m bits count (zeckendorf n)
-whole n small e = record {
-  form-is = own-form n (e .1 .0) (e .0) (omega (arith, e .0, form-size n small .0));
-  size = sym (e .0);
-  ones-are = e .1 .1 ∙ count-ones n;
-  row-size = ap length (e .1 .0) ∙ bit-row-length n small;
-  fits = omega (arith, e .0, form-size n small .0);
-  few = omega (arith, e .1 .1, form-size n small .1);
-}
+-- two rows with nothing beside them, and four
+pub lone-rows : (figure : Figure) {f g : List Bool} {first last : List ℕ} {m n c d : ℕ} → Holds f first m c → Holds g last n d
+    → record { figure = figure; first = first; beside = replicate 92 0; last = last; «beside_last» = replicate 92 0; «first_length» = m; «last_length» = n; count = c + d }
+    ≡ rowsOf (lone figure f g)
+unfolding ones pad
+lone-rows figure {f} {g} {c = c} {d} h k =
+    let sum : c + d ≡ ones f + 0 + ones g + 0 = omega (arith, h .count-is, k .count-is) in
+    cc (h .bits-are, k .bits-are, h .size-is, k .size-is, sum)
 
--- ---- the steps of each variant from its forms
+pub dual-rows : (r k : ℕ) {h c d c′ d′ : ℕ} {s t s′ t′ : List ℕ}
+    → Holds (dualForm r k (height r)) s h c → Holds (dualForm r k (suc (height r))) t h d
+    → Holds (dualForm r (inverse r k) (height r)) s′ h c′ → Holds (dualForm r (inverse r k) (suc (height r))) t′ h d′
+    → record { figure = Four; first = s; beside = t; last = s′; «beside_last» = t′; «first_length» = h; «last_length» = h; count = c + d + c′ + d′ }
+    ≡ rowsOf (dualForms r k)
+unfolding dualForms
+dual-rows r k s t s′ t′ =
+    cc (s .bits-are, t .bits-are, s′ .bits-are, t′ .bits-are, s .size-is, s′ .size-is, s .count-is, t .count-is, s′ .count-is, t′ .count-is)
 
-pub basic-parts : (r k : ℕ) {m n c d : ℕ} {ks inverses : List ℕ} → Padded m ks c (zeckendorf k) → Padded n inverses d (zeckendorf (inverse r k))
-    → Parts (namedSteps 1 r k) (basicWords (take m ks) (take n inverses)) (4 * m + c + 1 + 4 * n + d)
-unfolding namedSteps formsIn basicForms drawn
-basic-parts r k e f = record {
-  words-are = ap₂ (λ (x y : List Bool). map stepWord (basic x y)) (e .form-is) (f .form-is);
-  count-is = omega (arith, basic-length (zeckendorf k) (zeckendorf (inverse r k)), e .size, f .size, e .ones-are, f .ones-are);
-}
+-- ---- the words of forms in rows
 
-pub hybrid-parts : (r k : ℕ) {m l c d : ℕ} {vs inverses : List ℕ} → Padded m vs c (zeckendorf (k * fib (suc (oddHeight r))))
-    → Padded l inverses d (pad (oddHeight r) (zeckendorf (inverse r k)))
-    → Parts (namedSteps 3 r k) (hybridWords (take m vs) (take l inverses)) (2 * m + c + 2 * l + d + 3)
-unfolding namedSteps formsIn hybridForms drawn
-hybrid-parts r k v f = record {
-  words-are = ap₂ (λ (x y : List Bool). map stepWord (hybrid x y)) (v .form-is) (f .form-is);
-  count-is = omega (arith, hybrid-length (zeckendorf (k * fib (suc (oddHeight r)))) (pad (oddHeight r) (zeckendorf (inverse r k))), v .size, f .size, v .ones-are, f .ones-are);
-}
+pad-same : (bs : List Bool) → pad (length bs) bs ≡ bs
+unfolding pad
+pad-same [] = refl
+pad-same (b ∷ bs) = ap (λ (l : List Bool). b ∷ l) (pad-same bs)
 
-pub dual-parts : (r k : ℕ) {n c d c′ d′ : ℕ} {ss ts ss′ ts′ : List ℕ} → Padded n ss c (dualForm r k (height r)) → Padded n ts d (dualForm r k (suc (height r)))
-    → Padded n ss′ c′ (dualForm r (inverse r k) (height r)) → Padded n ts′ d′ (dualForm r (inverse r k) (suc (height r)))
-    → Parts (namedSteps 2 r k) (dualWords (take n ss) (take n ts) (take n ss′) (take n ts′)) (2 * n + 2 * n + c + d + c′ + d′ + 2)
-unfolding namedSteps formsIn dualForms drawn
-dual-parts r k s t s′ t′ = record {
-  words-are = cc (s .form-is, t .form-is, s′ .form-is, t′ .form-is);
-  count-is =
-      omega (
-        arith,
-        dual-length (dualForm r k (height r)) (dualForm r k (suc (height r))) (dualForm r (inverse r k) (height r)) (dualForm r (inverse r k) (suc (height r)))
-            (omega (arith, s .size, t .size)) (omega (arith, s′ .size, t′ .size)),
-        s .size,
-        s′ .size,
-        s .ones-are,
-        t .ones-are,
-        s′ .ones-are,
-        t′ .ones-are,
-      );
-}
+own-bits : (bs : List Bool) → length bs ≤ 92 → take (length bs) (bitsOf bs) ≡ map bit bs
+own-bits bs h = take-bits (length bs) 92 bs h (omega arith) ∙ ap (map bit) (pad-same bs)
+
+bits-length : (bs : List Bool) → length bs ≤ 92 → length (bitsOf bs) ≡ 92
+bits-length bs h = length-map (pad 92 bs) bit ∙ pad-length 92 bs h
+
+module _ (f : Forms) (fits : Fits f) where
+  pub rows-words : drawnWords (rowsOf f) ≡ map stepWord (generated f)
+  rows-words =
+      rw (own-bits (f .first) (fits .first), take-bits (length (f .first)) 92 (f .beside) (fits .first) (fits .beside))
+      (rw (own-bits (f .last) (fits .last), take-bits (length (f .last)) 92 (f .besideLast) (fits .last) (fits .besideLast))
+      (drawn-words (f .figure) (f .first) (f .beside) (f .last) (f .besideLast) (fits .alone) (fits .aloneLast)))
+
+  pub rows-whole : Whole (rowsOf f)
+  rows-whole = record {
+    first = omega (arith, fits .first, bits-length (f .first) (fits .first));
+    beside = omega (arith, fits .first, bits-length (f .beside) (omega (arith, fits .first, fits .beside)));
+    last = omega (arith, fits .last, bits-length (f .last) (fits .last));
+    besideLast = omega (arith, fits .last, bits-length (f .besideLast) (omega (arith, fits .last, fits .besideLast)));
+  }
 
 -- ---- the numbers
 
 weight-is : {f i : ℕ} → f ≡ fibonacciOrZero i → i ≤ 93 → f ≡ fib i
 unfolding fibonacciOrZero
 weight-is {i = i} e h = e ∙ rw (le-leb i 93 h)
+
+pub weight-fits : {i f : ℕ} → i ≤ 42 → f ≡ fibonacciOrZero i → f < 2 ^ 32
+unfolding fib
+weight-fits {i} h e = omega (arith, weight-is e (omega arith), fib-monotone {m = i} {n = 42} h)
 
 -- ℓ' as the code computes it
 odd-height : (r : ℕ) {h : ℕ} → h ≡ height r → h + 1 - h % 2 ≡ oddHeight r
@@ -157,60 +132,134 @@ odd-height r e = rw (e, odd-height-is r) (go (odd (height r)) refl)
     go true o = omega (arith, odd-one (height r) o)
     go false o = omega (arith, odd-zero (height r) o)
 
-module _ {p r k K : ℕ} (b : Buildable p r k K) where
+module _ {r k K : ℕ} (b : Invertible r k K) where
+  exponent-below : k < r
+  exponent-below = good-exponent k r (b .exponent) .high
+
+  inverse-below : K < r
+  inverse-below = rw (b .inverse-is) (inverse-order k r (b .exponent) .high)
+
   pub height-small : {h : ℕ} → h ≡ height r → h ≤ 41
   height-small e = omega (arith, height-28 r (b .order))
 
-  pub exponent-small : k < 2 ^ 28
-  exponent-small = omega (arith, exponent-below b, b .order)
-
-  -- variant 1
-  pub exponent-form : {m c : ℕ} {ks : List ℕ} → Holds k m ks c → Padded m ks c (zeckendorf k)
-  exponent-form held = whole k (number-64 b k (exponent-below b)) held
-
-  pub own-inverse-form : {n d : ℕ} {inverses : List ℕ} → Holds K n inverses d → Padded n inverses d (zeckendorf (inverse r k))
-  own-inverse-form held = rw (← b .inverse-is) (whole K (number-64 b K (inverse-below b)) held)
+  -- variant 2: the form of x × F_i modulo r
+  pub product-form : {h i f : ℕ} (x z j : ℕ) {b : BitString} → h ≡ height r → i ≤ 93 → i ≡ j → x ≡ z → f ≡ fibonacciOrZero i
+      → BitsOf (remainder (x * f) r) b → Holds (dualForm r z j) (b .bits) h (b .count)
+  product-form {f = f} x z j e low same from w held =
+      let some : 0 < r = omega (arith, exponent-below) in
+      let n-is : remainder (x * f) r ≡ z * fib j % r =
+      remainder-is (x * f) r some ∙ ap₂ (λ (m n : ℕ). m * n % r) from (weight-is w low ∙ ap fib same) in
+      rw e
+      (padded (z * fib j % r) (height r) (omega (arith, height-28 r (b .order)))
+      (zeckendorf-height r (z * fib j % r) (mod-lt (z * fib j) some)) (rw n-is at held))
 
   -- variant 3
   multiple-is : {h f : ℕ} → h ≡ height r → f ≡ fibonacciOrZero (h + 1 - h % 2 + 1) → k * f ≡ k * fib (suc (oddHeight r))
-  multiple-is e w =
-      ap (λ (x : ℕ). k * x) (weight-is w (omega (arith, height-small e)) ∙ ap fib (omega (arith, odd-height r e)))
-
-  multiple-small : k * fib (suc (oddHeight r)) < 2 ^ 64
-  multiple-small = omega (arith, multiple-64 r k (b .order) (exponent-below b))
+  multiple-is e w = ap (λ (x : ℕ). k * x) (weight-is w (omega (arith, height-small e)) ∙ ap fib (omega (arith, odd-height r e)))
 
   pub multiple-fits : {h f : ℕ} → h ≡ height r → f ≡ fibonacciOrZero (h + 1 - h % 2 + 1) → k * f < 2 ^ 64
-  multiple-fits e w = rw (multiple-is e w) multiple-small
+  multiple-fits e w = rw (multiple-is e w) (omega (arith, multiple-64 r k (b .order) exponent-below))
 
-  pub multiple-form : {h f m c : ℕ} {vs : List ℕ} → h ≡ height r → f ≡ fibonacciOrZero (h + 1 - h % 2 + 1) → Holds (k * f) m vs c
-      → Padded m vs c (zeckendorf (k * fib (suc (oddHeight r))))
-  multiple-form e w held = rw (multiple-is e w) at (whole (k * _) (multiple-fits e w) held)
+  pub hybrid-rows : {h f : ℕ} {v held : BitString} → h ≡ height r → f ≡ fibonacciOrZero (h + 1 - h % 2 + 1) → Answers (k * f) v → BitsOf K held
+      → (Holds (zeckendorf (k * fib (suc (oddHeight r)))) (v .bits) (v .length) (v .count))
+      × (Holds (pad (oddHeight r) (zeckendorf (inverse r k))) (held .bits) (h + 1 - h % 2) (held .count))
+  hybrid-rows e w a held = (
+    rw (multiple-is e w) at (whole (k * _) a),
+    rw (odd-height r e, ← b .inverse-is)
+        (padded K (oddHeight r) (omega (arith, odd-height-28 r (b .order))) (omega (arith, zeckendorf-height r K inverse-below, height-le-odd r)) held),
+  )
 
-  pub inverse-form : {h top d : ℕ} {inverses : List ℕ} → h ≡ height r → Holds K top inverses d
-      → Padded (h + 1 - h % 2) inverses d (pad (oddHeight r) (zeckendorf (inverse r k)))
-  inverse-form {d = d} {inverses} e held =
-      rw (odd-height r e, ← b .inverse-is)
-      (padded K (oddHeight r) (number-64 b K (inverse-below b)) (omega (arith, odd-height-le r, height-28 r (b .order)))
-      (omega (arith, zeckendorf-height r K (inverse-below b), height-le-odd r)) held)
+  -- ---- the forms fit their rows
 
-  -- variant 2
-  pub weight-fits : {i f : ℕ} → i ≤ 42 → f ≡ fibonacciOrZero i → f < 2 ^ 32
-  unfolding fib
-  weight-fits {i} h e = omega (arith, weight-is e (omega arith), fib-monotone {m = i} {n = 42} h)
+  form-fits : (n : ℕ) → n < r → length (zeckendorf n) ≤ 92
+  form-fits n h = omega (arith, zeckendorf-height r n h, height-28 r (b .order))
 
-  product-form : {i j f x z y top c : ℕ} {bits : List ℕ} → i ≤ 93 → i ≡ j → f ≡ fibonacciOrZero i → x ≡ z → y ≡ remainder (x * f) r → Holds y top bits c
-      → Padded (height r) bits c (dualForm r z j)
-  product-form {j = j} {f} {x} {z} {y} low same w e product-is held =
-      let some : 0 < r = omega (arith, exponent-below b) in
-      let y-is : y ≡ z * fib j % r = product-is ∙ remainder-is (x * f) r some ∙ ap₂ (λ (m n : ℕ). m * n % r) e (weight-is w low ∙ ap fib same) in
-      let below : z * fib j % r < r = mod-lt (z * fib j) some in
-      padded (z * fib j % r) (height r) (number-64 b (z * fib j % r) below) (omega (arith, height-28 r (b .order)))
-      (zeckendorf-height r (z * fib j % r) below) (rw y-is at held)
+  pub basic-fits : Fits (basicForms r k)
+  unfolding basicForms
+  basic-fits = record {
+    first = form-fits k exponent-below;
+    beside = omega arith;
+    last = rw (← b .inverse-is) (form-fits K inverse-below);
+    besideLast = omega arith;
+    alone = refl;
+    aloneLast = refl;
+  }
 
-  pub low-form : {h f x z y top c : ℕ} {bits : List ℕ} → h ≡ height r → f ≡ fibonacciOrZero h → x ≡ z → y ≡ remainder (x * f) r → Holds y top bits c
-      → Padded h bits c (dualForm r z (height r))
-  low-form e w same product-is held = rw e (product-form (omega (arith, height-small e)) e w same product-is held)
+  pub dual-fits : Fits (dualForms r k)
+  unfolding dualForms
+  dual-fits =
+      let size : (x i : ℕ) → length (dualForm r x i) ≡ height r = dual-form-length r k (b .exponent) in
+      let small = height-28 r (b .order) in
+      record {
+        first = omega (arith, size k (height r));
+        beside = omega (arith, size k (height r), size k (suc (height r)));
+        last = omega (arith, size (inverse r k) (height r));
+        besideLast = omega (arith, size (inverse r k) (height r), size (inverse r k) (suc (height r)));
+        alone = tt;
+        aloneLast = tt;
+      }
 
-  pub high-form : {h f x z y top c : ℕ} {bits : List ℕ} → h ≡ height r → f ≡ fibonacciOrZero (h + 1) → x ≡ z → y ≡ remainder (x * f) r → Holds y top bits c
-      → Padded h bits c (dualForm r z (suc (height r)))
-  high-form e w same product-is held = rw e (product-form (omega (arith, height-small e)) (omega arith) w same product-is held)
+  pub hybrid-fits : Fits (hybridForms r k)
+  unfolding hybridForms
+  hybrid-fits = record {
+    first = omega (arith, multiple-length r k exponent-below, height-28 r (b .order));
+    beside = omega arith;
+    last = omega (arith, padded-length r k (b .exponent), odd-height-28 r (b .order));
+    besideLast = omega arith;
+    alone = refl;
+    aloneLast = refl;
+  }
+
+-- ---- from the rows of a variant's forms to those that the table gives
+
+module _ (variant : ℕ) {r k K : ℕ} {rows : FormRows} (b : Invertible r k K) where
+  pub given-basic : variant ≡ 1 → rows ≡ rowsOf (lone Two (zeckendorf k) (zeckendorf K)) → Given variant r k rows
+  unfolding formsIn basicForms
+  given-basic is e = record {
+    forms = basicForms r k;
+    forms-are = rw is refl;
+    rows-are = e ∙ ap (λ (n : ℕ). rowsOf (lone Two (zeckendorf k) (zeckendorf n))) (b .inverse-is);
+    fits = basic-fits b;
+  }
+
+  pub given-dual : variant ≡ 2 → rows ≡ rowsOf (dualForms r k) → Given variant r k rows
+  unfolding formsIn
+  given-dual is e = record { forms = dualForms r k; forms-are = rw is refl; rows-are = e; fits = dual-fits b }
+
+  pub given-hybrid : variant ≡ 3 → rows ≡ rowsOf (hybridForms r k) → Given variant r k rows
+  unfolding formsIn
+  given-hybrid is e = record { forms = hybridForms r k; forms-are = rw is refl; rows-are = e; fits = hybrid-fits b }
+
+-- ---- how many steps they give
+
+ones-most : (bs : List Bool) → ones bs ≤ length bs
+unfolding ones
+ones-most [] = omega arith
+ones-most (true ∷ bs) = omega (arith, ones-most bs)
+ones-most (false ∷ bs) = omega (arith, ones-most bs)
+
+pub few-ones : (f : Forms) → Fits f → rowsOf f .count ≤ 368
+few-ones f fits =
+    omega (
+      arith,
+      ones-most (f .first),
+      ones-most (f .beside),
+      ones-most (f .last),
+      ones-most (f .besideLast),
+      fits .first,
+      fits .beside,
+      fits .last,
+      fits .besideLast,
+    )
+
+-- what a figure takes, by its forms in rows
+fitting : (figure : Figure) (ss ts Ss Ts : List Bool) → length ts ≤ length ss → length Ts ≤ length Ss → Alone figure ts → Alone figure Ts
+    → Fitting (record { figure = figure; first = ss; beside = ts; last = Ss; besideLast = Ts })
+unfolding ones
+fitting Two ss ts Ss Ts h H e E = (ap ones e, ap ones E)
+fitting Four ss ts Ss Ts h H e E = (h, H)
+fitting Six ss ts Ss Ts h H e E = (ap ones e, ap ones E)
+
+pub rows-count : (f : Forms) → Fits f → stepsFrom (f .figure) (length (f .first)) (length (f .last)) (rowsOf f .count) ≡ length (generated f)
+rows-count f fits =
+    sym (generated-count f (fitting (f .figure) (f .first) (f .beside) (f .last) (f .besideLast) (fits .beside) (fits .besideLast) (fits .alone) (fits .aloneLast)))

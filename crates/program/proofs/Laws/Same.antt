@@ -11,7 +11,7 @@ use lib.ListN.{length, getD, drop, drop-of-length-le}
 use lib.Seq.{drop-cons}
 use borrow.Author.Tests.{eqb-true, eq-eqb, ne-eqb}
 use Rattle.refusal.proofs.Laws.Tests.{both, test-false}
-use Rattle.program.specs.Services.{sameWords}
+use Rattle.program.specs.Same.{sameWords}
 
 pub same-itself : (ws : List ℕ) → sameWords ws ws ≡ true
 unfolding sameWords

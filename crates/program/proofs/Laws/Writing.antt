@@ -7,17 +7,22 @@ use Prim.Native.Nat.{ℕ, zero, suc, _+_, _-_, _≤_, _<_}
 use native.Mathlib.Nat.{suc-inj}
 use native.Mathlib.Numerals.{add-one, sub-one}
 use native.Mathlib.Omega.{arith}
-use lib.ListN.{length, getD, take, drop, take-append-drop, length-append, length-take, length-map, replicate}
-use lib.Seq.{take-suc, drop-cons, length-take-le}
+use lib.ListN.{length, getD, take, drop, take-append-drop, length-append, length-take, length-map}
+use lib.Seq.{take-suc, drop-cons}
 use borrow.Author.Tests.{eq-eqb, ne-eqb}
 use Rattle.fibonacci.specs.Forms.{pad}
+use Rattle.fibonacci.specs.Services.{bit}
 use Rattle.tape.specs.declared.Step.{Step}
 use Rattle.tape.specs.declared.Step.the-variants.{Mul, Div, Swp}
 use Rattle.tape.specs.Words.{stepWord}
 use Rattle.machine.specs.Machine.{opposite, back}
 use Rattle.machine.proofs.Laws.Steps.{back-append}
-use Rattle.named.specs.Generators.{select, ascend, chain, descend, basic, dual, hybrid}
-use Rattle.program.specs.Writing.{isSet, formIn, chosen, ascendWords, ascendBackWords, descendWords, upWords, backWords, downWords, halfWords, halfBackWords, basicWords, dualWords, hybridWords}
+use Rattle.named.specs.declared.Figure.{Figure}
+use Rattle.named.specs.declared.Figure.the-variants.{Two, Four, Six}
+use Rattle.named.specs.Generators.{select, ascend, descend, basic, dual, hybrid, drawn}
+use Rattle.program.specs.declared.forms.FormRows.{FormRows}
+use Rattle.program.specs.Forms.{Alone}
+use Rattle.program.specs.Writing.{isSet, formIn, chosen, ascendWords, ascendBackWords, descendWords, upWords, backWords, downWords, frontWords, drawnWords}
 
 -- ---- one place
 
@@ -151,68 +156,57 @@ module _ (s t : ℕ) where
 pub down-length : (b : ℕ) → length (downWords b) ≡ length (chosen b (stepWord (Mul 2 0))) + 2
 down-length b = ap length (down-words b) ∙ length-append (chosen b (stepWord (Mul 2 0))) _
 
--- ---- the programs by their parts
+-- ---- the figures by their parts
 
--- a second form with no place set selects nothing
-ascend-none : (n : ℕ) (ss : List Bool) → ascend ss (pad n []) ≡ ascend ss []
+form-bits : (bs : List Bool) → formIn (map bit bs) ≡ bs
+form-bits [] = refl
+form-bits (true ∷ bs) = ap (λ (l : List Bool). true ∷ l) (form-bits bs)
+form-bits (false ∷ bs) = ap (λ (l : List Bool). false ∷ l) (form-bits bs)
+
+-- places past the end of a form aren't set
+ascend-pad : (n : ℕ) (ss ts : List Bool) → ascend ss (pad n ts) ≡ ascend ss ts
 unfolding ascend pad
-ascend-none n [] = refl
-ascend-none zero (s ∷ ss) = refl
-ascend-none (suc n) (s ∷ ss) = ap (λ (l : List Step). Mul 0 1 ∷ Swp 0 1 ∷ select s (Mul 2 1) l) (ascend-none n ss)
+ascend-pad n [] ts = refl
+ascend-pad zero (s ∷ ss) ts = refl
+ascend-pad (suc n) (s ∷ ss) [] = ap (λ (l : List Step). Mul 0 1 ∷ Swp 0 1 ∷ select s (Mul 2 1) l) (ascend-pad n ss [])
+ascend-pad (suc n) (s ∷ ss) (t ∷ ts) =
+    ap (λ (l : List Step). Mul 0 1 ∷ Swp 0 1 ∷ select s (Mul 2 1) (select t (Mul 3 1) l)) (ascend-pad n ss ts)
 
--- a row of zeros is such a form
-pub none-set : (n m : ℕ) → n ≤ m → formIn (take n (replicate m 0)) ≡ pad n []
-unfolding pad
-none-set zero m h = refl
-none-set (suc n) zero h = absurd (omega arith)
-none-set (suc n) (suc m) h = ap (λ (l : List Bool). false ∷ l) (none-set n m (omega arith))
+up-form : (n : ℕ) (ss ts : List Bool) → ascend (formIn (map bit ss)) (formIn (map bit (pad n ts))) ≡ ascend ss ts
+up-form n ss ts = ap₂ ascend (form-bits ss) (form-bits (pad n ts)) ∙ ascend-pad n ss ts
 
-module _ (zeros : List ℕ) (e : zeros ≡ replicate 92 0) where
-  ascend-zeros : (n : ℕ) (bits : List ℕ) → n ≤ 92 → ascend (formIn bits) (formIn (take n zeros)) ≡ ascend (formIn bits) []
-  ascend-zeros n bits h = rw (e, none-set n 92 h) (ascend-none n (formIn bits))
+-- the words that a figure writes are those of the steps that it draws
+pub drawn-words : (figure : Figure) (ss ts Ss Ts : List Bool) → Alone figure ts → Alone figure Ts
+    → frontWords figure (map bit ss) (map bit (pad (length ss) ts)) (map bit (pad (length Ss) Ts)) ++ ascendBackWords (map bit Ss) (map bit (pad (length Ss) Ts))
+    ≡ map stepWord (drawn figure ss ts Ss Ts)
+unfolding drawn basic dual hybrid
+drawn-words Two ss ts Ss Ts e E =
+    rw (e, E, up-form (length ss) ss [], up-form (length ss) (pad (length ss) []) [], up-form (length Ss) Ss [], up-form (length Ss) (pad (length Ss) []) [])
+    (simp (map-append, append-assoc))
+drawn-words Four ss ts Ss Ts e E = rw (up-form (length ss) ss ts, up-form (length Ss) Ss Ts) (simp (map-append, append-assoc))
+drawn-words Six ss ts Ss Ts e E =
+    rw (E, form-bits ss, up-form (length Ss) Ss [])
+    (ap (λ (l : List ℕ). stepWord (Swp 0 1) ∷ l)
+    (append-assoc (map stepWord (descend ss)) (stepWord (Swp 0 1) ∷ stepWord (Swp 1 2) ∷ []) (map stepWord (back (ascend Ss [])))
+    ∙ sym (map-append stepWord (descend ss) (Swp 0 1 ∷ Swp 1 2 ∷ back (ascend Ss [])))))
 
-  chain-zeros : (n : ℕ) → n ≤ 92 → ascend (formIn (take n zeros)) (formIn (take n zeros)) ≡ chain n
-  chain-zeros n h = rw (e, none-set n 92 h) (ascend-none n (pad n []))
+-- ---- how long they are
 
-  pub half-words : (bits : List ℕ) → length bits ≤ 92
-      → halfWords bits (take (length bits) zeros) ≡ map stepWord (ascend (formIn bits) []) ++ map stepWord (back (chain (length bits)))
-  half-words bits h =
-      ap₂ _++_ (ap (map stepWord) (ascend-zeros (length bits) bits h)) (ap (λ (l : List Step). map stepWord (back l)) (chain-zeros (length bits) h))
+pub size-2 : (first none noneLast : List ℕ)
+    → length (frontWords Two first none noneLast) ≡ length (ascendWords first none) + (length (ascendBackWords none none) + suc (length (ascendWords noneLast noneLast)))
+size-2 first none noneLast =
+    length-append (ascendWords first none) _ ∙ ap (λ (n : ℕ). length (ascendWords first none) + n) (length-append (ascendBackWords none none) _)
 
-  pub half-back-words : (bits : List ℕ) → length bits ≤ 92
-      → halfBackWords bits (take (length bits) zeros) ≡ map stepWord (chain (length bits)) ++ map stepWord (back (ascend (formIn bits) []))
-  half-back-words bits h =
-      ap₂ _++_ (ap (map stepWord) (chain-zeros (length bits) h)) (ap (λ (l : List Step). map stepWord (back l)) (ascend-zeros (length bits) bits h))
+pub size-4 : (first beside : List ℕ) → length (frontWords Four first beside []) ≡ length (ascendWords first beside) + 2
+size-4 first beside = length-append (ascendWords first beside) _
 
-  pub basic-words : (ks inverse : List ℕ) → length ks ≤ 92 → length inverse ≤ 92
-      → basicWords ks inverse ≡ halfWords ks (take (length ks) zeros) ++ stepWord (Swp 1 2) ∷ halfBackWords inverse (take (length inverse) zeros)
-  unfolding basic
-  basic-words ks inverse h k =
-      let m : length (formIn ks) ≡ length ks = length-map ks isSet in
-      let n : length (formIn inverse) ≡ length inverse = length-map inverse isSet in
-      rw (half-words ks h, half-back-words inverse k, ← m, ← n) (simp (map-append, append-assoc))
+pub size-6 : (first : List ℕ) → length (frontWords Six first [] []) ≡ suc (length (descendWords first) + 2)
+size-6 first = ap suc (length-append (descendWords first) _)
 
-  pub hybrid-words : (v inverse : List ℕ) → length inverse ≤ 92
-      → hybridWords v inverse
-      ≡ stepWord (Swp 0 1) ∷ (descendWords v ++ stepWord (Swp 0 1) ∷ stepWord (Swp 1 2) ∷ ascendBackWords inverse (take (length inverse) zeros))
-  unfolding hybrid
-  hybrid-words v inverse h = rw (ascend-zeros (length inverse) inverse h) (simp map-append)
-
-  -- the part of the row of zeros that a form is paired with is as long as the form
-  pub zeros-length : (n : ℕ) → n ≤ 92 → n ≡ length (take n zeros)
-  zeros-length n h = rw e (sym (length-take-le n (replicate 92 0) h))
-
-  pub basic-size : (ks inverse : List ℕ) → length ks ≤ 92 → length inverse ≤ 92
-      → length (basicWords ks inverse) ≡ length (halfWords ks (take (length ks) zeros)) + suc (length (halfBackWords inverse (take (length inverse) zeros)))
-  basic-size ks inverse h k = ap length (basic-words ks inverse h k) ∙ length-append (halfWords ks (take (length ks) zeros)) _
-
-  pub hybrid-size : (v inverse : List ℕ) → length inverse ≤ 92
-      → length (hybridWords v inverse) ≡ suc (length (descendWords v) + (2 + length (ascendBackWords inverse (take (length inverse) zeros))))
-  hybrid-size v inverse h = ap length (hybrid-words v inverse h) ∙ ap suc (length-append (descendWords v) _ ∙ omega arith)
-
-pub dual-words : (s t s′ t′ : List ℕ) → dualWords s t s′ t′ ≡ ascendWords s t ++ stepWord (Swp 0 2) ∷ stepWord (Swp 1 3) ∷ ascendBackWords s′ t′
-unfolding dual
-dual-words s t s′ t′ = simp map-append
-
-pub dual-size : (s t s′ t′ : List ℕ) → length (dualWords s t s′ t′) ≡ length (ascendWords s t) + (2 + length (ascendBackWords s′ t′))
-dual-size s t s′ t′ = ap length (dual-words s t s′ t′) ∙ length-append (ascendWords s t) _ ∙ omega arith
+pub drawn-size : (rows : FormRows)
+    → length (drawnWords rows)
+    ≡ length (frontWords (rows .figure) (take (rows .«first_length») (rows .first)) (take (rows .«first_length») (rows .beside)) (take (rows .«last_length») (rows .«beside_last»)))
+    + length (ascendBackWords (take (rows .«last_length») (rows .last)) (take (rows .«last_length») (rows .«beside_last»)))
+drawn-size rows =
+    length-append
+    (frontWords (rows .figure) (take (rows .«first_length») (rows .first)) (take (rows .«first_length») (rows .beside)) (take (rows .«last_length») (rows .«beside_last»))) _

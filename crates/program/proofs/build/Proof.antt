@@ -1,13 +1,12 @@
--- `build` meets its contract: each return is a case of build (Laws/Answering), and what the three tests leave is what a builder asks.
+-- `build` meets its contract: each return is a case of build (Laws/Answering), and what the four tests leave is what `forms` and `write` ask.
 use mathlib.Core.Path.{_≡_, sym, _∙_}
 use mathlib.Core.Bool.{false}
 use native.Mathlib.Omega.{arith}
 use borrow.Author.Needs.{needs}
 use Rattle.modular.specs.Inverses.{badExponent}
-use Rattle.named.specs.Parameters.{badModulus, badOrder}
-use Rattle.named.proofs.Laws.Parameters.{good-modulus, named, unnamed-other}
-use Rattle.program.specs.Building.{Buildable}
-use Rattle.program.proofs.Laws.Answering.{modulus-refused, order-refused, exponent-refused, variant-refused, left-to-room, no-inverse, some-inverse, buildable}
+use Rattle.named.specs.Parameters.{badModulus, badOrder, unnamed}
+use Rattle.named.proofs.Laws.Parameters.{good-modulus}
+use Rattle.program.proofs.Laws.Answering.{modulus-refused, order-refused, exponent-refused, variant-refused, left-to-room, no-inverse, some-inverse, invertible, writable}
 use Rattle.program.proofs.build.Statement.{statement}
 use Rattle.program.proofs.build.Tie as tie
 
@@ -18,14 +17,11 @@ modulus s = sym (s .before .is-bad-modulus .ensures) ∙ s .if1 .left
 order : (s : tie.Else2) → badOrder (s .before .before .before .before .before .args .p) (s .before .before .before .before .before .args .r) ≡ false
 order s = sym (s .before .is-bad-order .ensures) ∙ s .if2 .left
 
-exponent : (s : tie.Else3)
-    → badExponent (s .before .before .before .before .before .before .before .args .k) (s .before .before .before .before .before .before .before .args .r) ≡ false
+exponent : (s : tie.Else3) → badExponent (s .before .before .before .before .before .before .before .args .k) (s .before .before .before .before .before .before .before .args .r) ≡ false
 exponent s = some-inverse _ _ (λ none. s .if3 .left (s .before .good-inverse .ensures ∙ none))
 
-asked : (s : tie.Else3)
-    → Buildable (s .before .before .before .before .before .before .before .args .p) (s .before .before .before .before .before .before .before .args .r)
-    (s .before .before .before .before .before .before .before .args .k) (s .before .good-inverse .result)
-asked s = rw (s .before .good-inverse .ensures) (buildable _ _ _ (modulus (s .before .before .before .before)) (order (s .before .before)) (exponent s))
+variant : (s : tie.Else4) → unnamed (s .before .before .before .before .before .before .before .before .before .args .variant) ≡ false
+variant s = sym (s .before .is-unnamed .ensures) ∙ s .if4 .left
 
 is-bad-modulus-requires : tie.Need-is-bad-modulus-requires
 is-bad-modulus-requires c κs = search needs
@@ -45,53 +41,31 @@ good-inverse-requires c κs = search needs
 returns-3 : tie.Need-returns-3
 returns-3 c = exponent-refused _ _ _ _ _ (modulus (c .before .before .before .before)) (order (c .before .before)) (no-inverse _ _ (sym (c .before .good-inverse .ensures) ∙ c .if3 .taken))
 
-build-basic-requires : tie.Need-build-basic-requires
-build-basic-requires c κs = asked (c .before .before)
+is-unnamed-requires : tie.Need-is-unnamed-requires
+is-unnamed-requires c κs = search needs
 
-build-dual-requires : tie.Need-build-dual-requires
-build-dual-requires c κs = asked (c .before .before)
+returns-4 : tie.Need-returns-4
+returns-4 c =
+    let s = c .before .before in
+    variant-refused _ _ _ _ _ (modulus (s .before .before .before .before)) (order (s .before .before)) (exponent s) (sym (c .before .is-unnamed .ensures) ∙ c .if4 .taken)
 
-build-hybrid-requires : tie.Need-build-hybrid-requires
-build-hybrid-requires c κs = asked (c .before .before)
+forms-requires : tie.Need-forms-requires
+forms-requires c κs =
+    let s = c .before .before in
+    (invertible _ _ _ (modulus (s .before .before .before .before)) (order (s .before .before)) (exponent s) (s .before .good-inverse .ensures), variant c)
+
+write-requires : tie.Need-write-requires
+write-requires c κs =
+    let s = c .before .before .before .before in
+    (writable _ _ _ (modulus (s .before .before .before .before)) (order (s .before .before)) (exponent s) _ (variant (c .before .before)), c .before .forms .ensures)
 
 same-length : tie.Need-same-length
 same-length c = search needs
 
-returns-4 : tie.Need-returns-4
-returns-4 c =
-    let s = c .before .before .before .before .before in
-    left-to-room _ _ _ _ _ (modulus (s .before .before .before .before)) (order (s .before .before)) (exponent s)
-    (named _ (omega (arith, c .before .before .before .before .match .keys1)) (omega (arith, c .before .before .before .before .match .keys1)))
-    (c .before .before .before .before .match .keys1)
-    (c .before .before .build-basic .ensures)
-
-same-length-2 : tie.Need-same-length-2
-same-length-2 c = search needs
-
 returns-5 : tie.Need-returns-5
 returns-5 c =
-    let s = c .before .before .before .before .before in
-    left-to-room _ _ _ _ _ (modulus (s .before .before .before .before)) (order (s .before .before)) (exponent s)
-    (named _ (omega (arith, c .before .before .before .before .match .keys2)) (omega (arith, c .before .before .before .before .match .keys2)))
-    (c .before .before .before .before .match .keys2)
-    (c .before .before .build-dual .ensures)
-
-same-length-3 : tie.Need-same-length-3
-same-length-3 c = search needs
-
-returns-6 : tie.Need-returns-6
-returns-6 c =
-    let s = c .before .before .before .before .before in
-    left-to-room _ _ _ _ _ (modulus (s .before .before .before .before)) (order (s .before .before)) (exponent s)
-    (named _ (omega (arith, c .before .before .before .before .match .keys3)) (omega (arith, c .before .before .before .before .match .keys3)))
-    (c .before .before .before .before .match .keys3)
-    (c .before .before .build-hybrid .ensures)
-
-returns-7 : tie.Need-returns-7
-returns-7 c =
-    let s = c .before in
-    variant-refused _ _ _ _ _ (modulus (s .before .before .before .before)) (order (s .before .before)) (exponent s)
-    (unnamed-other _ (c .match .rest .0 .0 .1) (c .match .rest .0 .1) (c .match .rest .1))
+    let s = c .before .before .before .before .before .before .before in
+    left-to-room _ _ _ _ _ (modulus (s .before .before .before .before)) (order (s .before .before)) (exponent s) (variant (c .before .before .before .before .before)) (c .before .before .write .ensures)
 
 pub build-spec : {M : Type 1} → statement M
 build-spec =
@@ -103,13 +77,9 @@ build-spec =
     returns-2
     good-inverse-requires
     returns-3
-    build-basic-requires
-    build-dual-requires
-    build-hybrid-requires
-    same-length
+    is-unnamed-requires
     returns-4
-    same-length-2
-    returns-5
-    same-length-3
-    returns-6
-    returns-7)
+    forms-requires
+    write-requires
+    same-length
+    returns-5)

@@ -10,7 +10,7 @@ use Rattle.refusal.proofs.Laws.Tests.{test-false}
 use Rattle.text.specs.Text.{ascii, newline}
 use Rattle.text.specs.Rows.{Put}
 use Rattle.text.proofs.Laws.Puts.{puts-join}
-use Rattle.program.specs.Services.{sameWords}
+use Rattle.program.specs.Same.{sameWords}
 use Rattle.program.proofs.Laws.Same.{same-itself, same-equal, same-lengths}
 use Rattle.scripting.specs.Script.{verdict}
 

@@ -4,7 +4,7 @@ use Prim.Native.Nat.{_-_, _≤_}
 use native.Mathlib.Omega.{arith}
 use borrow.Author.Needs.{needs}
 use lib.ListN.{length, drop}
-use Rattle.program.specs.Services.{sameWords}
+use Rattle.program.specs.Same.{sameWords}
 use Rattle.program.proofs.Laws.Same.{same-lengths, same-stop, same-on, same-end}
 use Rattle.program.proofs.conditions.same.Statement.{statement}
 use Rattle.program.proofs.conditions.same.Tie as tie

@@ -1,0 +1,24 @@
+-- `forms::basic_forms` meets its contract: its rows are the bit strings of k and K.
+use native.Mathlib.Omega.{arith}
+use borrow.Author.Needs.{needs}
+use Rattle.named.specs.declared.Figure.the-variants.{Two}
+use Rattle.program.proofs.Laws.Forms.{bits-of, whole, lone-rows}
+use Rattle.program.proofs.forms.basic_forms.Statement.{statement}
+use Rattle.program.proofs.forms.basic_forms.Tie as tie
+
+bit-string-requires : tie.Need-bit-string-requires
+bit-string-requires c κs = search needs
+
+bit-string-requires-2 : tie.Need-bit-string-requires-2
+bit-string-requires-2 c κs = search needs
+
+add-t11 : tie.Need-add-t11
+add-t11 c =
+    let a = c .before .before .before .before .before .before in
+    omega (arith, bits-of (a .args .k) (omega (arith, a .fits .k)) (c .before .before .before .before .before .bit-string .ensures) .few, bits-of (a .args .inverse) (omega (arith, a .fits .inverse)) (c .before .before .before .before .bit-string2 .ensures) .few)
+
+returns : tie.Need-returns
+returns c = lone-rows Two (whole _ (c .before .before .before .before .before .bit-string .ensures)) (whole _ (c .before .before .before .before .bit-string2 .ensures))
+
+pub basic-forms-spec : {M : Type 1} → statement M
+basic-forms-spec = tie.close (tie.spec bit-string-requires bit-string-requires-2 add-t11 returns)

@@ -1,0 +1,91 @@
+-- `forms::dual_forms` meets its contract: its four rows are the forms of k and K times F_h and F_(h+1).
+use mathlib.Core.Path.{refl}
+use native.Mathlib.Omega.{arith}
+use borrow.Author.Needs.{needs}
+use Rattle.program.proofs.Laws.Forms.{height-small, weight-fits, product-form, dual-rows}
+use Rattle.program.proofs.forms.dual_forms.Statement.{statement}
+use Rattle.program.proofs.forms.dual_forms.Tie as tie
+
+height-requires : tie.Need-height-requires
+height-requires c κs = search needs
+
+fibonacci-or-zero-requires : tie.Need-fibonacci-or-zero-requires
+fibonacci-or-zero-requires c κs = search needs
+
+cast-low : tie.Need-cast-low
+cast-low c =
+    let small = height-small (c .before .before .pre) (c .before .height .ensures) in
+    omega (arith, weight-fits (omega arith) (c .fibonacci-or-zero .ensures))
+
+add-fibonacci-or-zero : tie.Need-add-fibonacci-or-zero
+add-fibonacci-or-zero c = omega (arith, height-small (c .before .before .pre) (c .before .height .ensures))
+
+fibonacci-or-zero-requires-2 : tie.Need-fibonacci-or-zero-requires-2
+fibonacci-or-zero-requires-2 c κs = search needs
+
+cast-high : tie.Need-cast-high
+cast-high c =
+    let small = height-small (c .before .before .before .pre) (c .before .before .height .ensures) in
+    omega (arith, weight-fits (omega arith) (c .fibonacci-or-zero2 .ensures))
+
+residue-requires : tie.Need-residue-requires
+residue-requires c κs = search needs
+
+residue-requires-2 : tie.Need-residue-requires-2
+residue-requires-2 c κs = search needs
+
+residue-requires-3 : tie.Need-residue-requires-3
+residue-requires-3 c κs = search needs
+
+residue-requires-4 : tie.Need-residue-requires-4
+residue-requires-4 c κs = search needs
+
+cast-t18 : tie.Need-cast-t18
+cast-t18 c = search needs
+
+cast-t19 : tie.Need-cast-t19
+cast-t19 c = search needs
+
+add-t20 : tie.Need-add-t20
+add-t20 c = search needs
+
+add-t21 : tie.Need-add-t21
+add-t21 c = search needs
+
+add-t22 : tie.Need-add-t22
+add-t22 c = search needs
+
+returns : tie.Need-returns
+returns c =
+    let a = c .before .before .before .before .before .before .before .before .before .before .before .before .before .before .before in
+    let h = c .before .before .before .before .before .before .before .before .before .before .before .before .before .before .height .ensures in
+    let low = c .before .before .before .before .before .before .before .before .before .before .before .before .before .fibonacci-or-zero .ensures in
+    let high = c .before .before .before .before .before .before .before .before .before .before .before .before .fibonacci-or-zero2 .ensures in
+    let small = height-small (a .pre) h in
+    let K = a .pre .inverse-is in
+    dual-rows (a .args .r) (a .args .k)
+    (product-form (a .pre) _ _ _ h (omega arith) h refl low (c .before .before .before .before .before .before .before .before .before .before .before .residue .ensures))
+    (product-form (a .pre) _ _ _ h (omega arith) (omega arith) refl high (c .before .before .before .before .before .before .before .before .before .before .residue2 .ensures))
+    (product-form (a .pre) _ _ _ h (omega arith) h K low (c .before .before .before .before .before .before .before .before .before .residue3 .ensures))
+    (product-form (a .pre) _ _ _ h (omega arith) (omega arith) K high (c .before .before .before .before .before .before .before .before .residue4 .ensures))
+
+pub dual-forms-spec : {M : Type 1} → statement M
+dual-forms-spec =
+    tie.close
+    (tie.spec
+    height-requires
+    fibonacci-or-zero-requires
+    cast-low
+    add-fibonacci-or-zero
+    fibonacci-or-zero-requires-2
+    cast-high
+    residue-requires
+    residue-requires-2
+    residue-requires-3
+    residue-requires-4
+    cast-t18
+    cast-t19
+    add-t20
+    add-t21
+    add-t22
+    returns)

@@ -1,0 +1,67 @@
+-- `forms::hybrid_forms` meets its contract: its rows are the bit strings of v and K.
+use mathlib.Core.Path.{_∙_}
+use native.Mathlib.Omega.{arith}
+use borrow.Author.Needs.{needs}
+use Rattle.named.specs.declared.Figure.the-variants.{Six}
+use Rattle.named.specs.Named.{hybridForms}
+use Rattle.program.proofs.Laws.Forms.{bits-of, lone-rows, height-small, multiple-fits, hybrid-rows}
+use Rattle.program.proofs.forms.hybrid_forms.Statement.{statement}
+use Rattle.program.proofs.forms.hybrid_forms.Tie as tie
+
+height-requires : tie.Need-height-requires
+height-requires c κs = search needs
+
+add-l : tie.Need-add-l
+add-l c = omega (arith, height-small (c .before .pre) (c .height .ensures))
+
+sub-l : tie.Need-sub-l
+sub-l c = search needs
+
+add-fibonacci-or-zero : tie.Need-add-fibonacci-or-zero
+add-fibonacci-or-zero c = omega (arith, height-small (c .before .pre) (c .height .ensures))
+
+fibonacci-or-zero-requires : tie.Need-fibonacci-or-zero-requires
+fibonacci-or-zero-requires c κs = search needs
+
+mul-bit-string : tie.Need-mul-bit-string
+mul-bit-string c = omega (arith, multiple-fits (c .before .before .pre) (c .before .height .ensures) (c .fibonacci-or-zero .ensures))
+
+bit-string-requires : tie.Need-bit-string-requires
+bit-string-requires c κs = search needs
+
+bit-string-requires-2 : tie.Need-bit-string-requires-2
+bit-string-requires-2 c κs = search needs
+
+cast-t18 : tie.Need-cast-t18
+cast-t18 c = search needs
+
+add-t19 : tie.Need-add-t19
+add-t19 c =
+    let a = c .before .before .before .before .before .before .before .before in
+    let v = multiple-fits (a .pre) (c .before .before .before .before .before .before .before .height .ensures) (c .before .before .before .before .before .before .fibonacci-or-zero .ensures) in
+    omega (arith, bits-of _ v (c .before .before .before .before .before .bit-string .ensures) .few, bits-of (a .args .inverse) (omega (arith, a .fits .inverse)) (c .before .before .before .before .bit-string2 .ensures) .few)
+
+returns : tie.Need-returns
+unfolding hybridForms
+returns c =
+    let a = c .before .before .before .before .before .before .before .before in
+    let h = c .before .before .before .before .before .before .before .height .ensures in
+    let K = bits-of (a .args .inverse) (omega (arith, a .fits .inverse)) (c .before .before .before .before .bit-string2 .ensures) in
+    let rows = hybrid-rows (a .pre) h (c .before .before .before .before .before .before .fibonacci-or-zero .ensures) (c .before .before .before .before .before .bit-string .ensures) K in
+    lone-rows Six (rows .0) (rows .1)
+
+pub hybrid-forms-spec : {M : Type 1} → statement M
+hybrid-forms-spec =
+    tie.close
+    (tie.spec
+    height-requires
+    add-l
+    sub-l
+    add-fibonacci-or-zero
+    fibonacci-or-zero-requires
+    mul-bit-string
+    bit-string-requires
+    bit-string-requires-2
+    cast-t18
+    add-t19
+    returns)
