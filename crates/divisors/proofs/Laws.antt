@@ -1,3 +1,5 @@
 -- Laws that belong to no one function, in reading order.
+pub mod Search
+pub mod Small
 pub mod Quotients
 pub mod Covering

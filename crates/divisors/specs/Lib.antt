@@ -1,3 +1,4 @@
--- Small divisors, in reading order.
+-- A bounded search and small divisors, in reading order.
+pub mod Search
 pub mod Small
 pub mod Inverted

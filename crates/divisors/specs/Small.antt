@@ -1,7 +1,9 @@
--- The small divisors of p, which the prime test asks for first.
-use mathlib.Core.Path.{_≡_}
-use mathlib.Core.Bool.{Bool, true, false}
-use Prim.Native.Nat.{ℕ, _≤_, _<_, _∣_}
+-- The small divisors of p, which the prime test asks for first: what one is, and the test whether there is one (`small-found` and
+-- `small-test` of proofs/Laws/Small say that they agree).
+use mathlib.Core.Bool.{Bool, _&&_}
+use Prim.Native.Nat.{ℕ, _-_, _≤_, _<_, _∣_}
+use lib.Dec.{leb, ltb}
+use Rattle.divisors.specs.Search.{greatest, divides}
 
 -- 2^14, the root of the first number that is too large for a modulus
 abbrev pub limit : ℕ
@@ -14,7 +16,6 @@ pub record SmallDivisor (p d : ℕ) : Type 0 where
   pub less : d < p
   pub divides : d ∣ p
 
--- `found` tells whether p has a small divisor
-pub record Tells (p : ℕ) (found : Bool) : Type 0 where
-  pub some : found ≡ true → (d : ℕ) × SmallDivisor p d
-  pub none : found ≡ false → (d : ℕ) → ¬ (SmallDivisor p d)
+-- the greatest number up to 2^14, and below p, that divides p is above 1
+unfoldable pub hasSmallDivisor : ℕ → Bool
+hasSmallDivisor p = ltb 1 (greatest (λ (d : ℕ). leb d limit && divides d p) (p - 1))

@@ -5,13 +5,13 @@ mod table;
 ghost use mathlib.Core.Path.{_≡_};
 ghost use Prim.Native.Nat.{_≤_};
 ghost use lib.ListN.{length};
-ghost use Rattle.divisors.specs.Small.{Tells};
+ghost use Rattle.divisors.specs.Small.{hasSmallDivisor};
 ghost use Rattle.divisors.specs.Inverted.{quotientBy, isQuotient, FirstAtMost, TellsOf};
 use table::INVERSES;
 
 // Whether a number from 2 to 2^14, other than p, divides p.
 pub fn has_small_divisor(p: u32) -> bool
-    ensures { λ r. ⌜ Tells p r ⌝ }
+    ensures { λ r. ⌜ r ≡ hasSmallDivisor p ⌝ }
 {
     if p % 2 == 0 {
         return 2 < p;

@@ -1,5 +1,4 @@
 -- Laws that belong to no one function, in reading order.
-pub mod Search
 pub mod Primes
 pub mod Residues
 pub mod Euclid

@@ -6,7 +6,7 @@ use Prim.Native.Nat.{ℕ, _*_, _-_, _%_, _≤_, _<_, _∣_}
 use lib.Dec.{leb, ltb, eqb}
 use Rattle.refusal.specs.declared.Refusal.the-variants.{Order, Exponent}
 use Rattle.refusal.specs.Outcomes.{Outcome, outcome, _given-if_}
-use Rattle.modular.specs.Search.{greatest, divides}
+use Rattle.divisors.specs.Search.{greatest, divides}
 
 -- no factor above 1 is shared
 pub record Coprime (a b : ℕ) : Type 0 where

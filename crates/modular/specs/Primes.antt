@@ -2,7 +2,7 @@
 use mathlib.Core.Bool.{Bool, _&&_}
 use Prim.Native.Nat.{ℕ, _-_, _≤_, _<_, _∣_}
 use lib.Dec.{leb, eqb}
-use Rattle.modular.specs.Search.{greatest, divides}
+use Rattle.divisors.specs.Search.{greatest, divides}
 
 -- at least 2, and no number between 1 and p divides it
 pub record Prime (p : ℕ) : Type 0 where

@@ -10,9 +10,10 @@ use native.Mathlib.Decide.{ℕ-discrete, decLt}
 use lib.Dec.{eqb, ltb}
 use lib.ListN.{length, getD}
 use borrow.Author.Tests.{eqb-true, ltb-true, ltb-false}
-use Rattle.divisors.specs.Small.{limit, SmallDivisor, Tells}
+use Rattle.divisors.specs.Small.{limit, SmallDivisor, hasSmallDivisor}
 use Rattle.divisors.specs.Inverted.{word, TellsOf}
 use Rattle.refusal.proofs.Laws.Tests.{by-test, both}
+use Rattle.divisors.proofs.Laws.Small.{small-told}
 
 -- the first of the numbers fs that divides e is from 2 to e - 1
 unfoldable pub dividedBy : List ℕ → ℕ → Bool
@@ -42,12 +43,11 @@ abbrev NoneListed : ℕ → ℕ → List ℕ → Type 0
 NoneListed p i xs = (k d : ℕ) → k < length xs → 2 * (i + k) + 5 ≤ d → d * getD xs k 0 % word ≡ 1 → ¬ (SmallDivisor p d)
 
 -- f, the least divisor above 1, is a small divisor where it is not p
-pub tells-least : (p f : ℕ) → 2 ≤ f → f ≤ limit → p % f ≡ 0 → NoneBelow p f → Tells p (ltb f p)
-tells-least p f low high whole below =
-    record {
-      some = λ e. (f, record { low = low; high = high; less = ltb-true f p e; divides = dvd-of-mod-eq-zero f whole });
-      none = λ e d s. below d (omega (arith, ltb-false f p e, s .less)) s;
-    }
+pub told-by-least : (p f : ℕ) → 2 ≤ f → f ≤ limit → p % f ≡ 0 → NoneBelow p f → ltb f p ≡ hasSmallDivisor p
+told-by-least p f low high whole below =
+    small-told p (ltb f p)
+    (λ e. (f, record { low = low; high = high; less = ltb-true f p e; divides = dvd-of-mod-eq-zero f whole }))
+    (λ e d s. below d (omega (arith, ltb-false f p e, s .less)) s)
 
 pub none-below-two : (p : ℕ) → NoneBelow p 2
 none-below-two p d high s = omega (arith, s .low)
@@ -118,12 +118,10 @@ module _ (p : ℕ) (odd : ¬ (p % 2 ≡ 0)) where
         | no not-three ↦ no-even d (omega (arith, s .low)) s
       ]
 
-  pub tells-covered : {xs : List ℕ} {found : Bool} → ¬ (p % 3 ≡ 0) → TellsOf xs p found → covers oddPrimes 8190 5 xs ≡ true → Tells p found
-  tells-covered {xs} other h t =
-      record {
-        some = h .some;
-        none = λ e d s.
-            walk oddPrimes 8190 5 0 xs t (omega arith) (omega arith)
-            (λ j n inside least inverse. h .none e j n (record { place = inside; least = omega arith; one = inverse }))
-            (none-below-five other) d (omega (arith, s .high)) s;
-      }
+  pub told-by-table : {xs : List ℕ} {found : Bool} → ¬ (p % 3 ≡ 0) → TellsOf xs p found → covers oddPrimes 8190 5 xs ≡ true → found ≡ hasSmallDivisor p
+  told-by-table {xs} {found} other h t =
+      small-told p found (h .some)
+      (λ e d s.
+      walk oddPrimes 8190 5 0 xs t (omega arith) (omega arith)
+      (λ j n inside least inverse. h .none e j n (record { place = inside; least = omega arith; one = inverse }))
+      (none-below-five other) d (omega (arith, s .high)) s)

@@ -3,15 +3,15 @@
 use mathlib.Core.Path.{refl}
 use native.Mathlib.Omega.{arith}
 use borrow.Author.Needs.{needs}
-use Rattle.divisors.proofs.Laws.Covering.{dividedBy, covers, tells-least, none-below-two, none-below-three, tells-covered}
+use Rattle.divisors.proofs.Laws.Covering.{dividedBy, covers, told-by-least, none-below-two, none-below-three, told-by-table}
 use Rattle.divisors.proofs.has_small_divisor.Statement.{statement}
 use Rattle.divisors.proofs.has_small_divisor.Tie as tie
 
 returns : tie.Need-returns
-returns c = tells-least _ 2 (omega arith) (omega arith) (c .if1 .taken) (none-below-two _)
+returns c = told-by-least _ 2 (omega arith) (omega arith) (c .if1 .taken) (none-below-two _)
 
 returns-2 : tie.Need-returns-2
-returns-2 c = tells-least _ 3 (omega arith) (omega arith) (c .if2 .taken) (none-below-three _ (c .before .if1 .left))
+returns-2 c = told-by-least _ 3 (omega arith) (omega arith) (c .if2 .taken) (none-below-three _ (c .before .if1 .left))
 
 slice-aggregate-has-divisor-of : tie.Need-slice-aggregate-has-divisor-of
 slice-aggregate-has-divisor-of c = search needs
@@ -21,7 +21,7 @@ has-divisor-of-requires c κs = search needs
 
 returns-3 : tie.Need-returns-3
 unfolding covers dividedBy
-returns-3 c = tells-covered _ (c .before .before .before .if1 .left) (c .before .before .if2 .left) (c .has-divisor-of .ensures) refl
+returns-3 c = told-by-table _ (c .before .before .before .if1 .left) (c .before .before .if2 .left) (c .has-divisor-of .ensures) refl
 
 pub has-small-divisor-spec : {M : Type 1} → statement M
 has-small-divisor-spec =

@@ -8,11 +8,11 @@ use native.Mathlib.Nat.{dvd-mod-iff, dvd-mul-right-of-dvd, dvd-of-mod-eq-zero, e
 use native.Mathlib.Omega.{arith}
 use lib.Dec.{leb, ltb, eqb}
 use borrow.Author.Tests.{eqb-true, eqb-false, eq-eqb, ne-eqb, leb-false, lt-leb, ltb-false, le-ltb}
-use Rattle.modular.specs.Search.{divides}
+use Rattle.divisors.specs.Search.{divides}
 use Rattle.modular.specs.Residues.{Residue}
 use Rattle.modular.specs.Inverses.{Coprime, gcd, Inverse, inverse, badExponent}
 use Rattle.refusal.proofs.Laws.Tests.{test-true, both, neither}
-use Rattle.modular.proofs.Laws.Search.{greatest-at-most, greatest-passes, greatest-most, greatest-is, greatest-same}
+use Rattle.divisors.proofs.Laws.Search.{greatest-at-most, greatest-passes, greatest-most, greatest-is, greatest-same}
 use Rattle.modular.proofs.Laws.Residues.{mul-mod-left, mul-mod-right}
 use Rattle.modular.proofs.Laws.Ends.{coprime-inverse}
 

@@ -9,12 +9,13 @@ use native.Mathlib.Omega.{arith}
 use native.Mathlib.Decide.{ℕ-discrete, decLe, decLt}
 use lib.Dec.{leb, eqb}
 use borrow.Author.Tests.{eqb-true, eq-eqb, leb-true, le-leb}
-use Rattle.divisors.specs.Small.{limit, SmallDivisor, Tells}
+use Rattle.divisors.specs.Small.{limit, SmallDivisor, hasSmallDivisor}
+use Rattle.divisors.proofs.Laws.Small.{small-found, small-none}
 use Rattle.divisors.proofs.Laws.Quotients.{cofactor-two}
-use Rattle.modular.specs.Search.{greatest, divides}
+use Rattle.divisors.specs.Search.{greatest, divides}
 use Rattle.modular.specs.Primes.{Prime, isPrime}
 use Rattle.refusal.proofs.Laws.Tests.{test-false, both}
-use Rattle.modular.proofs.Laws.Search.{greatest-most, greatest-is}
+use Rattle.divisors.proofs.Laws.Search.{greatest-most, greatest-is}
 
 pub prime-test : (p : ℕ) → isPrime p ≡ true → Prime p
 unfolding isPrime
@@ -121,17 +122,17 @@ module _ (p : ℕ) (odd : ¬ (p % 2 ≡ 0)) (other : ¬ (p % 3 ≡ 0)) where
           ]
 
 -- by the table of small divisors, of a p above them
-pub small-divisor-composite : (p : ℕ) → Tells p true → isPrime p ≡ false
-small-divisor-composite p t =
-    let found : (d : ℕ) × SmallDivisor p d = t .some refl in
+pub small-divisor-composite : (p : ℕ) → hasSmallDivisor p ≡ true → isPrime p ≡ false
+small-divisor-composite p e =
+    let found : (d : ℕ) × SmallDivisor p d = small-found p e in
     divisor-composite p (found .0) (found .1 .low) (found .1 .less) (found .1 .divides)
 
-pub tried-small : (p : ℕ) → limit < p → Tells p false → Tried p (limit + 1)
-tried-small p above t =
+pub tried-small : (p : ℕ) → limit < p → hasSmallDivisor p ≡ false → Tried p (limit + 1)
+tried-small p above none =
     record {
       five = refl;
       low = omega arith;
-      none = λ e low high h. t .none refl e (record { low = low; high = omega arith; less = omega arith; divides = h });
+      none = λ e low high h. small-none p none e (record { low = low; high = omega arith; less = omega arith; divides = h });
     }
 
 -- past the root everything that matters is tried

@@ -10,7 +10,7 @@ use Rattle.refusal.specs.Refusals.{numberOf}
 use Rattle.refusal.specs.Outcomes.{refused, answered, gives, passes, answers}
 use Rattle.refusal.proofs.Laws.Rules.{passed, answer-is}
 use Rattle.modular.specs.Inverses.{inverse, badExponent, inverseOutcome}
-use Rattle.modular.proofs.Laws.Search.{greatest-at-most}
+use Rattle.divisors.proofs.Laws.Search.{greatest-at-most}
 
 pub order-refused : (k r : ℕ) → r < 2 → inverseOutcome k r ≡ refused (numberOf Order)
 unfolding inverseOutcome

@@ -1,6 +1,6 @@
 -- `is_prime` meets its contract. The loop's invariant: nothing from 2 up to d, which leaves 5 modulo 6, divides p. While d is at
 -- most the root, 5 * d is at most p, so d + 6 fits and d + 2 is below p.
-use mathlib.Core.Path.{sym}
+use mathlib.Core.Path.{sym, _∙_}
 use mathlib.Core.Logic.{⊎-elim}
 use Prim.Native.Nat.{_-_, _*_, _≤_, _<_}
 use native.Mathlib.Nat.{dvd-of-mod-eq-zero, mul-le-mul-right}
@@ -37,12 +37,12 @@ has-small-divisor-requires : tie.Need-has-small-divisor-requires Inv-loop μ-loo
 has-small-divisor-requires c κs = search needs
 
 returns-5 : tie.Need-returns-5 Inv-loop μ-loop
-returns-5 c = sym (small-divisor-composite _ (rw (c .if6 .taken) at (c .before .has-small-divisor .ensures)))
+returns-5 c = sym (small-divisor-composite _ (sym (c .before .has-small-divisor .ensures) ∙ c .if6 .taken))
 
 loop-holds : tie.Need-loop-holds Inv-loop μ-loop
 loop-holds c =
     ⊎-elim
-    (λ w. rw (w .3) (omega arith, tried-small _ (omega arith) (rw (w .2 .left) at (w .1 .ensures))))
+    (λ w. rw (w .3) (omega arith, tried-small _ (omega arith) (sym (w .1 .ensures) ∙ w .2 .left)))
     (λ w. rw (w .1) (omega arith, tried-start _ (c .before .before .if3 .left) (c .before .if4 .left)))
     (c .if5 .came)
 

@@ -1,4 +1,4 @@
--- A bounded search, by which the tests and numbers of this layer are defined.
+-- A bounded search, by which the tests and numbers of this layer and the next are defined.
 use mathlib.Core.Bool.{Bool, true, false}
 use Prim.Native.Nat.{ℕ, zero, suc, _%_}
 use lib.Dec.{eqb}

@@ -6,7 +6,7 @@ use Prim.Native.Nat.{ℕ, zero, suc, _≤_, _<_}
 use native.Mathlib.Nat.{eq-or-lt-of-le, eq-zero-or-pos}
 use native.Mathlib.Omega.{arith}
 use mathlib.Core.Logic.{⊎-elim}
-use Rattle.modular.specs.Search.{greatest}
+use Rattle.divisors.specs.Search.{greatest}
 use Rattle.refusal.proofs.Laws.Tests.{by-test}
 
 found : (f : ℕ → Bool) (n : ℕ) → f (suc n) ≡ true → greatest f (suc n) ≡ suc n
