@@ -9,6 +9,7 @@ use Rattle.fibonacci.specs.Fibonacci.{fib}
 use Rattle.fibonacci.specs.Forms.{places, zeckendorf}
 use Rattle.fibonacci.specs.Hofstadter.{G}
 use Rattle.fibonacci.specs.Height.{height, oddHeight}
+use Rattle.tape.specs.declared.Step.{Step}
 use Rattle.machine.specs.Machine.{run, start}
 use Rattle.machine.specs.Exponents.{exponentsAt}
 use Rattle.named.specs.Named.{namedSteps}
@@ -24,13 +25,17 @@ numbers ns = map pos ns
 abbrev pub number : ℕ → List ℤ
 number n = pos n ∷ []
 
+-- from the start to the end of a program
+abbrev pub runWhole : ℕ → List Step → List ℕ → List ℕ
+runWhole p xs v = run p xs 0 (length xs) v
+
 abbrev pub starred : List Figure
 starred =
     -- p = 7, r = 3, k = 2, a = 2, basic: 19 steps, ends (1, 4, 1, 1)
     record { given = number (length (namedSteps 1 3 2)); stated = number 19 }
-    ∷ record { given = numbers (run 7 (namedSteps 1 3 2) 0 19 (start 2)); stated = numbers (1 ∷ 4 ∷ 1 ∷ 1 ∷ []) }
+    ∷ record { given = numbers (runWhole 7 (namedSteps 1 3 2) (start 2)); stated = numbers (1 ∷ 4 ∷ 1 ∷ 1 ∷ []) }
     -- case A with a = 2 ends (1, 2, 1, 1)
-    ∷ record { given = numbers (run 3 (namedSteps 1 2 1) 0 11 (start 2)); stated = numbers (1 ∷ 2 ∷ 1 ∷ 1 ∷ []) }
+    ∷ record { given = numbers (runWhole 3 (namedSteps 1 2 1) (start 2)); stated = numbers (1 ∷ 2 ∷ 1 ∷ 1 ∷ []) }
     -- r = 179, k = 76: K = 106; v = 10944, G(v) = 6764
     ∷ record { given = number (inverse 179 76); stated = number 106 }
     ∷ record { given = number (76 * fib (suc (oddHeight 179))); stated = number 10944 }
