@@ -1,15 +1,16 @@
 /*
  * The C interface: writing and running tapes of targeted Fibonacci exponentiation. Link it with
- * target/staticlib/libcapi.a, which `rt staticlib capi` writes.
+ * target/staticlib/libcapi.a, which `rt staticlib capi` writes; the archive is for x86-64 Linux, and the C library is
+ * all that it needs.
  *
  * Each service but fibexp_hofstadter and fibexp_height, which refuse nothing, answers the number of the first refusal
  * that applies, or FIBEXP_OK. It writes through its pointers on FIBEXP_OK only; fibexp_listing alone writes the line of
  * a refused tape too. Refusals are listed in the order in which they are tested. fibexp_reply and fibexp_reads are the
  * command-line tool over these services.
  *
- * The caller keeps to what a C declaration cannot say. A row is a pointer and a count of elements; the pointer isn't
- * null, not even where the count is 0, and it is aligned for its elements. What a function writes overlaps nothing else
- * that it is given, and no other thread touches any of it during the call.
+ * The caller keeps to what a C declaration cannot say. No pointer is null, not even that of a row of 0 elements, and
+ * each is aligned for what it points to. A row is a pointer and a count of elements, and has that many. What a function
+ * writes overlaps nothing else that it is given, and no other thread touches any of it during the call.
  */
 #ifndef FIBEXP_H
 #define FIBEXP_H
@@ -20,6 +21,9 @@
 #ifdef __cplusplus
 extern "C" {
 #endif
+
+/* The version, as the verb `version` of the tool prints it. */
+#define FIBEXP_VERSION "1.0.0"
 
 /* The refusals. */
 enum fibexp_refusal {
@@ -114,8 +118,8 @@ uint32_t fibexp_cut(const uint32_t *tape, size_t words, uint32_t first, uint32_t
 /*
  * The listing of a tape that is given as bytes, least significant byte of a word first. Writes *written and that many
  * bytes; those past them stay. The listing of a refused tape is the line "refused N": it is written too, and N is
- * answered. LENGTH is also for bytes that aren't whole words; else N is of fibexp_check. ROOM where the listing doesn't
- * fit: then nothing is written.
+ * answered. Refusals: ROOM before all others, where the listing or that line doesn't fit, and then nothing is written;
+ * LENGTH, also for bytes that aren't whole words; those of fibexp_check.
  */
 uint32_t fibexp_listing(const uint8_t *bytes, size_t count, uint8_t *lines, size_t room, uint32_t *written);
 
