@@ -1,4 +1,5 @@
--- Another tape at hand, what each verb of a script does, a line by what it is, what is put into a room, and lines one after another.
+-- Another tape at hand, what each verb of a script does, a line by what it is, what is put into a room, lines one after
+-- another, and a line of each verb.
 pub mod Tapes
 pub mod Edits
 pub mod Equals
@@ -7,3 +8,4 @@ pub mod Judging
 pub mod Rooms
 pub mod Commands
 pub mod Folding
+pub mod Examples
