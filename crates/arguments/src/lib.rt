@@ -22,9 +22,6 @@ use tool::TABLE;
 use verbs::is_hidden;
 use verbs::is_variant;
 
-// How many variants have a name.
-const VARIANTS: usize = 4;
-
 // What the words ask for, in a script or outside, with its parameters.
 pub fn understand(arguments: &[u8], in_script: bool) -> CommandLine
     ensures { λ r. ⌜ Understood in_script (wordsOf (now (arguments .entry))) (r .call) (r .values) ⌝ }
@@ -99,7 +96,7 @@ fn variant(word: &[u8]) -> Parsed
     ensures { λ r. ⌜ r ≡ variantIn (now (word .entry)) ⌝ }
 {
     let variant = find(word, &VARIANT_NAMES);
-    if variant < VARIANTS {
+    if variant < word_count(&VARIANT_NAMES) {
         return Parsed::Number(variant as u64);
     }
     number(word, LARGEST_32)

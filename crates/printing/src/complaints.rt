@@ -7,6 +7,7 @@ use text::put_number;
 use text::put_number_then;
 use text::put_quoted;
 use text::put_then;
+use tool::NO_VARIANT;
 use tool::Row;
 use tool::USAGE;
 use verbs::is_variant;
@@ -73,12 +74,7 @@ pub fn put_unread(row: &mut [u8], word: &[u8], verb: Row, place: usize) -> usize
     let b = put_quoted(row, a, word);
     let asked = verb.verb;
     if is_variant(asked, place) {
-        return put_then(
-            row,
-            b,
-            b": no variant; basic, dual, hybrid or 1 to 3",
-            NEWLINE,
-        );
+        return put_then(row, b, &NO_VARIANT, NEWLINE);
     }
     let c = put(row, b, b": not a whole number from 0 to ");
     put_number_then(row, c, verb.largest, NEWLINE)

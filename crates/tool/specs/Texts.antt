@@ -4,7 +4,7 @@ use mathlib.Core.List.{List, [], _∷_, _++_, map}
 use Prim.Native.Nat.{ℕ}
 use lib.Dec.{eqb}
 use lib.IntN.{ℤ}
-use lib.ListN.{getD}
+use lib.ListN.{getD, drop}
 use Rattle.refusal.specs.Reasons.{reasons, ownReasons}
 use Rattle.text.specs.Text.{ascii, decimal, whole, newline, line, numberLine, numbersLine}
 use Rattle.text.specs.Quoting.{quoted}
@@ -12,6 +12,7 @@ use Rattle.tape.specs.declared.Step.{Step}
 use Rattle.tape.specs.declared.Step.the-variants.{Mul, Div, Swp}
 use Rattle.tape.specs.declared.Decoded.{Decoded}
 use Rattle.tape.specs.declared.Decoded.the-variants.{Heading, P, R, K, Action, End, Bad}
+use Rattle.named.specs.Named.{lastVariant, variantNames}
 use Rattle.tool.specs.declared.Row.{Row}
 use Rattle.tool.specs.Verbs.{isVariant}
 
@@ -68,10 +69,20 @@ unfoldable pub wrongCountLine : List ℕ → Row → ℕ → List ℕ
 wrongCountLine name row given =
     ascii "fibexp: " ++ name ++ ascii " takes " ++ countText (row .least) (row .most) ++ ascii ", " ++ decimal given ++ ascii " given" ++ newline ∷ []
 
+-- names with a comma between
+unfoldable pub listed : List (List ℕ) → List ℕ
+listed [] = []
+listed (name ∷ []) = name
+listed (name ∷ next ∷ names) = name ++ ascii ", " ++ listed (next ∷ names)
+
+-- the variants that build takes, by name and by number
+unfoldable pub variantsText : List ℕ
+variantsText = listed (drop 1 variantNames) ++ ascii " or 1 to " ++ decimal lastVariant
+
 -- a word that isn't read as the parameter of its place
 unfoldable pub unreadText : Row → ℕ → List ℕ
 unreadText row place =
-    cond (isVariant (row .verb) place) (ascii ": no variant; basic, dual, hybrid or 1 to 3") (ascii ": not a whole number from 0 to " ++ decimal (row .largest))
+    cond (isVariant (row .verb) place) (ascii ": no variant; " ++ variantsText) (ascii ": not a whole number from 0 to " ++ decimal (row .largest))
 
 unfoldable pub unreadLine : List ℕ → Row → ℕ → List ℕ
 unreadLine word row place = ascii "fibexp: " ++ quoted word ++ unreadText row place ++ newline ∷ []
@@ -88,7 +99,7 @@ unfoldable pub usage : List ℕ
 usage =
     lines
     (ascii "usage: fibexp VERB PARAMETER.."
-    ∷ ascii "  build P R K VARIANT    write a tape; VARIANT is basic, dual, hybrid or 1 to 3"
+    ∷ (ascii "  build P R K VARIANT    write a tape; VARIANT is " ++ variantsText)
     ∷ ascii "  script                 commands from standard input, one on a line"
     ∷ ascii "on the tape from standard input:"
     ∷ ascii "  check                  0 where the tape is accepted"

@@ -335,5 +335,8 @@ pub const TABLE: [Row; ROWS] = [
     },
 ];
 
+// What is said of a word that is no variant.
+pub const NO_VARIANT: [u8; 43] = *b": no variant; basic, dual, hybrid or 1 to 3";
+
 pub const USAGE: [u8; 1311] =
     *b"usage: fibexp VERB PARAMETER..\n  build P R K VARIANT    write a tape; VARIANT is basic, dual, hybrid or 1 to 3\n  script                 commands from standard input, one on a line\non the tape from standard input:\n  check                  0 where the tape is accepted\n  list                   the tape's listing\n  load BASE              the four registers to start from\n  run C D E F FROM TO    the four registers at position TO\n  power BASE             load and run: register 1 (a named program's power), the registers\n  trace POSITION         the four whole exponents\n  cut FIRST LAST         the words of the steps FIRST + 1 to LAST\n  play C D E F REQUEST.. a list of runs, each BEGIN END FROM TO: the registers at its end\non numbers:\n  decode WORD            what a tape's word means\n  fibonacci I            the Fibonacci number of index I\n  places N               the places of the Zeckendorf form of N, highest first\n  number PLACE..         the number of these places\n  hofstadter N           G(N)\n  inverse K R            the inverse of K modulo R\n  height R               the least h above 0 with R below phi^h\n  prime N                1 where N is a prime, else 0\n  mulmod A B M           A times B modulo M\n  powmod A K M           A to the K modulo M\n  help, version          this text; the version\n";

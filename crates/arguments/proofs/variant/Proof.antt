@@ -1,6 +1,7 @@
 -- `variant` meets its contract: a name's index is its variant; any other word is read as a number.
 use mathlib.Core.Path.{_≡_}
 use native.Mathlib.Omega.{arith}
+use lib.ListN.{length}
 use borrow.Author.Tests.{lt-ltb, le-ltb}
 use Rattle.text.specs.Reading.{wordsOf}
 use Rattle.named.specs.Named.{variantNames}
@@ -14,22 +15,36 @@ index : (c : tie.After-find) → c .find .result ≡ indexIn (c .before .before 
 unfolding wordsOf
 index c = c .find .ensures
 
+count : (c : tie.After-word-count) → c .word-count .result ≡ length variantNames
+unfolding wordsOf
+count c = c .word-count .ensures
+
 slice-aggregate-find : tie.Need-slice-aggregate-find
 slice-aggregate-find c = search needs
 
 find-requires : tie.Need-find-requires
 find-requires c κs = search needs
 
+slice-aggregate-word-count : tie.Need-slice-aggregate-word-count
+slice-aggregate-word-count c = search needs
+
+word-count-requires : tie.Need-word-count-requires
+word-count-requires c κs = search needs
+
 returns : tie.Need-returns
 unfolding variantIn
-returns c = rw (← index (c .before), lt-ltb (c .before .find .result) 4 (omega arith))
+returns c =
+    let found = c .before .before .before in
+    rw (← index found, lt-ltb (found .find .result) (length variantNames) (omega (arith, count (c .before))))
 
 number-requires : tie.Need-number-requires
 number-requires c κs = search needs
 
 returns-2 : tie.Need-returns-2
 unfolding variantIn
-returns-2 c = rw (← index (c .before .before), le-ltb (c .before .before .find .result) 4 (omega arith)) (c .number .ensures)
+returns-2 c =
+    let found = c .before .before .before .before in
+    rw (← index found, le-ltb (found .find .result) (length variantNames) (omega (arith, count (c .before .before)))) (c .number .ensures)
 
 pub variant-spec : {M : Type 1} → statement M
 variant-spec =
@@ -37,6 +52,8 @@ variant-spec =
     (tie.spec
     slice-aggregate-find
     find-requires
+    slice-aggregate-word-count
+    word-count-requires
     returns
     number-requires
     returns-2)

@@ -9,13 +9,13 @@ use lib.ListN.{length, getD, length-append}
 use borrow.Author.Tests.{leb-true}
 use Rattle.refusal.specs.Reasons.{reasons, ownReasons}
 use Rattle.refusal.proofs.Laws.Tests.{both}
-use Rattle.text.specs.Text.{ascii, decimal, newline}
+use Rattle.text.specs.Text.{ascii, decimalWithin, decimal, newline}
 use Rattle.text.specs.Quoting.{quoted}
 use Rattle.text.proofs.Laws.Decimal.{decimal-32, decimal-64}
 use Rattle.text.proofs.Laws.Quoting.{quoted-most}
 use Rattle.tool.specs.declared.Row.{Row}
 use Rattle.tool.specs.Verbs.{isVariant}
-use Rattle.tool.specs.Texts.{reasonFor, refusalLine, noVerbLine, fromText, countText, wrongCountLine, unreadText, unreadLine, lines, usage}
+use Rattle.tool.specs.Texts.{reasonFor, refusalLine, noVerbLine, fromText, countText, wrongCountLine, listed, variantsText, unreadText, unreadLine, lines, usage}
 use Rattle.tool.specs.Rows.{mostText, longestName}
 
 -- of two texts, by a test
@@ -120,11 +120,15 @@ wrong-count-most name row given short h k g =
       decimal-64 given g,
     )
 
-unread-text-most : (row : Row) (place : ℕ) → row .largest < 18446744073709551616 → length (unreadText row place) ≤ 60
+no-variant-most : length (ascii ": no variant; " ++ variantsText) ≤ 100
+unfolding variantsText listed decimal decimalWithin
+no-variant-most = leb-true (length (ascii ": no variant; " ++ variantsText)) 100 refl
+
+unread-text-most : (row : Row) (place : ℕ) → row .largest < 18446744073709551616 → length (unreadText row place) ≤ 100
 unfolding unreadText
 unread-text-most row place h =
     let before = ascii ": not a whole number from 0 to " in
-    either-most (isVariant (row .verb) place) (ascii ": no variant; basic, dual, hybrid or 1 to 3") (before ++ decimal (row .largest)) 60 (omega arith)
+    either-most (isVariant (row .verb) place) (ascii ": no variant; " ++ variantsText) (before ++ decimal (row .largest)) 100 no-variant-most
     (omega (arith, length-append before (decimal (row .largest)), decimal-64 (row .largest) h))
 
 pub unread-most : (word : List ℕ) (row : Row) (place : ℕ) → row .largest < 18446744073709551616 → length (unreadLine word row place) ≤ mostText
@@ -142,5 +146,5 @@ unread-most word row place h =
     )
 
 pub usage-most : length usage ≤ mostText
-unfolding usage lines
+unfolding usage lines variantsText listed decimal decimalWithin
 usage-most = leb-true (length usage) mostText refl

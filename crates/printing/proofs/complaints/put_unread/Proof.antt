@@ -1,9 +1,9 @@
 -- `complaints::put_unread` meets its contract: its parts one after another, by what the parameter of the place is.
 use mathlib.Core.Path.{sym, _∙_}
 use mathlib.Core.List.{[], _∷_, _++_}
-use Rattle.text.specs.Text.{ascii, decimal, newline}
+use Rattle.text.specs.Text.{ascii, decimalWithin, decimal, newline}
 use Rattle.text.proofs.Laws.Puts.{puts-join}
-use Rattle.tool.specs.Texts.{unreadText, unreadLine}
+use Rattle.tool.specs.Texts.{listed, variantsText, unreadText, unreadLine}
 use Rattle.printing.proofs.Laws.Parts.{puts-then}
 use borrow.Author.Needs.{needs}
 use Rattle.printing.proofs.complaints.put_unread.Statement.{statement}
@@ -31,10 +31,10 @@ same-length : tie.Need-same-length
 same-length c = search needs
 
 returns : tie.Need-returns
-unfolding unreadText unreadLine
+unfolding unreadText unreadLine variantsText listed decimal decimalWithin
 returns c =
     rw (sym (c .before .before .before .before .before .before .is-variant .ensures) ∙ c .before .before .before .before .before .if1 .taken)
-    (puts-then (ascii ": no variant; basic, dual, hybrid or 1 to 3") (newline ∷ []) (puts-join (c .before .before .before .before .before .before .before .before .before .before .before .before .before .put .ensures) (c .before .before .before .before .before .before .before .before .before .put-quoted .ensures)) (c .before .before .put-then .ensures))
+    (puts-then (ascii ": no variant; " ++ variantsText) (newline ∷ []) (puts-join (c .before .before .before .before .before .before .before .before .before .before .before .before .before .put .ensures) (c .before .before .before .before .before .before .before .before .before .put-quoted .ensures)) (c .before .before .put-then .ensures))
 
 slice-aggregate-put-2 : tie.Need-slice-aggregate-put-2
 slice-aggregate-put-2 c = search needs
