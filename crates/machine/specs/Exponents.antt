@@ -1,13 +1,12 @@
 -- Document 01, "Services and refusals", trace: each register's whole exponent, unreduced, minus signs kept.
-use mathlib.Core.Bool.{Bool, true, not, _&&_}
+use mathlib.Core.Bool.{Bool, true, cond, _&&_}
 use mathlib.Core.List.{List, [], _∷_}
 use Prim.Native.Nat.{ℕ, suc, _-_, _%_, _^_}
 use lib.IntN.{ℤ, pos, negsuc, negℤ, _+ℤ_, _-ℤ_}
 use lib.ListN.{getD, set, take}
 use lib.Signed.{leZ}
-use Rattle.refusal.specs.declared.Refusal.the-variants.{Range}
 use Rattle.refusal.specs.Refusals.{numberOf}
-use Rattle.refusal.specs.Outcomes.{Outcome, refused, answered, outcome, _given-if_}
+use Rattle.refusal.specs.Outcomes.{Outcome, refused, answered}
 use Rattle.modular.specs.Inverses.{inverse}
 use Rattle.tape.specs.declared.Step.{Step}
 use Rattle.tape.specs.declared.Step.the-variants.{Mul, Div, Swp}
@@ -22,6 +21,10 @@ exponentsOf exponents = exponents .c ∷ exponents .d ∷ exponents .e ∷ expon
 -- the exponent of register i
 abbrev pub exponent : List ℤ → ℕ → ℤ
 exponent z i = getD z i (pos 0)
+
+-- the first four of some exponents
+abbrev pub firstExponents : List ℤ → List ℤ
+firstExponents z = exponent z 0 ∷ exponent z 1 ∷ exponent z 2 ∷ exponent z 3 ∷ []
 
 -- mul: the source's exponent is added to the target's; div: it is subtracted; swp: the two are exchanged
 unfoldable pub shift : Step → List ℤ → List ℤ
@@ -55,13 +58,15 @@ unfoldable pub staysInRange : List Step → List ℤ → Bool
 staysInRange [] z = allInRange z
 staysInRange (x ∷ xs) z = allInRange z && staysInRange xs (shift x z)
 
--- the exponents with y added to that of register i; refusal 12 where the sum leaves the range
-unfoldable pub addOutcome : List ℤ → ℕ → ℤ → Outcome (List ℤ)
-addOutcome z i y = let x = exponent z i +ℤ y in outcome ((Range given-if not (inRange x)) ∷ []) (set z i x)
+-- the number that a step makes is in the range: the sum of a mul, the difference of a div; an exchange makes none
+unfoldable pub makesInRange : Step → List ℤ → Bool
+makesInRange (Mul t s) z = inRange (exponent z t +ℤ exponent z s)
+makesInRange (Div t s) z = inRange (exponent z t -ℤ exponent z s)
+makesInRange (Swp t s) z = true
 
--- the exponents after the steps of a list; refusal 12 where one of them leaves the range at any position
-unfoldable pub shiftOutcome : List Step → List ℤ → Outcome (List ℤ)
-shiftOutcome xs z = outcome ((Range given-if not (staysInRange xs z)) ∷ []) (shiftAll xs z)
+-- a step that is done where the number it makes is in the range
+unfoldable pub shiftInRange : Step → List ℤ → List ℤ
+shiftInRange x z = cond (makesInRange x z) (shift x z) z
 
 -- the outcome that a `Trace` of the code stands for
 abbrev pub tracedOf : Trace → Outcome (List ℤ)

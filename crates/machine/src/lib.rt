@@ -5,17 +5,17 @@ ghost use mathlib.Core.Path.{_≡_};
 ghost use mathlib.Core.List.{[], _∷_};
 ghost use lib.ListN.{set};
 ghost use Rattle.modular.specs.Residues.{times};
-ghost use Rattle.machine.specs.Machine.{valuesOf, reg, apply, opposite};
+ghost use Rattle.machine.specs.Machine.{valuesOf, reg, opposite};
 ghost use Rattle.machine.specs.Carried.{firstFour, inverses, applyWith};
-ghost use Rattle.machine.specs.Exponents.{exponentsOf, shiftOutcome, tracedOf};
+ghost use Rattle.machine.specs.Exponents.{exponentsOf, firstExponents, makesInRange, shiftInRange};
 use modular::inverse_or_zero;
 use modular::product;
 use refusal::Refusal;
 use tape::Step;
-use whole::add;
-use whole::are_in_range;
 use whole::exponent;
-use whole::with_exponent;
+use whole::is_difference_in_range;
+use whole::is_sum_in_range;
+use whole::set_exponent;
 
 // The registers 0 to 3 under the source's names.
 pub struct Registers {
@@ -58,6 +58,18 @@ pub fn registers_of(values: &[u32]) -> Registers
     }
 }
 
+// The first four of some exponents; 0 stands for one that is missing.
+pub fn exponents_of(exponents: &[i64]) -> Exponents
+    ensures { λ r. ⌜ exponentsOf r ≡ firstExponents (now (exponents .entry)) ⌝ }
+{
+    Exponents {
+        c: exponent(exponents, 0),
+        d: exponent(exponents, 1),
+        e: exponent(exponents, 2),
+        f: exponent(exponents, 3),
+    }
+}
+
 // The inverses of the registers; 0 where there is none.
 pub fn inverses(registers: Registers, p: u32) -> [u32; 4]
     ensures { λ r. ⌜ r ≡ inverses p (valuesOf registers) ⌝ }
@@ -68,16 +80,6 @@ pub fn inverses(registers: Registers, p: u32) -> [u32; 4]
         inverse_or_zero(registers.e, p),
         inverse_or_zero(registers.f, p),
     ]
-}
-
-// A step done. It is defined for every p and every pair of numbers, as `apply` is; a tape holds only registers 0 to 3.
-pub fn apply(registers: Registers, p: u32, step: Step) -> Registers
-    ensures { λ r. ⌜ valuesOf r ≡ apply p step (valuesOf registers) ⌝ }
-{
-    let mut values = values_of(registers);
-    let mut beside = inverses(registers, p);
-    apply_with(&mut values, &mut beside, p, step);
-    registers_of(&values)
 }
 
 // A step done on values whose inverses stand beside them, so that a division is a product, and on the inverses, so that they remain
@@ -117,26 +119,37 @@ pub fn opposite(step: Step) -> Step
     }
 }
 
-// A step on whole exponents: 12 where one of them is outside the range, before the step or after it.
-pub fn shift(exponents: Exponents, step: Step) -> Trace
-    ensures { λ r. ⌜ tracedOf r ≡ shiftOutcome (step ∷ []) (exponentsOf exponents) ⌝ }
+// A step on whole exponents, in place: whether the number that it makes is in the range. Where it isn't, nothing changes. The other
+// exponents are not looked at: a step leaves them as they are.
+pub fn shift(exponents: &mut [i64], step: Step) -> bool
+    ensures { λ inside. ⌜ inside ≡ makesInRange step (now (exponents .entry)) ⌝ }
+    ensures { λ _. ⌜ now (exponents .exit) ≡ shiftInRange step (now (exponents .entry)) ⌝ }
 {
-    if !are_in_range(exponents) {
-        return Trace::Refused(Refusal::Range);
-    }
     match step {
         Step::Mul(t, s) => {
+            let x = exponent(exponents, t);
             let y = exponent(exponents, s);
-            add(exponents, t, y)
+            if !is_sum_in_range(x, y) {
+                return false;
+            }
+            set_exponent(exponents, t, x + y);
+            true
         }
         Step::Div(t, s) => {
+            let x = exponent(exponents, t);
             let y = exponent(exponents, s);
-            add(exponents, t, -y)
+            if !is_difference_in_range(x, y) {
+                return false;
+            }
+            set_exponent(exponents, t, x - y);
+            true
         }
         Step::Swp(t, s) => {
             let x = exponent(exponents, t);
             let y = exponent(exponents, s);
-            Trace::At(with_exponent(with_exponent(exponents, t, y), s, x))
+            set_exponent(exponents, t, y);
+            set_exponent(exponents, s, x);
+            true
         }
     }
 }

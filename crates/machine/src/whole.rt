@@ -1,109 +1,63 @@
-// Four whole exponents and their range.
+// Whole exponents in a row, and their range.
 ghost use mathlib.Core.Path.{_≡_};
-ghost use mathlib.Core.Bool.{true};
-ghost use lib.IntN.{_+ℤ_};
+ghost use lib.IntN.{_+ℤ_, _-ℤ_};
 ghost use lib.ListN.{set};
-ghost use Rattle.machine.specs.Exponents.{exponentsOf, exponent, inRange, allInRange, addOutcome, tracedOf};
-use crate::Exponents;
-use crate::Trace;
-use refusal::Refusal;
+ghost use Rattle.machine.specs.Exponents.{exponent, inRange};
 
 // The range is from -2^62 to 2^62, both among them.
 const LOWEST: i64 = -(1 << 62);
 
 const HIGHEST: i64 = 1 << 62;
 
-// The exponent of a register; past the four there is none, and 0 stands for it.
-pub(crate) fn exponent(exponents: Exponents, i: u32) -> i64
-    ensures { λ x. ⌜ x ≡ exponent (exponentsOf exponents) i ⌝ }
+// The exponent of a register; past the last there is none, and 0 stands for it.
+pub(crate) fn exponent(exponents: &[i64], i: u32) -> i64
+    ensures { λ x. ⌜ x ≡ exponent (now (exponents .entry)) i ⌝ }
 {
-    match i {
-        0 => exponents.c,
-        1 => exponents.d,
-        2 => exponents.e,
-        3 => exponents.f,
-        _ => 0,
+    let at = i as usize;
+    if at < exponents.len() {
+        return exponents[at];
+    }
+    0
+}
+
+// One exponent changed; past the last there is none to change.
+pub(crate) fn set_exponent(exponents: &mut [i64], i: u32, x: i64)
+    ensures { λ _. ⌜ now (exponents .exit) ≡ set (now (exponents .entry)) i x ⌝ }
+{
+    let at = i as usize;
+    if at < exponents.len() {
+        exponents[at] = x;
     }
 }
 
-// The exponents with one of them changed.
-pub(crate) fn with_exponent(exponents: Exponents, i: u32, x: i64) -> Exponents
-    ensures { λ r. ⌜ exponentsOf r ≡ set (exponentsOf exponents) i x ⌝ }
-{
-    let g = exponents;
-    match i {
-        0 => Exponents {
-            c: x,
-            d: g.d,
-            e: g.e,
-            f: g.f,
-        },
-        1 => Exponents {
-            c: g.c,
-            d: x,
-            e: g.e,
-            f: g.f,
-        },
-        2 => Exponents {
-            c: g.c,
-            d: g.d,
-            e: x,
-            f: g.f,
-        },
-        3 => Exponents {
-            c: g.c,
-            d: g.d,
-            e: g.e,
-            f: x,
-        },
-        _ => g,
-    }
-}
-
-// The exponents with a number added to one of them: 12 where the sum leaves the range.
-pub(crate) fn add(exponents: Exponents, i: u32, y: i64) -> Trace
-    requires { ⌜ (allInRange (exponentsOf exponents) ≡ true) × (inRange y ≡ true) ⌝ }
-    ensures { λ r. ⌜ tracedOf r ≡ addOutcome (exponentsOf exponents) i y ⌝ }
-{
-    let x = exponent(exponents, i);
-    if !is_sum_in_range(x, y) {
-        return Trace::Refused(Refusal::Range);
-    }
-    Trace::At(with_exponent(exponents, i, x + y))
-}
-
-// All four are in the range.
-pub(crate) fn are_in_range(exponents: Exponents) -> bool
-    ensures { λ r. ⌜ r ≡ allInRange (exponentsOf exponents) ⌝ }
-{
-    if !is_in_range(exponents.c) {
-        return false;
-    }
-    if !is_in_range(exponents.d) {
-        return false;
-    }
-    if !is_in_range(exponents.e) {
-        return false;
-    }
-    is_in_range(exponents.f)
-}
-
-fn is_in_range(x: i64) -> bool
-    ensures { λ r. ⌜ r ≡ inRange x ⌝ }
-{
-    if x < LOWEST {
-        return false;
-    }
-    x <= HIGHEST
-}
-
-// The sum of two numbers in the range is in it too. It is told before they are added: the sum can be 2^63, which is no i64.
-fn is_sum_in_range(x: i64, y: i64) -> bool
-    requires { ⌜ (inRange x ≡ true) × (inRange y ≡ true) ⌝ }
+// Whether a sum is in the range. It can be no i64, so the side that it can leave on is told before it is made.
+pub(crate) fn is_sum_in_range(x: i64, y: i64) -> bool
     ensures { λ r. ⌜ r ≡ inRange (x +ℤ y) ⌝ }
 {
     if 0 < y {
-        return x <= HIGHEST - y;
+        if x <= HIGHEST - y {
+            return LOWEST <= x + y;
+        }
+        return false;
     }
-    LOWEST - y <= x
+    if LOWEST - y <= x {
+        return x + y <= HIGHEST;
+    }
+    false
+}
+
+// And a difference.
+pub(crate) fn is_difference_in_range(x: i64, y: i64) -> bool
+    ensures { λ r. ⌜ r ≡ inRange (x -ℤ y) ⌝ }
+{
+    if 0 < y {
+        if LOWEST + y <= x {
+            return x - y <= HIGHEST;
+        }
+        return false;
+    }
+    if x <= HIGHEST + y {
+        return LOWEST <= x - y;
+    }
+    false
 }

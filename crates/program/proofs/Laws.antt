@@ -5,4 +5,5 @@ pub mod Forms
 pub mod Answering
 pub mod Same
 pub mod Checking
+pub mod Door
 pub mod Accepting

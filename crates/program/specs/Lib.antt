@@ -1,5 +1,6 @@
 -- Build's and check's outcomes, and what the contracts of inner functions say.
 pub mod Services
+pub mod Door
 pub mod Same
 pub mod Forms
 pub mod Writing

@@ -5,7 +5,7 @@ use mathlib.Core.Bool.{true, false, cond}
 use mathlib.Core.List.{List, [], _∷_}
 use Prim.Native.Nat.{ℕ, _*_, _%_, _^_, _≤_}
 use lib.Dec.{ltb}
-use Rattle.refusal.specs.Outcomes.{refused, answered, applies, after}
+use Rattle.refusal.specs.Outcomes.{refused, answered, applies, numberIn, after}
 use Rattle.modular.specs.Inverses.{inverse}
 use Rattle.tape.specs.Layout.{headerOf, stepsOf}
 use Rattle.machine.specs.Machine.{run, Good, start}
@@ -25,10 +25,11 @@ AsSaid q v =
     ((applies (runRules (q .tape) v (q .from) (q .goal)) ≡ true) × ((n : ℕ) × (answerTo q v ≡ refused n)))
     ⊎ ((applies (runRules (q .tape) v (q .from) (q .goal)) ≡ false) × (answerTo q v ≡ answered (between q v)))
 
--- So does every run of a list from registers v. Of the code this speaks through run's contract, which gives `answerTo`.
-unfoldable pub EachAsSaid : List Request → List ℕ → Type 0
-EachAsSaid [] v = Unit {0}
-EachAsSaid (q ∷ qs) v = AsSaid q v × EachAsSaid qs (after (answerTo q v) v)
+-- So does every run of a list from registers v, and the number beside it, in a row as far as that goes, is its own: 0 or its refusal's.
+unfoldable pub EachAsSaid : List Request → List ℕ → List ℕ → Type 0
+EachAsSaid [] v numbers = Unit {0}
+EachAsSaid (q ∷ qs) v [] = AsSaid q v × EachAsSaid qs (after (answerTo q v) v) []
+EachAsSaid (q ∷ qs) v (n ∷ numbers) = AsSaid q v × (n ≡ numberIn (answerTo q v)) × EachAsSaid qs (after (answerTo q v) v) numbers
 
 -- ---- chains
 
@@ -63,11 +64,11 @@ unfoldable pub exponentAfter : ℕ → List Request → ℕ → ℕ
 exponentAfter r [] E = E
 exponentAfter r (q ∷ qs) E = exponentAfter r qs (E * factor r q % r)
 
--- DEMAND 3, CHAIN. If a list is a chain from registers v, every run in it is refused or answers as said, and the registers at its
--- end, `last`, are (1, a^E, 1, 1).
-abbrev pub ChainEnds : List Request → List ℕ → List ℕ → Type 0
-ChainEnds qs v last =
-    (p r a : ℕ) → Chain p r a qs v → EachAsSaid qs v × (last ≡ start (a ^ exponentAfter r (performed qs v) 1 % p))
+-- DEMAND 3, CHAIN. If a list is a chain from registers v, every run in it is refused or answers as said, with its number among
+-- `numbers`, and the registers at its end, `last`, are (1, a^E, 1, 1).
+abbrev pub ChainEnds : List Request → List ℕ → List ℕ → List ℕ → Type 0
+ChainEnds qs v numbers last =
+    (p r a : ℕ) → Chain p r a qs v → EachAsSaid qs v numbers × (last ≡ start (a ^ exponentAfter r (performed qs v) 1 % p))
 
 -- ---- rewinds
 
@@ -84,8 +85,8 @@ pub record Rewind (tape : List ℕ) (home : ℕ) (qs : List Request) (v : List �
   pub registers : Good (headerOf tape .modulus) v
   pub returns : Returns tape home home (performed qs v)
 
--- DEMAND 3, REWIND. If a list is a rewind from registers v, every run in it is refused or answers as said, and the registers at its
--- end, `last`, are as they were.
-abbrev pub RewindEnds : List Request → List ℕ → List ℕ → Type 0
-RewindEnds qs v last =
-    (tape : List ℕ) (home : ℕ) → Rewind tape home qs v → EachAsSaid qs v × (last ≡ v)
+-- DEMAND 3, REWIND. If a list is a rewind from registers v, every run in it is refused or answers as said, with its number among
+-- `numbers`, and the registers at its end, `last`, are as they were.
+abbrev pub RewindEnds : List Request → List ℕ → List ℕ → List ℕ → Type 0
+RewindEnds qs v numbers last =
+    (tape : List ℕ) (home : ℕ) → Rewind tape home qs v → EachAsSaid qs v numbers × (last ≡ v)

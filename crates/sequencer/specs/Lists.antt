@@ -1,8 +1,9 @@
 -- A list of runs, one after another. The list gives tapes and positions only: each run gets the registers as they stand after
 -- the runs before it, and what it makes of them is what run's own contract says.
-use mathlib.Core.List.{List, [], _∷_}
-use Prim.Native.Nat.{ℕ}
-use Rattle.refusal.specs.Outcomes.{Outcome, refused, answered, after}
+use mathlib.Core.Path.{_≡_}
+use mathlib.Core.List.{List, [], _∷_, _++_}
+use Prim.Native.Nat.{ℕ, _^_, _<_}
+use Rattle.refusal.specs.Outcomes.{Outcome, refused, answered, numberIn, after}
 use Rattle.tape.specs.Layout.{part}
 use Rattle.sequencer.specs.Services.{runOutcome}
 
@@ -19,6 +20,11 @@ answerTo q v = runOutcome (q .tape) v (q .from) (q .goal)
 unfoldable pub afterAll : List Request → List ℕ → List ℕ
 afterAll [] v = v
 afterAll (q ∷ qs) v = afterAll qs (after (answerTo q v) v)
+
+-- the number of each run of a list, in order: 0 or its refusal's
+unfoldable pub numbersAll : List Request → List ℕ → List ℕ
+numbersAll [] v = []
+numbersAll (q ∷ qs) v = numberIn (answerTo q v) ∷ numbersAll qs (after (answerTo q v) v)
 
 -- the runs of a list that aren't refused, in order
 abbrev pub unlessRefused : Outcome (List ℕ) → Request → List Request → List Request
@@ -38,3 +44,25 @@ requestsOf row (begin ∷ []) = []
 requestsOf row (begin ∷ end ∷ []) = []
 requestsOf row (begin ∷ end ∷ from ∷ []) = []
 requestsOf row (begin ∷ end ∷ from ∷ goal ∷ words) = record { tape = part row begin end; from = from; goal = goal } ∷ requestsOf row words
+
+-- numbers below a limit
+unfoldable pub AllBelow : ℕ → List ℕ → Type 0
+AllBelow limit [] = Unit {0}
+AllBelow limit (x ∷ xs) = (x < limit) × AllBelow limit xs
+
+-- a list of requests as a row and words of 32 bits
+pub record Given (qs : List Request) : Type 0 where
+  pub row : List ℕ
+  pub words : List ℕ
+  pub row-fits : AllBelow (2 ^ 32) row
+  pub words-fit : AllBelow (2 ^ 32) words
+  pub requests : requestsOf row words ≡ qs
+
+-- every list can be given so whose tapes and positions are 32-bit numbers, and whose tapes, one behind another, are below 2^32 long
+unfoldable pub tapesOf : List Request → List ℕ
+tapesOf [] = []
+tapesOf (q ∷ qs) = q .tape ++ tapesOf qs
+
+unfoldable pub PositionsFit : List Request → Type 0
+PositionsFit [] = Unit {0}
+PositionsFit (q ∷ qs) = (q .from < 2 ^ 32) × (q .goal < 2 ^ 32) × PositionsFit qs

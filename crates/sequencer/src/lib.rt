@@ -4,12 +4,13 @@ mod requests;
 mod travel;
 
 ghost use mathlib.Core.Path.{_≡_};
+ghost use lib.Seq.{sets};
 ghost use Rattle.refusal.specs.Outcomes.{answered, numberIn};
 ghost use Rattle.machine.specs.Machine.{valuesOf};
 ghost use Rattle.machine.specs.Exponents.{tracedOf};
 ghost use Rattle.program.specs.Services.{acceptOutcome};
 ghost use Rattle.sequencer.specs.Services.{standingOf, loadOutcome, runOutcome, forwardOutcome, traceOutcome, cutOutcome, cutPart};
-ghost use Rattle.sequencer.specs.Lists.{afterAll, requestsOf};
+ghost use Rattle.sequencer.specs.Lists.{afterAll, numbersAll, requestsOf};
 ghost use Rattle.sequencer.specs.Demand.{ChainEnds, RewindEnds};
 ghost use Rattle.sequencer.specs.Tracing.{NeverOutside, MeansPowers};
 use conditions::is_bad_base;
@@ -18,13 +19,16 @@ use conditions::is_bad_register;
 use conditions::is_some_bad;
 use machine::Registers;
 use machine::Trace;
+use machine::exponents_of;
 use refusal::Refusal;
 use requests::after_run;
+use requests::note;
 use tape::Header;
 use tape::Reading;
 use tape::part;
 use tape::step_words;
-use travel::exponents_at;
+use tape::steps;
+use travel::shift_all;
 use travel::travel;
 
 // What load and run answer: the four registers, or a refusal.
@@ -81,20 +85,26 @@ pub fn cut<'a>(tape: &'a [u32], first: u32, last: u32, number: &mut u32) -> &'a 
     }
 }
 
-// A list of runs, one after another, each on the registers that those before it left. A request is four words: where its tape begins
-// and ends in the row, and its two positions. A tape past the row is the empty one, so run refuses it with 6. Nothing is refused here:
-// one to three words left over are no request.
-pub fn play(row: &[u32], requests: &[u32], registers: Registers) -> Registers
-    ensures { λ after. ⌜ valuesOf after ≡ afterAll (requestsOf (now (row .entry)) (now (requests .entry))) (valuesOf registers) ⌝ }
-    ensures { λ after. ⌜ ChainEnds (requestsOf (now (row .entry)) (now (requests .entry))) (valuesOf registers) (valuesOf after) ⌝ }
-    ensures { λ after. ⌜ RewindEnds (requestsOf (now (row .entry)) (now (requests .entry))) (valuesOf registers) (valuesOf after) ⌝ }
+// A list of runs, one after another, each on the registers that those before it left; the number of each, 0 or its refusal's, goes
+// into the lent row, as far as that has places. A request is four words: where its tape begins and ends in the row of tapes, and its
+// two positions. A tape past that row is the empty one, so run refuses it with 6. Nothing is refused here: one to three words left
+// over are no request.
+pub fn play(tapes: &[u32], requests: &[u32], registers: Registers, numbers: &mut [u32]) -> Registers
+    ensures { λ after. ⌜ valuesOf after ≡ afterAll (requestsOf (now (tapes .entry)) (now (requests .entry))) (valuesOf registers) ⌝ }
+    ensures { λ _. ⌜ now (numbers .exit) ≡ sets (now (numbers .entry)) 0 (numbersAll (requestsOf (now (tapes .entry)) (now (requests .entry))) (valuesOf registers)) ⌝ }
+    ensures { λ after. ⌜ ChainEnds (requestsOf (now (tapes .entry)) (now (requests .entry))) (valuesOf registers) (now (numbers .exit)) (valuesOf after) ⌝ }
+    ensures { λ after. ⌜ RewindEnds (requestsOf (now (tapes .entry)) (now (requests .entry))) (valuesOf registers) (now (numbers .exit)) (valuesOf after) ⌝ }
 {
     let mut after = registers;
     let mut i: usize = 0;
+    let mut n: usize = 0;
     while REQUEST_WORDS <= requests.len() - i {
-        let tape = part(row, requests[i], requests[i + 1]);
-        after = after_run(run(tape, after, requests[i + 2], requests[i + 3]), after);
+        let tape = part(tapes, requests[i], requests[i + 1]);
+        let answer = run(tape, after, requests[i + 2], requests[i + 3]);
+        note(numbers, n, answer);
+        after = after_run(answer, after);
         i += REQUEST_WORDS;
+        n += 1;
     }
     after
 }
@@ -144,7 +154,7 @@ fn run_accepted(tape: &[u32], header: Header, registers: Registers, from: u32, t
     if header.steps < to {
         return Standing::Refused(Refusal::Position);
     }
-    Standing::At(travel(tape, header.modulus, registers, from as usize, to as usize))
+    Standing::At(travel(steps(tape), header.modulus, registers, from, to))
 }
 
 // Forward through a program that is accepted: load's refusals, and run has none left.
@@ -166,7 +176,11 @@ fn trace_accepted(tape: &[u32], header: Header, position: u32) -> Trace
     if header.steps < position {
         return Trace::Refused(Refusal::Position);
     }
-    exponents_at(tape, position as usize)
+    let mut exponents: [i64; 4] = [0, 1, 0, 0];
+    if !shift_all(part(steps(tape), 0, position), &mut exponents) {
+        return Trace::Refused(Refusal::Range);
+    }
+    Trace::At(exponents_of(&exponents))
 }
 
 // Cut of a program that is accepted: 10.

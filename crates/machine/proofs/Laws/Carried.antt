@@ -1,9 +1,8 @@
 -- Taking inverses is an automorphism of the residues modulo a prime: the inverse of a product is the product of the inverses. So a
 -- step on the inverses makes the inverses of what the step makes of the registers, and a division needs no search for one.
 use mathlib.Core.Path.{_≡_, refl, sym, _∙_, ap, ap₂}
-use mathlib.Core.List.{List, [], _∷_}
+use mathlib.Core.List.{List}
 use Prim.Native.Nat.{ℕ}
-use native.Mathlib.Omega.{arith}
 use lib.ListN.{length, getD, set, length-set, List·getD-map}
 use Rattle.modular.specs.Primes.{Prime}
 use Rattle.modular.specs.Residues.{times}
@@ -14,18 +13,9 @@ use Rattle.tape.specs.declared.Step.{Step}
 use Rattle.tape.specs.declared.Step.the-variants.{Mul, Div, Swp}
 use Rattle.tape.specs.Steps.{Sound}
 use Rattle.machine.specs.Machine.{reg, apply, Good}
-use Rattle.machine.specs.Carried.{firstFour, inverses, applyWith, Carried}
+use Rattle.machine.specs.Carried.{inverses, applyWith, Carried}
 use Rattle.machine.proofs.Laws.Lists.{map-set}
 use Rattle.machine.proofs.Laws.Steps.{good-apply}
-
--- four values are the first four of them
-pub four-values : (v : List ℕ) → length v ≡ 4 → firstFour v ≡ v
-four-values [] n = absurd (omega arith)
-four-values (c ∷ []) n = absurd (omega arith)
-four-values (c ∷ d ∷ []) n = absurd (omega arith)
-four-values (c ∷ d ∷ e ∷ []) n = absurd (omega arith)
-four-values (c ∷ d ∷ e ∷ f ∷ []) n = refl
-four-values (c ∷ d ∷ e ∷ f ∷ x ∷ v) n = absurd (omega arith)
 
 pub length-apply : (p : ℕ) (x : Step) (v : List ℕ) → length (apply p x v) ≡ length v
 unfolding apply

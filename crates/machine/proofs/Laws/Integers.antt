@@ -48,12 +48,12 @@ under-sum (pos m) (negsuc n) = omega (arith, under-difference m (suc n))
 under-sum (negsuc m) (pos n) = omega (arith, under-difference n (suc m))
 under-sum (negsuc m) (negsuc n) = omega arith
 
-over-opposite : (a : ℤ) → over (negℤ a) ≡ under a
+pub over-opposite : (a : ℤ) → over (negℤ a) ≡ under a
 over-opposite (pos zero) = refl
 over-opposite (pos (suc n)) = refl
 over-opposite (negsuc n) = refl
 
-under-opposite : (a : ℤ) → under (negℤ a) ≡ over a
+pub under-opposite : (a : ℤ) → under (negℤ a) ≡ over a
 under-opposite (pos zero) = refl
 under-opposite (pos (suc n)) = refl
 under-opposite (negsuc n) = refl
@@ -110,6 +110,12 @@ module _ (a b m : ℤ) where
 
   pub least-less : leZ (m -ℤ b) a ≡ leZ m (a +ℤ b)
   least-less = same-test (m -ℤ b) a m (a +ℤ b) (omega (arith, over-less m b, under-less m b, over-sum a b, under-sum a b))
+
+  pub most-more : leZ a (m +ℤ b) ≡ leZ (a -ℤ b) m
+  most-more = same-test a (m +ℤ b) (a -ℤ b) m (omega (arith, over-sum m b, under-sum m b, over-less a b, under-less a b))
+
+  pub least-more : leZ (m +ℤ b) a ≡ leZ m (a -ℤ b)
+  least-more = same-test (m +ℤ b) a m (a -ℤ b) (omega (arith, over-sum m b, under-sum m b, over-less a b, under-less a b))
 
 -- ---- from -m to m
 

@@ -5,8 +5,20 @@ use mathlib.Core.Logic.{_≢_}
 use mathlib.Core.List.{List, [], _∷_, map}
 use Prim.Native.Nat.{ℕ, zero, suc, _<_}
 use native.Mathlib.Nat.{not-suc-le-zero, le-of-suc-le-suc}
-use lib.ListN.{length, getD, set, length-set}
-use lib.Seq.{set-set, set-comm, set-getD, getD-set-same, getD-set-other}
+use native.Mathlib.Omega.{arith}
+use lib.ListN.{length, getD, set, take, drop, length-set}
+use lib.Seq.{slice, set-set, set-comm, set-getD, getD-set-same, getD-set-other}
+
+-- ---- four entries
+
+-- are the first four
+pub four-first : {A : Type 0} (d : A) (v : List A) → length v ≡ 4 → getD v 0 d ∷ getD v 1 d ∷ getD v 2 d ∷ getD v 3 d ∷ [] ≡ v
+four-first d [] n = absurd (omega arith)
+four-first d (x ∷ []) n = absurd (omega arith)
+four-first d (x ∷ y ∷ []) n = absurd (omega arith)
+four-first d (x ∷ y ∷ z ∷ []) n = absurd (omega arith)
+four-first d (x ∷ y ∷ z ∷ w ∷ []) n = refl
+four-first d (x ∷ y ∷ z ∷ w ∷ u ∷ v) n = absurd (omega arith)
 
 -- ---- two places exchanged
 
@@ -44,3 +56,16 @@ module _ {A B : Type 0} (f : A → B) where
   map-set [] i y = refl
   map-set (x ∷ xs) zero y = refl
   map-set (x ∷ xs) (suc i) y = ap (λ (l : List B). f x ∷ l) (map-set xs i y)
+
+  map-take : (n : ℕ) (v : List A) → map f (take n v) ≡ take n (map f v)
+  map-take zero v = refl
+  map-take (suc n) [] = refl
+  map-take (suc n) (x ∷ v) = ap (λ (l : List B). f x ∷ l) (map-take n v)
+
+  map-drop : (n : ℕ) (v : List A) → map f (drop n v) ≡ drop n (map f v)
+  map-drop zero v = refl
+  map-drop (suc n) [] = refl
+  map-drop (suc n) (x ∷ v) = map-drop n v
+
+  pub map-slice : (i j : ℕ) (v : List A) → map f (slice i j v) ≡ slice i j (map f v)
+  map-slice i j v = map-drop i (take j v) ∙ ap (drop i) (map-take j v)

@@ -38,7 +38,7 @@ pub four-range : (c d e f : ℤ) → Within (2 ^ 62) c → Within (2 ^ 62) d →
 unfolding allInRange
 four-range c d e f vc vd ve vf = rw (within-range c vc, within-range d vd, within-range e ve, within-range f vf)
 
-stays-first : (xs : List Step) (z : List ℤ) → staysInRange xs z ≡ true → allInRange z ≡ true
+pub stays-first : (xs : List Step) (z : List ℤ) → staysInRange xs z ≡ true → allInRange z ≡ true
 unfolding staysInRange
 stays-first [] z s = s
 stays-first (x ∷ xs) z s = both (allInRange z) (staysInRange xs (shift x z)) s .0

@@ -7,7 +7,7 @@ use Prim.Native.Nat.{ℕ, suc, _+_, _≤_, _<_}
 use native.Mathlib.Omega.{arith}
 use lib.Dec.{leb}
 use lib.ListN.{length, getD, take, drop, take-append-drop}
-use lib.Seq.{slice, slice-empty, slice-cons, take-take, take-length, take-suc, length-take-le, drop-append-le}
+use lib.Seq.{slice, take-take, take-length, take-suc, drop-cons}
 use borrow.Author.Tests.{leb-true, leb-false}
 use Rattle.modular.specs.Primes.{Prime}
 use Rattle.tape.specs.declared.Step.{Step}
@@ -25,37 +25,22 @@ take-slice i j xs h =
 
 -- ---- one step of a run
 
-module _ (p : ℕ) (xs : List Step) (v : List ℕ) (i j : ℕ) (there : i ≡ j) where
-  none : slice i j xs ≡ []
-  none = ap (λ (n : ℕ). slice n j xs) there ∙ slice-empty j xs
-
-  pub do-none : doAll p (slice i j xs) v ≡ v
+module _ (p : ℕ) (xs : List Step) (x : Step) (v : List ℕ) (i : ℕ) (inside : i < length xs) where
+  -- done, the first of the steps that are left goes first
+  pub do-next : doAll p (drop i xs) v ≡ doAll p (drop (i + 1) xs) (apply p (getD xs i x) v)
   unfolding doAll
-  do-none = ap (λ (l : List Step). doAll p l v) none
-
-  pub undo-none : undoAll p (slice i j xs) v ≡ v
-  unfolding undoAll
-  undo-none = ap (λ (l : List Step). undoAll p l v) none
-
-module _ (p : ℕ) (xs : List Step) (x : Step) (v : List ℕ) where
-  -- done, the first of the steps goes first
-  pub do-next : (i j : ℕ) → i < j → j ≤ length xs → doAll p (slice i j xs) v ≡ doAll p (slice (i + 1) j xs) (apply p (getD xs i x) v)
-  unfolding doAll
-  do-next i j h k =
+  do-next =
       let next : suc i ≡ i + 1 = omega arith in
-      ap (λ (l : List Step). doAll p l v) (slice-cons i j xs x h k)
-      ∙ ap (λ (n : ℕ). doAll p (slice n j xs) (apply p (getD xs i x) v)) next
+      ap (λ (l : List Step). doAll p l v) (drop-cons xs i x inside)
+      ∙ ap (λ (n : ℕ). doAll p (drop n xs) (apply p (getD xs i x) v)) next
 
   -- undone, the last of them
-  pub undo-next : (i j : ℕ) → j ≤ i → i < length xs
-      → undoAll p (slice j (i + 1) xs) v ≡ undoAll p (slice j i xs) (apply p (opposite (getD xs i x)) v)
+  pub undo-next : undoAll p (take (i + 1) xs) v ≡ undoAll p (take i xs) (apply p (opposite (getD xs i x)) v)
   unfolding undoAll
-  undo-next i j h k =
+  undo-next =
       let next : i + 1 ≡ suc i = omega arith in
-      let inside : j ≤ length (take i xs) = omega (arith, length-take-le i xs (omega arith)) in
-      ap (λ (l : List Step). undoAll p (drop j l) v) (ap (λ (n : ℕ). take n xs) next ∙ take-suc xs i x k)
-      ∙ ap (λ (l : List Step). undoAll p l v) (drop-append-le j (take i xs) (getD xs i x ∷ []) inside)
-      ∙ undoAll-append p (slice j i xs) (getD xs i x ∷ []) v
+      ap (λ (l : List Step). undoAll p l v) (ap (λ (n : ℕ). take n xs) next ∙ take-suc xs i x inside)
+      ∙ undoAll-append p (take i xs) (getD xs i x ∷ []) v
 
 -- ---- runs
 

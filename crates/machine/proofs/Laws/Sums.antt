@@ -1,7 +1,8 @@
--- A step on the code's exponents. Those in range fit their type; a sum's test is told before it is made, since a number can be moved
--- from one side of it to the other; and a step in range leaves the range exactly where the sum that it makes does.
+-- A step on the code's exponents. A sum or difference is told to leave the range before it is made, since a number can be moved from
+-- one side of a test to the other; past that test it fits its type. From exponents in range, a step leaves the range exactly where the
+-- number that it makes does.
 use mathlib.Core.Path.{_≡_, refl, sym, ap, ap₂, _∙_}
-use mathlib.Core.Bool.{true, false, not, _&&_, and-true}
+use mathlib.Core.Bool.{Bool, true, false, _&&_, and-true, and-false}
 use mathlib.Core.List.{List, [], _∷_}
 use Prim.Native.Nat.{ℕ, zero, suc, _≤_, _<_, _^_}
 use native.Mathlib.Omega.{arith}
@@ -11,14 +12,11 @@ use lib.Signed.{leZ, ltZ, mag}
 use mir.Syntax.{w64}
 use mir.Val.{SFits, toZ, ofZ}
 use mir.ValLaws.{toZ-ofZ}
-use Rattle.refusal.specs.declared.Refusal.the-variants.{Range}
-use Rattle.refusal.specs.Refusals.{numberOf}
-use Rattle.refusal.specs.Outcomes.{Outcome, refused, answered, outcome, _given-if_, gives, passes, answers}
 use Rattle.refusal.proofs.Laws.Tests.{both}
 use Rattle.tape.specs.declared.Step.{Step}
 use Rattle.tape.specs.declared.Step.the-variants.{Mul, Div, Swp}
-use Rattle.machine.specs.Exponents.{exponent, shift, shiftAll, inRange, allInRange, staysInRange, addOutcome, shiftOutcome}
-use Rattle.machine.proofs.Laws.Integers.{over, under, over-less, under-less, under-sum, over-sum, lt-leZ, le-leZ, ltZ-true, ltZ-false, most-less, least-less}
+use Rattle.machine.specs.Exponents.{exponent, shift, inRange, allInRange, makesInRange, shiftInRange}
+use Rattle.machine.proofs.Laws.Integers.{over, under, over-opposite, under-opposite, over-less, under-less, under-sum, over-sum, ltZ-true, ltZ-false, leZ-true, most-less, least-less, most-more, least-more}
 use Rattle.machine.proofs.Laws.Ranges.{within-range, range-within}
 
 abbrev pub lowest : ℤ
@@ -29,7 +27,7 @@ highest = pos (2 ^ 62)
 
 -- ---- 64 bits
 
-fits : (e : ℤ) → over e < 2 ^ 63 → under e ≤ 2 ^ 63 → SFits w64 e
+pub fits : (e : ℤ) → over e < 2 ^ 63 → under e ≤ 2 ^ 63 → SFits w64 e
 fits (pos n) h k = record { sfits = h }
 fits (negsuc n) h k = record { sfits = k }
 
@@ -40,74 +38,81 @@ from-bits e h = toZ-ofZ w64 e (record { sfits = h })
 pub range-fits : (e : ℤ) → inRange e ≡ true → SFits w64 e
 range-fits e r = let w = range-within e r in fits e (omega arith) (omega arith)
 
-pub range-bits : (e : ℤ) → inRange e ≡ true → toZ w64 (ofZ w64 e) ≡ e
-range-bits e r = from-bits e (range-fits e r .sfits)
+-- what its type says of its two parts
+parts : (e : ℤ) → SFits w64 e → (over e < 2 ^ 63) × (under e ≤ 2 ^ 63)
+parts (pos n) h = (h .sfits, omega arith)
+parts (negsuc n) h = (omega arith, h .sfits)
 
--- ---- the test of one
+-- ---- the two tests of a number
 
-module _ (e : ℤ) where
-  pub too-low : ltZ e lowest ≡ true → inRange e ≡ false
+under-highest : (e : ℤ) → leZ e highest ≡ true → over e < 2 ^ 63
+under-highest (pos n) t = omega (arith, leZ-true (pos n) highest t)
+under-highest (negsuc n) t = omega arith
+
+over-lowest : (e : ℤ) → leZ lowest e ≡ true → under e ≤ 2 ^ 63
+over-lowest (pos n) t = omega arith
+over-lowest (negsuc n) t = omega (arith, leZ-true lowest (negsuc n) t)
+
+-- A number e of the range's test, told in two steps: the first, by what is left of the range on the side that e can leave it on, says
+-- that e can be made; the second tests e on the other side.
+pub record Told (left : ℤ) (first : Bool) (e : ℤ) (second : Bool) : Type 0 where
+  pub left-fits : SFits w64 left
+  pub made-fits : first ≡ true → SFits w64 e
+  pub tested : first ≡ true → second ≡ inRange e
+  pub outside : first ≡ false → false ≡ inRange e
+
+module _ (left e : ℤ) (room : SFits w64 left) where
+  told-above : (t : Bool) → t ≡ leZ e highest → under e ≤ 2 ^ 63 → Told left t e (leZ lowest e)
   unfolding inRange
-  too-low l = ap (λ t. t && leZ e highest) (lt-leZ lowest e (omega (arith, ltZ-true e lowest l)))
+  told-above t is low = record {
+    left-fits = room;
+    made-fits = λ h. fits e (under-highest e (sym is ∙ h)) low;
+    tested = λ h. sym (ap (λ b. leZ lowest e && b) (sym is ∙ h) ∙ and-true (leZ lowest e));
+    outside = λ h. sym (ap (λ b. leZ lowest e && b) (sym is ∙ h) ∙ and-false (leZ lowest e));
+  }
 
-  pub not-too-low : ltZ e lowest ≡ false → inRange e ≡ leZ e highest
+  told-below : (t : Bool) → t ≡ leZ lowest e → over e < 2 ^ 63 → Told left t e (leZ e highest)
   unfolding inRange
-  not-too-low l = ap (λ t. t && leZ e highest) (le-leZ lowest e (omega (arith, ltZ-false e lowest l)))
+  told-below t is high = record {
+    left-fits = room;
+    made-fits = λ h. fits e high (over-lowest e (sym is ∙ h));
+    tested = λ h. sym (ap (λ b. b && leZ e highest) (sym is ∙ h));
+    outside = λ h. sym (ap (λ b. b && leZ e highest) (sym is ∙ h));
+  }
 
--- ---- the test of a sum
-
-module _ (x y : ℤ) (rx : inRange x ≡ true) (ry : inRange y ≡ true) where
+-- a sum and a difference
+module _ (x y : ℤ) (fx : SFits w64 x) (fy : SFits w64 y) where
   module _ (positive : ltZ (pos 0) y ≡ true) where
-    pub room-above : SFits w64 (highest -ℤ y)
-    room-above =
-        let w = range-within y ry in
-        let l = ltZ-true (pos 0) y positive in
-        fits (highest -ℤ y) (omega (arith, over-less highest y)) (omega (arith, under-less highest y))
-
-    pub sum-above : leZ x (highest -ℤ y) ≡ inRange (x +ℤ y)
-    unfolding inRange
+    pub sum-above : Told (highest -ℤ y) (leZ x (highest -ℤ y)) (x +ℤ y) (leZ lowest (x +ℤ y))
     sum-above =
-        let w = range-within x rx in
         let l = ltZ-true (pos 0) y positive in
-        most-less x y highest
-        ∙ sym (ap (λ t. t && leZ (x +ℤ y) highest) (le-leZ lowest (x +ℤ y) (omega (arith, over-sum x y, under-sum x y))))
+        told-above (highest -ℤ y) (x +ℤ y)
+        (fits (highest -ℤ y) (omega (arith, over-less highest y)) (omega (arith, under-less highest y, parts y fy .0)))
+        _ (most-less x y highest) (omega (arith, under-sum x y, parts x fx .1))
+
+    pub difference-above : Told (lowest +ℤ y) (leZ (lowest +ℤ y) x) (x -ℤ y) (leZ (x -ℤ y) highest)
+    difference-above =
+        let l = ltZ-true (pos 0) y positive in
+        told-below (lowest +ℤ y) (x -ℤ y)
+        (fits (lowest +ℤ y) (omega (arith, over-sum lowest y, parts y fy .0)) (omega (arith, under-sum lowest y)))
+        _ (least-more x y lowest) (omega (arith, over-less x y, parts x fx .0))
 
   module _ (rest : ltZ (pos 0) y ≡ false) where
-    pub room-below : SFits w64 (lowest -ℤ y)
-    room-below =
-        let w = range-within y ry in
-        let l = ltZ-false (pos 0) y rest in
-        fits (lowest -ℤ y) (omega (arith, over-less lowest y)) (omega (arith, under-less lowest y))
-
-    pub sum-below : leZ (lowest -ℤ y) x ≡ inRange (x +ℤ y)
-    unfolding inRange
+    pub sum-below : Told (lowest -ℤ y) (leZ (lowest -ℤ y) x) (x +ℤ y) (leZ (x +ℤ y) highest)
     sum-below =
-        let w = range-within x rx in
         let l = ltZ-false (pos 0) y rest in
-        least-less x y lowest
-        ∙ sym (ap (λ t. leZ lowest (x +ℤ y) && t) (le-leZ (x +ℤ y) highest (omega (arith, over-sum x y, under-sum x y))) ∙ and-true _)
+        told-below (lowest -ℤ y) (x +ℤ y)
+        (fits (lowest -ℤ y) (omega (arith, over-less lowest y, parts y fy .1)) (omega (arith, under-less lowest y)))
+        _ (least-less x y lowest) (omega (arith, over-sum x y, parts x fx .0))
 
--- an exponent with its sign turned
-pub range-opposite : (y : ℤ) → inRange y ≡ true → inRange (pos 0 -ℤ y) ≡ true
-range-opposite y r =
-    let w = range-within y r in
-    within-range (pos 0 -ℤ y) (record { high = omega (arith, over-less (pos 0) y); low = omega (arith, under-less (pos 0) y) })
+    pub difference-below : Told (highest +ℤ y) (leZ x (highest +ℤ y)) (x -ℤ y) (leZ lowest (x -ℤ y))
+    difference-below =
+        let l = ltZ-false (pos 0) y rest in
+        told-above (highest +ℤ y) (x -ℤ y)
+        (fits (highest +ℤ y) (omega (arith, over-sum highest y)) (omega (arith, under-sum highest y, parts y fy .1)))
+        _ (most-more x y highest) (omega (arith, under-less x y, parts x fx .1))
 
 -- ---- several exponents
-
--- the first is outside, or the others decide
-module _ (e : ℤ) (z : List ℤ) where
-  pub range-first : inRange e ≡ false → allInRange (e ∷ z) ≡ false
-  unfolding allInRange
-  range-first out = rw out
-
-  pub range-others : inRange e ≡ true → allInRange (e ∷ z) ≡ allInRange z
-  unfolding allInRange
-  range-others r = rw r
-
-pub range-last : (e : ℤ) → allInRange (e ∷ []) ≡ inRange e
-unfolding allInRange
-range-last e = and-true (inRange e)
 
 pub exponent-range : (z : List ℤ) (i : ℕ) → allInRange z ≡ true → inRange (exponent z i) ≡ true
 unfolding allInRange
@@ -131,57 +136,43 @@ add-range (e ∷ z) (suc i) y r s =
     let t = both (inRange e) (allInRange z) r in
     ap (λ b. b && allInRange (set z i (exponent z i +ℤ y))) (t .0) ∙ add-range z i y (t .1) s
 
--- ---- a number added to an exponent x
+opposite-range : (y : ℤ) → inRange y ≡ true → inRange (negℤ y) ≡ true
+opposite-range y r =
+    let w = range-within y r in
+    within-range (negℤ y) (record { high = omega (arith, over-opposite y); low = omega (arith, under-opposite y) })
 
-module _ (z : List ℤ) (i : ℕ) (x y : ℤ) (is : x ≡ exponent z i) where
-  abbrev summed : ℤ → Outcome (List ℤ)
-  summed e = outcome ((Range given-if not (inRange (e +ℤ y))) ∷ []) (set z i (e +ℤ y))
+-- from exponents in range a step leads to exponents in range exactly where the number that it makes is
+pub step-range : (x : Step) (z : List ℤ) → allInRange z ≡ true → allInRange (shift x z) ≡ makesInRange x z
+unfolding shift makesInRange
+step-range (Mul t s) z r = add-range z t (exponent z s) r (exponent-range z s r)
+step-range (Div t s) z r = add-range z t (negℤ (exponent z s)) r (opposite-range (exponent z s) (exponent-range z s r))
+step-range (Swp t s) z r = set-range (set z t (exponent z s)) s (exponent z t) (set-range z t (exponent z s) r (exponent-range z s r)) (exponent-range z t r)
 
-  pub add-outside : inRange (x +ℤ y) ≡ false → addOutcome z i y ≡ refused (numberOf Range)
-  unfolding addOutcome
-  add-outside out = ap summed (sym is) ∙ gives Range [] _ (ap not out)
+-- ---- the arm of a step
 
-  pub add-inside : inRange (x +ℤ y) ≡ true → addOutcome z i y ≡ answered (set z i (x +ℤ y))
-  unfolding addOutcome
-  add-inside r = ap summed (sym is) ∙ passes Range [] _ (ap not r) ∙ answers _
+-- a step that makes the number e, for register t
+pub record Makes (step : Step) (z : List ℤ) (t : ℕ) (e : ℤ) : Type 0 where
+  pub tests : makesInRange step z ≡ inRange e
+  pub sets : shift step z ≡ set z t e
 
--- ---- a step
+module _ (step : Step) (z : List ℤ) (t s : ℕ) (x y : ℤ) (target : x ≡ exponent z t) (source : y ≡ exponent z s) where
+  pub mul-makes : step ≡ Mul t s → Makes step z t (x +ℤ y)
+  unfolding makesInRange shift
+  mul-makes e = rw (e, target, source) (record { tests = refl; sets = refl })
 
-module _ (z : List ℤ) (step : Step) where
-  pub shift-outside : allInRange z ≡ false → shiftOutcome (step ∷ []) z ≡ refused (numberOf Range)
-  unfolding shiftOutcome staysInRange
-  shift-outside out = gives Range [] _ (rw out)
+  pub div-makes : step ≡ Div t s → Makes step z t (x -ℤ y)
+  unfolding makesInRange shift
+  div-makes e = rw (e, target, source) (record { tests = refl; sets = refl })
 
-  module _ (r : allInRange z ≡ true) (t s : ℕ) where
-    once : shiftOutcome (step ∷ []) z ≡ outcome ((Range given-if not (allInRange (shift step z))) ∷ []) (shift step z)
-    unfolding shiftOutcome staysInRange shiftAll
-    once = ap (λ b. outcome ((Range given-if not (b && allInRange (shift step z))) ∷ []) (shift step z)) r
+  pub swp-done : (u w : List ℤ) → step ≡ Swp t s → u ≡ set z t y → w ≡ set u s x → (true ≡ makesInRange step z) × (w ≡ shiftInRange step z)
+  unfolding makesInRange shift shiftInRange
+  swp-done u w e first second = rw e (refl, cc (target, source, first, second))
 
-    added : (y : ℤ) → inRange y ≡ true → shift step z ≡ set z t (exponent z t +ℤ y) → shiftOutcome (step ∷ []) z ≡ addOutcome z t y
-    unfolding addOutcome
-    added y ry e =
-        once
-        ∙ ap (λ w. outcome ((Range given-if not (allInRange w)) ∷ []) w) e
-        ∙ ap (λ b. outcome ((Range given-if not b) ∷ []) (set z t (exponent z t +ℤ y))) (add-range z t y r ry)
+module _ (step : Step) (z : List ℤ) (t : ℕ) (e : ℤ) (makes : Makes step z t e) where
+  pub step-stops : inRange e ≡ false → (false ≡ makesInRange step z) × (z ≡ shiftInRange step z)
+  unfolding shiftInRange
+  step-stops out = let test = makes .tests ∙ out in (sym test, rw test)
 
-    pub shift-mul : (y : ℤ) → step ≡ Mul t s → y ≡ exponent z s → shiftOutcome (step ∷ []) z ≡ addOutcome z t y
-    unfolding shift
-    shift-mul y e is = rw is (added (exponent z s) (exponent-range z s r) (rw e))
-
-    pub shift-div : (y : ℤ) → step ≡ Div t s → y ≡ exponent z s → shiftOutcome (step ∷ []) z ≡ addOutcome z t (pos 0 -ℤ y)
-    unfolding shift
-    shift-div y e is =
-        rw is
-        (added (pos 0 -ℤ exponent z s) (range-opposite (exponent z s) (exponent-range z s r))
-        (rw e (ap (λ d. set z t (exponent z t +ℤ d)) (sym (+ℤ-idl (negℤ (exponent z s)))))))
-
-    pub shift-swp : (x y : ℤ) (u w : List ℤ) → step ≡ Swp t s → x ≡ exponent z t → y ≡ exponent z s → u ≡ set z t y → w ≡ set u s x
-        → shiftOutcome (step ∷ []) z ≡ answered w
-    unfolding shift
-    shift-swp x y u w e isx isy first second =
-        let there : shift step z ≡ w = rw e (cc (isx, isy, first, second)) in
-        let ry : inRange y ≡ true = rw isy (exponent-range z s r) in
-        let rx : inRange x ≡ true = rw isx (exponent-range z t r) in
-        let ru : allInRange u ≡ true = rw first (set-range z t y r ry) in
-        let final : allInRange w ≡ true = rw second (set-range u s x ru rx) in
-        once ∙ ap (λ v. outcome ((Range given-if not (allInRange v)) ∷ []) v) there ∙ passes Range [] w (ap not final) ∙ answers w
+  pub step-done : (w : List ℤ) → inRange e ≡ true → w ≡ set z t e → (true ≡ makesInRange step z) × (w ≡ shiftInRange step z)
+  unfolding shiftInRange
+  step-done w r is = let test = makes .tests ∙ r in (sym test, rw test (is ∙ sym (makes .sets)))

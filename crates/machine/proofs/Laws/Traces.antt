@@ -1,62 +1,63 @@
--- A trace step by step: exponents in range that a step leaves in range go on from where it leads, and where it doesn't, the steps
--- behind it are refused too.
+-- A trace step by step: from exponents in range a step leaves the range exactly where the number that it makes does, and then the steps
+-- behind it don't stay in it either; where it doesn't, they go on from where it leads.
 use mathlib.Core.Path.{_≡_, refl, sym, ap, ap₂, _∙_}
-use mathlib.Core.Bool.{true, not, true≢false}
+use mathlib.Core.Bool.{true, false, _&&_, true≢false}
 use mathlib.Core.List.{List, [], _∷_}
 use Prim.Native.Nat.{ℕ, suc, _+_, _≤_, _<_}
 use native.Mathlib.Omega.{arith}
 use lib.IntN.{ℤ}
-use lib.ListN.{length, getD}
-use lib.Seq.{slice, slice-empty, slice-cons}
-use borrow.Author.Tests.{not-true, not-false}
-use Rattle.refusal.specs.declared.Refusal.the-variants.{Range}
-use Rattle.refusal.specs.Outcomes.{refused, answered, gives, passes, answers}
-use Rattle.refusal.proofs.Laws.Rules.{passed, refused-by, answer-is}
-use Rattle.refusal.proofs.Laws.Tests.{both, test-false}
+use lib.ListN.{length, getD, drop, drop-of-length-le}
+use lib.Seq.{drop-cons}
+use Rattle.refusal.proofs.Laws.Tests.{test-false}
 use Rattle.tape.specs.declared.Step.{Step}
-use Rattle.machine.specs.Exponents.{shift, shiftAll, startExponents, inRange, allInRange, staysInRange, shiftOutcome}
-use Rattle.machine.proofs.Laws.Ranges.{stays-take}
+use Rattle.machine.specs.Exponents.{shift, shiftAll, startExponents, inRange, allInRange, staysInRange, makesInRange, shiftInRange}
+use Rattle.machine.proofs.Laws.Ranges.{stays-first}
+use Rattle.machine.proofs.Laws.Sums.{step-range}
 
 pub start-range : allInRange startExponents ≡ true
 unfolding allInRange inRange
 start-range = refl
 
--- no step: the exponents as they are
-pub shift-none : (xs : List Step) (z : List ℤ) (i j : ℕ) → i ≡ j → allInRange z ≡ true → shiftOutcome (slice i j xs) z ≡ answered z
-unfolding shiftOutcome staysInRange shiftAll
-shift-none xs z i j there r =
-    ap (λ (l : List Step). shiftOutcome l z) (ap (λ (n : ℕ). slice n j xs) there ∙ slice-empty j xs) ∙ passes Range [] z (ap not r) ∙ answers z
+-- what the steps xs make of z is what the steps ys, which are left, make of w
+pub record Left (xs : List Step) (z : List ℤ) (ys : List Step) (w : List ℤ) : Type 0 where
+  pub inside : allInRange w ≡ true
+  pub stays : staysInRange ys w ≡ staysInRange xs z
+  pub ends : shiftAll ys w ≡ shiftAll xs z
 
--- the first of several steps
-module _ (x : Step) (xs : List Step) (z : List ℤ) where
-  -- it is passed
-  shift-goes : (w : List ℤ) → shiftOutcome (x ∷ []) z ≡ answered w → (shiftOutcome (x ∷ xs) z ≡ shiftOutcome xs w) × (allInRange w ≡ true)
-  unfolding shiftOutcome staysInRange shiftAll
-  shift-goes w e =
-      let there : w ≡ shift x z = answer-is _ (shift x z) e in
-      let t = both (allInRange z) (allInRange (shift x z)) (not-false _ (passed _ Range [] (shift x z) w e .0)) in
-      (rw (there, t .0), rw there (t .1))
+pub all-left : (xs : List Step) (z : List ℤ) → allInRange z ≡ true → Left xs z xs z
+all-left xs z r = record { inside = r; stays = refl; ends = refl }
 
-  -- or refused
-  shift-stops : (n : ℕ) → shiftOutcome (x ∷ []) z ≡ refused n → shiftOutcome (x ∷ xs) z ≡ refused n
-  unfolding shiftOutcome
-  shift-stops n e =
-      let out = refused-by _ Range (shiftAll (x ∷ []) z) e in
-      let left = test-false (staysInRange (x ∷ xs) z) (λ s. true≢false (sym (stays-take 1 (x ∷ xs) z s) ∙ not-true _ (out .0))) in
-      gives Range [] _ (ap not left) ∙ ap refused (out .1)
+module _ {xs : List Step} {z : List ℤ} where
+  pub none-left : (i : ℕ) (w : List ℤ) → length xs ≤ i → Left xs z (drop i xs) w → (true ≡ staysInRange xs z) × (w ≡ shiftAll xs z)
+  unfolding staysInRange shiftAll
+  none-left i w past l =
+      let none = drop-of-length-le xs past in
+      (sym (l .inside) ∙ sym (ap (λ (ys : List Step). staysInRange ys w) none) ∙ l .stays, sym (ap (λ (ys : List Step). shiftAll ys w) none) ∙ l .ends)
 
--- the steps from position i on, of which x is the first
-module _ (xs : List Step) (z : List ℤ) (i j : ℕ) (x other : Step) (at : x ≡ getD xs i other) (h : i < j) (k : j ≤ length xs) where
-  from-there : slice i j xs ≡ x ∷ slice (i + 1) j xs
-  from-there =
-      let next : suc i ≡ i + 1 = omega arith in
-      slice-cons i j xs other h k ∙ ap₂ (λ (y : Step) (n : ℕ). y ∷ slice n j xs) (sym at) next
+  module _ (i : ℕ) (x other : Step) (w : List ℤ) (at : x ≡ getD xs i other) (h : i < length xs) (l : Left xs z (drop i xs) w) where
+    from-there : drop i xs ≡ x ∷ drop (i + 1) xs
+    from-there =
+        let next : suc i ≡ i + 1 = omega arith in
+        drop-cons xs i other h ∙ ap₂ (λ (y : Step) (n : ℕ). y ∷ drop n xs) (sym at) next
 
-  pub shift-next : (w : List ℤ) → shiftOutcome (x ∷ []) z ≡ answered w
-      → (shiftOutcome (slice i j xs) z ≡ shiftOutcome (slice (i + 1) j xs) w) × (allInRange w ≡ true)
-  shift-next w e =
-      let goes = shift-goes x (slice (i + 1) j xs) z w e in
-      (ap (λ (l : List Step). shiftOutcome l z) from-there ∙ goes .0, goes .1)
+    stays-on : (allInRange w && staysInRange (drop (i + 1) xs) (shift x w)) ≡ staysInRange xs z
+    unfolding staysInRange
+    stays-on = sym (ap (λ (ys : List Step). staysInRange ys w) from-there) ∙ l .stays
 
-  pub shift-last : (n : ℕ) → shiftOutcome (x ∷ []) z ≡ refused n → shiftOutcome (slice i j xs) z ≡ refused n
-  shift-last n e = ap (λ (l : List Step). shiftOutcome l z) from-there ∙ shift-stops x (slice (i + 1) j xs) z n e
+    -- the next step leaves the range
+    pub leaves : false ≡ makesInRange x w → false ≡ staysInRange xs z
+    leaves out =
+        let gone = step-range x w (l .inside) ∙ sym out in
+        let rest = test-false (staysInRange (drop (i + 1) xs) (shift x w)) (λ s. true≢false (sym (stays-first _ _ s) ∙ gone)) in
+        sym (ap₂ _&&_ (l .inside) rest) ∙ stays-on
+
+    -- or doesn't
+    pub goes-on : (v : List ℤ) → true ≡ makesInRange x w → v ≡ shiftInRange x w → Left xs z (drop (i + 1) xs) v
+    unfolding shiftInRange shiftAll
+    goes-on v in-range is =
+        let there : v ≡ shift x w = is ∙ rw (sym in-range) in
+        record {
+          inside = ap allInRange there ∙ step-range x w (l .inside) ∙ sym in-range;
+          stays = ap (staysInRange (drop (i + 1) xs)) there ∙ sym (ap (λ t. t && staysInRange (drop (i + 1) xs) (shift x w)) (l .inside)) ∙ stays-on;
+          ends = ap (shiftAll (drop (i + 1) xs)) there ∙ sym (ap (λ (ys : List Step). shiftAll ys w) from-there) ∙ l .ends;
+        }

@@ -1,25 +1,51 @@
--- `shift` meets its contract: on exponents in range the arm of a step adds what the definition adds, or exchanges what it exchanges.
-use mathlib.Core.Path.{_≡_, sym, ap, _∙_}
-use mathlib.Core.Bool.{true}
-use mathlib.Core.List.{List}
-use Prim.Native.Nat.{ℕ}
+-- `shift` meets its contract: in the arm of a step the number that it makes is tested, and where it is in the range set, as the
+-- definition has it.
+use mathlib.Core.Path.{_≡_, sym, _∙_}
+use lib.IntN.{_+ℤ_, _-ℤ_}
 use borrow.Author.Needs.{needs}
 use borrow.Author.Tests.{not-true, not-false}
-use lib.IntN.{ℤ}
-use Rattle.machine.specs.Exponents.{exponentsOf, exponent, inRange, allInRange}
-use Rattle.machine.proofs.Laws.Sums.{range-bits, range-fits, range-opposite, exponent-range, shift-outside, shift-mul, shift-div, shift-swp}
+use mir.Syntax.{w64}
+use mir.Val.{toZ, ofZ}
+use Rattle.machine.specs.Exponents.{inRange}
+use Rattle.machine.proofs.Laws.Sums.{Makes, from-bits, range-fits, mul-makes, div-makes, swp-done, step-stops, step-done}
 use Rattle.machine.proofs.shift.Statement.{statement}
 use Rattle.machine.proofs.shift.Tie as tie
 
--- past the first test all exponents are in range
-held : (c : tie.Else1) → allInRange (exponentsOf (c .before .before .args .exponents)) ≡ true
-held c = sym (c .before .are-in-range .ensures) ∙ not-false _ (c .if1 .left)
+-- the number that a mul makes, and what the code's test says of it
+module _ (c : tie.After-is-sum-in-range) where
+  sum-made : let second = c .before in let first = second .before .before in let start = first .before .before .before .before .before in
+      Makes (start .args .step) (start .args .exponents .now) (first .before .before .before .step .given .0 .0) (first .exponent .result +ℤ second .exponent2 .result)
+  sum-made =
+      let second = c .before in
+      let first = second .before .before in
+      mul-makes _ _ _ _ _ _ (first .exponent .ensures) (second .exponent2 .ensures) (first .before .before .before .step .given .1)
 
-are-in-range-requires : tie.Need-are-in-range-requires
-are-in-range-requires c κs = search needs
+  sum-x : toZ w64 (ofZ w64 (c .before .before .before .exponent .result)) ≡ c .before .before .before .exponent .result
+  sum-x = from-bits _ (c .before .before .before .exponent .ok)
 
-returns : tie.Need-returns
-returns c = sym (shift-outside _ _ (sym (c .before .are-in-range .ensures) ∙ not-true _ (c .if1 .taken)))
+  sum-y : toZ w64 (ofZ w64 (c .before .exponent2 .result)) ≡ c .before .exponent2 .result
+  sum-y = from-bits _ (c .before .exponent2 .ok)
+
+  sum-tested : inRange (c .before .before .before .exponent .result +ℤ c .before .exponent2 .result) ≡ c .is-sum-in-range .result
+  sum-tested = sym (c .is-sum-in-range .ensures ∙ rw (sum-x, sum-y))
+
+-- and so a div
+module _ (c : tie.After-is-difference-in-range) where
+  difference-made : let second = c .before in let first = second .before .before in let start = first .before .before .before .before .before in
+      Makes (start .args .step) (start .args .exponents .now) (first .before .before .before .step2 .given .0 .0) (first .exponent3 .result -ℤ second .exponent4 .result)
+  difference-made =
+      let second = c .before in
+      let first = second .before .before in
+      div-makes _ _ _ _ _ _ (first .exponent3 .ensures) (second .exponent4 .ensures) (first .before .before .before .step2 .given .1)
+
+  difference-x : toZ w64 (ofZ w64 (c .before .before .before .exponent3 .result)) ≡ c .before .before .before .exponent3 .result
+  difference-x = from-bits _ (c .before .before .before .exponent3 .ok)
+
+  difference-y : toZ w64 (ofZ w64 (c .before .exponent4 .result)) ≡ c .before .exponent4 .result
+  difference-y = from-bits _ (c .before .exponent4 .ok)
+
+  difference-tested : inRange (c .before .before .before .exponent3 .result -ℤ c .before .exponent4 .result) ≡ c .is-difference-in-range .result
+  difference-tested = sym (c .is-difference-in-range .ensures ∙ rw (difference-x, difference-y))
 
 enum-known-step : tie.Need-enum-known-step
 enum-known-step c = search needs
@@ -27,42 +53,28 @@ enum-known-step c = search needs
 exponent-requires : tie.Need-exponent-requires
 exponent-requires c κs = search needs
 
--- the exponents that the code reads are in range, so they come back from their bits
-read : (z : List ℤ) (i : ℕ) (x : ℤ) → allInRange z ≡ true → x ≡ exponent z i → inRange x ≡ true
-read z i x r is = ap inRange is ∙ exponent-range z i r
-
-mul-source : (c : tie.After-exponent) → inRange (c .exponent .result) ≡ true
-mul-source c = read _ (c .before .before .step .given .0 .1 .0) _ (held (c .before .before .before .before)) (c .exponent .ensures)
-
-div-source : (c : tie.After-exponent2) → inRange (c .exponent2 .result) ≡ true
-div-source c = read _ (c .before .before .step2 .given .0 .1 .0) _ (held (c .before .before .before .before)) (c .exponent2 .ensures)
-
-swp-target : (c : tie.After-exponent3) → inRange (c .exponent3 .result) ≡ true
-swp-target c = read _ (c .before .before .step3 .given .0 .0) _ (held (c .before .before .before .before)) (c .exponent3 .ensures)
-
-swp-source : (c : tie.After-exponent4) → inRange (c .exponent4 .result) ≡ true
-swp-source c = read _ (c .before .before .before .step3 .given .0 .1 .0) _ (held (c .before .before .before .before .before)) (c .exponent4 .ensures)
-
-add-requires : tie.Need-add-requires
-add-requires c κs = (held (c .before .before .before .before), rw (range-bits _ (mul-source c)) (mul-source c))
-
-enum-known-step-2 : tie.Need-enum-known-step-2
-enum-known-step-2 c = search needs
-
 exponent-requires-2 : tie.Need-exponent-requires-2
 exponent-requires-2 c κs = search needs
 
-sub-add : tie.Need-sub-add
-sub-add c = rw (range-bits _ (div-source c)) (range-fits _ (range-opposite _ (div-source c)))
+is-sum-in-range-requires : tie.Need-is-sum-in-range-requires
+is-sum-in-range-requires c κs = search needs
 
-add-requires-2 : tie.Need-add-requires-2
-add-requires-2 c κs = (
-  held (c .before .before .before .before),
-  rw (range-bits _ (div-source c), range-bits _ (range-opposite _ (div-source c))) (range-opposite _ (div-source c)),
-)
+same-length : tie.Need-same-length
+same-length c = search needs
 
-enum-known-step-3 : tie.Need-enum-known-step-3
-enum-known-step-3 c = search needs
+returns : tie.Need-returns
+returns c = step-stops _ _ _ _ (sum-made (c .before)) (sum-tested (c .before) ∙ not-true _ (c .if1 .taken))
+
+add-set-exponent : tie.Need-add-set-exponent
+add-set-exponent c =
+    let test = c .before .before in
+    rw (sum-x test, sum-y test) (range-fits _ (sum-tested test ∙ not-false _ (c .before .if1 .left)))
+
+set-exponent-requires : tie.Need-set-exponent-requires
+set-exponent-requires c κs = search needs
+
+enum-known-step-2 : tie.Need-enum-known-step-2
+enum-known-step-2 c = search needs
 
 exponent-requires-3 : tie.Need-exponent-requires-3
 exponent-requires-3 c κs = search needs
@@ -70,56 +82,98 @@ exponent-requires-3 c κs = search needs
 exponent-requires-4 : tie.Need-exponent-requires-4
 exponent-requires-4 c κs = search needs
 
-with-exponent-requires : tie.Need-with-exponent-requires
-with-exponent-requires c κs = search needs
+is-difference-in-range-requires : tie.Need-is-difference-in-range-requires
+is-difference-in-range-requires c κs = search needs
 
-with-exponent-requires-2 : tie.Need-with-exponent-requires-2
-with-exponent-requires-2 c κs = search needs
+same-length-2 : tie.Need-same-length-2
+same-length-2 c = search needs
 
 returns-2 : tie.Need-returns-2
-returns-2 c =
-    let first = c .before in
-    c .add .ensures
-    ∙ sym
-    (shift-mul _ _ (held (first .before .before .before .before)) _ _ _ (first .before .before .step .given .1)
-    (range-bits _ (mul-source first) ∙ first .exponent .ensures))
+returns-2 c = step-stops _ _ _ _ (difference-made (c .before)) (difference-tested (c .before) ∙ not-true _ (c .if2 .taken))
+
+sub-set-exponent : tie.Need-sub-set-exponent
+sub-set-exponent c =
+    let test = c .before .before in
+    rw (difference-x test, difference-y test) (range-fits _ (difference-tested test ∙ not-false _ (c .before .if2 .left)))
+
+set-exponent-requires-2 : tie.Need-set-exponent-requires-2
+set-exponent-requires-2 c κs = search needs
+
+enum-known-step-3 : tie.Need-enum-known-step-3
+enum-known-step-3 c = search needs
+
+exponent-requires-5 : tie.Need-exponent-requires-5
+exponent-requires-5 c κs = search needs
+
+exponent-requires-6 : tie.Need-exponent-requires-6
+exponent-requires-6 c κs = search needs
+
+set-exponent-requires-3 : tie.Need-set-exponent-requires-3
+set-exponent-requires-3 c κs = search needs
+
+set-exponent-requires-4 : tie.Need-set-exponent-requires-4
+set-exponent-requires-4 c κs = search needs
+
+same-length-3 : tie.Need-same-length-3
+same-length-3 c = search needs
 
 returns-3 : tie.Need-returns-3
 returns-3 c =
-    let first = c .before in
-    let turned = range-opposite _ (div-source first) in
-    c .add2 .ensures
-    ∙ rw (range-bits _ (div-source first), range-bits _ turned)
-    (sym (shift-div _ _ (held (first .before .before .before .before)) _ _ _ (first .before .before .step2 .given .1) (first .exponent2 .ensures)))
+    let inside = c .before .before .before in
+    let test = inside .before in
+    let r = sum-tested test ∙ not-false _ (inside .if1 .left) in
+    step-done _ _ _ _ (sum-made test) _ r (c .before .set-exponent .ensures ∙ rw (sum-x test, sum-y test, from-bits _ (range-fits _ r .sfits)))
+
+same-length-4 : tie.Need-same-length-4
+same-length-4 c = search needs
 
 returns-4 : tie.Need-returns-4
 returns-4 c =
-    let once = c .before in
-    let second = once .before in
-    let first = second .before in
-    sym
-    (shift-swp _ _ (held (first .before .before .before .before)) _ _ _ _ _ _ (first .before .before .step3 .given .1)
-    (range-bits _ (swp-target first) ∙ first .exponent3 .ensures) (range-bits _ (swp-source second) ∙ second .exponent4 .ensures)
-    (once .with-exponent .ensures) (c .with-exponent2 .ensures))
+    let inside = c .before .before .before in
+    let test = inside .before in
+    let r = difference-tested test ∙ not-false _ (inside .if2 .left) in
+    step-done _ _ _ _ (difference-made test) _ r (c .before .set-exponent2 .ensures ∙ rw (difference-x test, difference-y test, from-bits _ (range-fits _ r .sfits)))
+
+same-length-5 : tie.Need-same-length-5
+same-length-5 c = search needs
+
+returns-5 : tie.Need-returns-5
+returns-5 c =
+    let last = c .before in
+    let once = last .before .before .before in
+    let second = once .before .before in
+    let first = second .before .before in
+    swp-done _ _ _ _ _ _ (first .exponent5 .ensures) (second .exponent6 .ensures) _ _ (first .before .before .before .step3 .given .1)
+    (once .set-exponent3 .ensures ∙ rw (from-bits _ (second .exponent6 .ok))) (last .set-exponent4 .ensures ∙ rw (from-bits _ (first .exponent5 .ok)))
 
 pub shift-spec : {M : Type 1} → statement M
 shift-spec =
     tie.close
     (tie.spec
-    are-in-range-requires
-    returns
     enum-known-step
     exponent-requires
-    add-requires
-    enum-known-step-2
     exponent-requires-2
-    sub-add
-    add-requires-2
-    enum-known-step-3
+    is-sum-in-range-requires
+    same-length
+    returns
+    add-set-exponent
+    set-exponent-requires
+    enum-known-step-2
     exponent-requires-3
     exponent-requires-4
-    with-exponent-requires
-    with-exponent-requires-2
+    is-difference-in-range-requires
+    same-length-2
     returns-2
+    sub-set-exponent
+    set-exponent-requires-2
+    enum-known-step-3
+    exponent-requires-5
+    exponent-requires-6
+    set-exponent-requires-3
+    set-exponent-requires-4
+    same-length-3
     returns-3
-    returns-4)
+    same-length-4
+    returns-4
+    same-length-5
+    returns-5)

@@ -1,20 +1,20 @@
 -- What an answer of load, run or cut says: their tape is accepted, each of their own rules is passed, and the registers or words are
 -- those of the definition.
-use mathlib.Core.Path.{_≡_, sym}
+use mathlib.Core.Path.{_≡_, refl, sym}
 use mathlib.Core.Bool.{false}
-use mathlib.Core.List.{List, [], _∷_}
-use Prim.Native.Nat.{ℕ, _≤_}
+use mathlib.Core.List.{List, [], _∷_, _++_}
+use Prim.Native.Nat.{ℕ, suc, _≤_}
 use native.Mathlib.Omega.{arith}
 use lib.Dec.{leb, eqb}
-use lib.ListN.{length, take, drop}
-use lib.Seq.{length-slice}
+use lib.ListN.{length, set, take, drop}
+use lib.Seq.{sets, length-slice}
 use borrow.Author.Tests.{leb-false, eqb-false}
-use Rattle.refusal.specs.Outcomes.{answered, numberIn, after}
-use Rattle.refusal.proofs.Laws.Rules.{passed, still-answered, answered-before, answer-is, refused-where, zero-answered, other-refused}
+use Rattle.refusal.specs.Outcomes.{Rule, answered, numberIn, after}
+use Rattle.refusal.proofs.Laws.Rules.{passed, refused-where, zero-answered, other-refused}
 use Rattle.modular.specs.Primes.{Prime}
 use Rattle.modular.specs.Residues.{Residue}
 use Rattle.refusal.proofs.Laws.Tests.{neither}
-use Rattle.tape.specs.Layout.{headerOf, stepIndex, stepsOf, stepWords, stepCount}
+use Rattle.tape.specs.Layout.{mostWords, headerOf, stepIndex, stepWordsOf, stepsOf, stepWords}
 use Rattle.tape.specs.Steps.{AllSound}
 use Rattle.tape.proofs.Laws.Rows.{all-steps-sound, slice-from}
 use Rattle.tape.proofs.Laws.Reading.{length-most}
@@ -22,10 +22,12 @@ use Rattle.tape.proofs.Laws.Layout.{laid-out-long}
 use Rattle.machine.specs.Machine.{run, Good, start}
 use Rattle.machine.proofs.Laws.Steps.{good-four}
 use Rattle.program.specs.Services.{checkRules, checkOutcome, acceptOutcome}
+use Rattle.program.specs.Door.{onTape}
 use Rattle.program.proofs.Laws.Checking.{accepted}
 use Rattle.program.proofs.Laws.Accepting.{accepted-prime}
-use Rattle.sequencer.specs.Services.{badRegister, badRegisters, badBase, loadOutcome, runRules, runOutcome, cutRules, cutOutcome, cutStart, cutCount}
-use Rattle.sequencer.specs.Lists.{Request, answerTo}
+use Rattle.program.proofs.Laws.Door.{answered-tape, answered-own, answered-with}
+use Rattle.sequencer.specs.Services.{badRegister, badRegisters, badBase, baseRules, loadOutcome, runRules, runOutcome, cutRules, cutOutcome, cutStart, cutCount}
+use Rattle.sequencer.specs.Lists.{Request, answerTo, numbersAll}
 use Rattle.sequencer.specs.Demand.{AsSaid, EachAsSaid}
 use Rattle.sequencer.proofs.Laws.Cases.{good-cut}
 
@@ -47,7 +49,7 @@ good-registers p c d e f good =
 
 -- the steps of a tape are sound, and an accepted tape's p is prime
 pub steps-sound : (tape : List ℕ) → AllSound (stepsOf tape)
-steps-sound tape = all-steps-sound (stepWords tape 0 (stepCount tape))
+steps-sound tape = all-steps-sound (stepWordsOf tape)
 
 pub prime-of : (tape : List ℕ) → checkOutcome tape ≡ answered 0 → Prime (headerOf tape .modulus)
 prime-of tape e = accepted-prime tape (accepted 0 tape e)
@@ -59,24 +61,23 @@ pub record Loaded (tape : List ℕ) (a : ℕ) (v : List ℕ) : Type 0 where
   pub registers : v ≡ start a
 
 pub load-answered : (tape : List ℕ) (a : ℕ) (v : List ℕ) → loadOutcome tape a ≡ answered v → Loaded tape a v
-unfolding loadOutcome
+unfolding loadOutcome baseRules
 load-answered tape a v e =
-    let parts = answered-before (checkRules tape) _ (start a) e in
-    let register = passed _ _ _ _ _ (parts .1) in
+    let register = passed _ _ _ _ _ (answered-own tape _ (start a) e) in
     record {
-      accepted = still-answered (start a) (headerOf tape) (checkRules tape) (parts .0);
+      accepted = answered-tape tape _ (start a) e;
       base = good-register _ a (register .0);
       power = passed _ _ _ _ _ (register .1) .0;
-      registers = answer-is _ (start a) e;
+      registers = answered-with tape _ (start a) e;
     }
 
 pub run-answered : (tape v : List ℕ) (from goal : ℕ) (w : List ℕ) → runOutcome tape v from goal ≡ answered w
     → w ≡ run (headerOf tape .modulus) (stepsOf tape) from goal v
 unfolding runOutcome
-run-answered tape v from goal w e = answer-is _ _ e
+run-answered tape v from goal w e = answered-with tape _ _ e
 
 -- what 0 beside a cut says: its words are those of the definition, and stand where `cutStart` and `cutCount` say, inside a tape of at
--- most 512 words
+-- most so many words as a tape has
 pub record Stands (tape : List ℕ) (first last : ℕ) : Type 0 where
   pub words : cutOutcome tape first last ≡ answered (stepWords tape first last)
   pub start : (held : ℕ) → after (cutStart tape first last) held ≡ stepIndex tape first
@@ -84,47 +85,62 @@ pub record Stands (tape : List ℕ) (first last : ℕ) : Type 0 where
   pub part : take (length (stepWords tape first last)) (drop (stepIndex tape first) tape) ≡ stepWords tape first last
   pub order : first ≤ last
   pub inside : stepIndex tape last ≤ length tape
-  pub short : length tape ≤ 512
+  pub short : length tape ≤ mostWords
   pub most : length (stepWords tape first last) ≤ length tape
 
 module _ (tape : List ℕ) (first last : ℕ) where
   abbrev words : List ℕ
   words = stepWords tape first last
 
+  abbrev rules : List Rule
+  rules = checkRules tape ++ cutRules (headerOf tape) first last
+
   pub cut-stands : numberIn (cutOutcome tape first last) ≡ 0 → Stands tape first last
-  unfolding cutOutcome cutRules cutStart cutCount
+  unfolding cutOutcome cutRules cutStart cutCount onTape
   cut-stands e =
-      let answer = zero-answered words words words (cutRules tape first last) e .0 in
-      let parts = answered-before (checkRules tape) _ words answer in
-      let all = accepted words tape (parts .0) in
-      let within = good-cut (headerOf tape .steps) first last (passed _ _ _ _ _ (parts .1) .0) in
+      let answer = zero-answered words words words rules e .0 in
+      let all = accepted _ tape (answered-tape tape _ words answer) in
+      let within = good-cut (headerOf tape .steps) first last (passed _ _ _ _ _ (answered-own tape _ words answer) .0) in
       let long = laid-out-long tape (all .laid) in
-      let short = length-most tape (all .long) in
       let size = length-slice (stepIndex tape first) (stepIndex tape last) tape (omega arith) in
       record {
         words = answer;
-        start = λ held. zero-answered words (stepIndex tape first) held (cutRules tape first last) e .1;
-        count = λ held. zero-answered words (length words) held (cutRules tape first last) e .1;
+        start = λ held. zero-answered words (stepIndex tape first) held rules e .1;
+        count = λ held. zero-answered words (length words) held rules e .1;
         part = rw size (sym (slice-from (stepIndex tape first) (stepIndex tape last) tape));
         order = within .0;
         inside = omega arith;
-        short = short;
+        short = length-most tape (all .long);
         most = omega arith;
       }
 
   -- and another number: both places hold what they held
   pub cut-not : ¬ (numberIn (cutOutcome tape first last) ≡ 0) → (held : ℕ)
       → (after (cutStart tape first last) held ≡ held) × (after (cutCount tape first last) held ≡ held)
-  unfolding cutOutcome cutStart cutCount
-  cut-not some held =
-      (other-refused words (stepIndex tape first) held (cutRules tape first last) some, other-refused words (length words) held (cutRules tape first last) some)
+  unfolding cutOutcome cutStart cutCount onTape
+  cut-not some held = (other-refused words (stepIndex tape first) held rules some, other-refused words (length words) held rules some)
 
 -- every run of every list is refused or answers as said
 as-said : (q : Request) (v : List ℕ) → AsSaid q v
-unfolding runOutcome
+unfolding runOutcome onTape runRules
 as-said q v = refused-where (runRules (q .tape) v (q .from) (q .goal)) _
 
-pub each-as-said : (qs : List Request) (v : List ℕ) → EachAsSaid qs v
-unfolding EachAsSaid
-each-as-said [] v = tt
-each-as-said (q ∷ qs) v = (as-said q v, each-as-said qs (after (answerTo q v) v))
+-- a row written from its first entry on, entry by entry
+sets-none : (i : ℕ) (numbers : List ℕ) → sets [] i numbers ≡ []
+sets-none i [] = refl
+sets-none i (n ∷ numbers) = sets-none (suc i) numbers
+
+sets-past : (x : ℕ) (row : List ℕ) (i : ℕ) (numbers : List ℕ) → sets (x ∷ row) (suc i) numbers ≡ x ∷ sets row i numbers
+sets-past x row i [] = refl
+sets-past x row i (n ∷ numbers) = sets-past x (set row i n) (suc i) numbers
+
+-- with its number in its place of a row
+pub each-as-said : (qs : List Request) (v row : List ℕ) → EachAsSaid qs v (sets row 0 (numbersAll qs v))
+unfolding EachAsSaid numbersAll
+each-as-said [] v row = tt
+each-as-said (q ∷ qs) v [] =
+    let rest = each-as-said qs (after (answerTo q v) v) [] in
+    rw (sets-none 1 (numbersAll qs (after (answerTo q v) v))) (as-said q v, rw (sets-none 0 (numbersAll qs (after (answerTo q v) v))) at rest)
+each-as-said (q ∷ qs) v (n ∷ row) =
+    rw (sets-past (numberIn (answerTo q v)) row 0 (numbersAll qs (after (answerTo q v) v)))
+    (as-said q v, refl, each-as-said qs (after (answerTo q v) v) row)

@@ -8,6 +8,7 @@ use Prim.Native.Nat.{ℕ, _*_, _%_, _^_}
 use native.Mathlib.Omega.{arith}
 use lib.Dec.{ltb}
 use lib.ListN.{length}
+use lib.Seq.{sets}
 use borrow.Author.Tests.{lt-ltb, le-ltb, eqb-false, not-true}
 use Rattle.refusal.specs.Outcomes.{Outcome, refused, answered, after}
 use Rattle.modular.specs.Primes.{Prime}
@@ -20,10 +21,10 @@ use Rattle.tape.proofs.Laws.Layout.{steps-count}
 use Rattle.machine.specs.Machine.{run, start}
 use Rattle.machine.proofs.Laws.Steps.{good-start}
 use Rattle.machine.proofs.Laws.Runs.{run-forward, run-backward}
-use Rattle.named.specs.Generators.{Raises, Lowers}
-use Rattle.program.proofs.Laws.Checking.{AcceptedNamed, accepted-named}
-use Rattle.program.proofs.Laws.Accepting.{accepted-some, accepted-raises, accepted-lowers}
-use Rattle.sequencer.specs.Lists.{Request, answerTo, afterAll, unlessRefused, performed}
+use Rattle.named.specs.Promises.{IsProgram}
+use Rattle.program.proofs.Laws.Checking.{accepted-named}
+use Rattle.program.proofs.Laws.Accepting.{accepted-program}
+use Rattle.sequencer.specs.Lists.{Request, answerTo, afterAll, numbersAll, unlessRefused, performed}
 use Rattle.sequencer.specs.Demand.{EndToEnd, AllEndToEnd, factor, exponentAfter, ChainEnds}
 use Rattle.sequencer.proofs.Laws.Answers.{steps-sound, prime-of, load-answered, run-answered, each-as-said}
 
@@ -46,28 +47,20 @@ module _ (p : ℕ) (pr : Prime p) (r a : ℕ) (ra : Residue p a) (ord : a ^ r % 
     residue : Residue p b
     residue = residue-pow p pr a E ra
 
-    is-named : AcceptedNamed (q .tape)
-    is-named = accepted-named 0 (q .tape) (end .accepted) (eqb-false _ 0 (not-true _ (end .named)))
-
-    raises : Raises p r k xs
-    raises =
-        subst (λ (n : ℕ). Raises n r k xs) (end .modulus)
-        (subst (λ (n : ℕ). Raises (headerOf (q .tape) .modulus) n k xs) (end .order) (accepted-raises (q .tape) is-named))
-
-    lowers : Lowers p r (inverse r k) xs
-    lowers =
-        subst (λ (n : ℕ). Lowers n r (inverse r k) xs) (end .modulus)
-        (subst (λ (n : ℕ). Lowers (headerOf (q .tape) .modulus) n (inverse n k) xs) (end .order) (accepted-lowers (q .tape) is-named))
+    program : IsProgram r k xs
+    program =
+        subst (λ (n : ℕ). IsProgram n k xs) (end .order)
+        (accepted-program (q .tape) (accepted-named 0 (q .tape) (end .accepted) (eqb-false _ 0 (not-true _ (end .named)))))
 
     goal-is : headerOf (q .tape) .steps ≡ length xs
     goal-is = sym (steps-count (q .tape))
 
     forward : q .from ≡ 0 → q .goal ≡ length xs → run p xs (q .from) (q .goal) (start b) ≡ start (a ^ (E * factor r q % r) % p)
     forward e f =
-        let up : ltb (q .from) (q .goal) ≡ true = lt-ltb (q .from) (q .goal) (omega (arith, accepted-some (q .tape) is-named)) in
+        let up : ltb (q .from) (q .goal) ≡ true = lt-ltb (q .from) (q .goal) (omega (arith, program .some)) in
         ap₂ (λ (i j : ℕ). run p xs i j (start b)) e f
         ∙ run-forward p pr xs (steps-sound (q .tape)) (start b) (good-start p pr b residue)
-        ∙ raises b residue (order-power p pr a r E ord)
+        ∙ program .raises p pr b residue (order-power p pr a r E ord)
         ∙ rw up (reduced E k)
 
     backward : q .from ≡ length xs → q .goal ≡ 0 → run p xs (q .from) (q .goal) (start b) ≡ start (a ^ (E * factor r q % r) % p)
@@ -75,7 +68,7 @@ module _ (p : ℕ) (pr : Prime p) (r a : ℕ) (ra : Residue p a) (ord : a ^ r % 
         let down : ltb (q .from) (q .goal) ≡ false = le-ltb (q .from) (q .goal) (omega arith) in
         ap₂ (λ (i j : ℕ). run p xs i j (start b)) e f
         ∙ run-backward p pr xs (steps-sound (q .tape)) (start b) (good-start p pr b residue)
-        ∙ lowers b residue (order-power p pr a r E ord)
+        ∙ program .lowers p pr b residue (order-power p pr a r E ord)
         ∙ rw down (reduced E (inverse r k))
 
     pub linked : run (headerOf (q .tape) .modulus) xs (q .from) (q .goal) (start b) ≡ start (a ^ (E * factor r q % r) % p)
@@ -102,11 +95,11 @@ module _ (p : ℕ) (pr : Prime p) (r a : ℕ) (ra : Residue p a) (ord : a ^ r % 
           ∙ linked q (links .0) E)
           (links .1)
 
-pub chain-ends : (qs : List Request) (v : List ℕ) → ChainEnds qs v (afterAll qs v)
-chain-ends qs v p r a c =
+pub chain-ends : (qs : List Request) (v row : List ℕ) → ChainEnds qs v (sets row 0 (numbersAll qs v)) (afterAll qs v)
+chain-ends qs v row p r a c =
     let pr : Prime p = subst Prime (c .modulus) (prime-of (c .tape) (c .accepted)) in
     let load = load-answered (c .tape) a v (c .loaded) in
     let ra : Residue p a = subst (λ (n : ℕ). Residue n a) (c .modulus) (load .base) in (
-      each-as-said qs v,
+      each-as-said qs v row,
       from-there p pr r a ra (c .power) qs 1 v (load .registers ∙ ap start (sym (power-one p pr a ra))) (c .links),
     )

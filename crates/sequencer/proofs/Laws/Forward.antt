@@ -1,12 +1,12 @@
 -- Load and run forward: what load refuses is refused, and where load answers, run passes each of its rules. A named program's steps, done
 -- from first to last, raise the base to the power k.
-use mathlib.Core.Path.{_≡_, refl, sym, ap, _∙_}
+use mathlib.Core.Path.{_≡_, sym, ap, _∙_}
 use mathlib.Core.Bool.{true, false}
 use mathlib.Core.List.{List}
 use Prim.Native.Nat.{ℕ, _%_, _^_}
 use native.Mathlib.Omega.{arith}
 use borrow.Author.Tests.{lt-leb, ne-eqb, eqb-true, eqb-false, not-true, not-false}
-use Rattle.refusal.specs.Outcomes.{refused, answered}
+use Rattle.refusal.specs.Outcomes.{refused, answered, passes, answers}
 use Rattle.modular.specs.Primes.{Prime}
 use Rattle.modular.specs.Residues.{Residue}
 use Rattle.modular.proofs.Laws.Group.{residue-one}
@@ -17,9 +17,9 @@ use Rattle.machine.proofs.Laws.Steps.{good-start}
 use Rattle.machine.proofs.Laws.Runs.{run-forward}
 use Rattle.program.specs.Services.{isNamed}
 use Rattle.program.proofs.Laws.Checking.{accepted-named}
-use Rattle.program.proofs.Laws.Accepting.{accepted-raises}
-use Rattle.sequencer.specs.Services.{badRegister, badRegisters, loadOutcome, runOutcome, forwardOutcome}
-use Rattle.sequencer.proofs.Laws.Cases.{modulus-prime, base-named, registers-others, registers-last, run-there}
+use Rattle.program.proofs.Laws.Accepting.{accepted-program}
+use Rattle.sequencer.specs.Services.{badRegister, badRegisters, travelRules, loadOutcome, runOutcome, forwardOutcome}
+use Rattle.sequencer.proofs.Laws.Cases.{modulus-prime, base-named, registers-others, registers-last, both-inside, run-rules}
 use Rattle.sequencer.proofs.Laws.Answers.{steps-sound, load-answered}
 
 -- ---- the two outcomes of load
@@ -46,12 +46,16 @@ start-good p pr a r =
 
 module _ (tape : List ℕ) (a : ℕ) {v : List ℕ} (e : loadOutcome tape a ≡ answered v) where
   pub forward-answered : forwardOutcome tape a ≡ answered (run (headerOf tape .modulus) (stepsOf tape) 0 (headerOf tape .steps) (start a))
+  unfolding travelRules
   forward-answered =
       let load = load-answered tape a v e in
       let pr = modulus-prime tape (headerOf tape) (load .accepted) in
       forward-loaded tape a e
       ∙ ap (λ (w : List ℕ). runOutcome tape w 0 (headerOf tape .steps)) (load .registers)
-      ∙ run-there tape (headerOf tape) (load .accepted) (start a) 0 (headerOf tape .steps) (start-good _ pr a (load .base)) (omega arith) (omega arith) _ refl
+      ∙ run-rules tape (headerOf tape) (load .accepted) (start a) 0 (headerOf tape .steps)
+      ∙ passes _ _ _ (start-good _ pr a (load .base))
+      ∙ passes _ _ _ (both-inside (headerOf tape .steps) 0 _ (omega arith) (omega arith))
+      ∙ answers _
 
   -- of a named program, (1, a^k, 1, 1)
   pub forward-power : isNamed (headerOf tape) ≡ true → forwardOutcome tape a ≡ answered (start (a ^ (headerOf tape .exponent) % headerOf tape .modulus))
@@ -65,4 +69,4 @@ module _ (tape : List ℕ) (a : ℕ) {v : List ℕ} (e : loadOutcome tape a ≡ 
       ∙ ap answered
       (ap (λ (n : ℕ). run (h .modulus) (stepsOf tape) 0 n (start a)) (sym (steps-count tape))
       ∙ run-forward (h .modulus) pr (stepsOf tape) (steps-sound tape) (start a) (good-start (h .modulus) pr a (load .base))
-      ∙ accepted-raises tape (accepted-named h tape (load .accepted) some) a (load .base) power)
+      ∙ accepted-program tape (accepted-named h tape (load .accepted) some) .raises (h .modulus) pr a (load .base) power)

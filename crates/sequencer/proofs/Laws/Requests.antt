@@ -1,14 +1,16 @@
--- A list of requests as words: four words from an index on are its next request, and fewer are none.
+-- A list of requests as words: four words from an index on are its next request, and fewer are none. A list that fits is given by
+-- its tapes one behind another and where each of them stands.
 use mathlib.Core.Path.{_≡_, refl, sym, ap, _∙_}
-use mathlib.Core.List.{List, [], _∷_}
-use Prim.Native.Nat.{ℕ, suc, _+_, _-_, _≤_, _<_}
+use mathlib.Core.List.{List, [], _∷_, _++_, append-assoc}
+use Prim.Native.Nat.{ℕ, suc, _+_, _-_, _^_, _≤_, _<_}
 use native.Mathlib.Omega.{arith}
-use lib.ListN.{length, getD, drop, length-drop}
-use lib.Seq.{drop-cons}
-use Rattle.refusal.specs.Outcomes.{after}
+use lib.ListN.{length, getD, set, drop, length-drop, length-append}
+use lib.Seq.{sets, drop-cons, take-at, drop-at}
+use Rattle.refusal.specs.Outcomes.{Outcome, numberIn, after}
 use Rattle.tape.specs.Layout.{part}
+use Rattle.tape.proofs.Laws.Rows.{part-inside}
 use Rattle.sequencer.specs.Services.{runOutcome}
-use Rattle.sequencer.specs.Lists.{Request, afterAll, requestsOf}
+use Rattle.sequencer.specs.Lists.{Request, afterAll, numbersAll, requestsOf, AllBelow, Given, tapesOf, PositionsFit}
 
 fewer : (row words : List ℕ) → length words < 4 → requestsOf row words ≡ []
 unfolding requestsOf
@@ -35,16 +37,69 @@ module _ (row words : List ℕ) (i : ℕ) where
       let four : i + 3 + 1 ≡ i + 4 = omega arith in
       cc (a, b, c, d, two, three, four)
 
-  -- what all runs leave is what those past the next make of what that one leaves
-  pub after-next : (tape v w : List ℕ) → i + 4 ≤ length words → tape ≡ part row (getD words i 0) (getD words (i + 1) 0)
-      → w ≡ after (runOutcome tape v (getD words (i + 2) 0) (getD words (i + 3) 0)) v
-      → afterAll (requestsOf row (drop (i + 4) words)) w ≡ afterAll (requestsOf row (drop i words)) v
-  unfolding afterAll requestsOf
-  after-next tape v w h is this =
-      ap (afterAll (requestsOf row (drop (i + 4) words)))
-      (this ∙ ap (λ (t : List ℕ). after (runOutcome t v (getD words (i + 2) 0) (getD words (i + 3) 0)) v) is)
-      ∙ sym (ap (λ (l : List ℕ). afterAll (requestsOf row l) v) (four-words h))
+  -- what all runs leave, and their numbers, is what those past the next make of what that one leaves
+  module _ (v w : List ℕ) (tape : List ℕ) (h : i + 4 ≤ length words) (is : tape ≡ part row (getD words i 0) (getD words (i + 1) 0)) where
+    abbrev answer : Outcome (List ℕ)
+    answer = runOutcome tape v (getD words (i + 2) 0) (getD words (i + 3) 0)
 
-  pub after-last : (v : List ℕ) → length words - i < 4 → afterAll (requestsOf row (drop i words)) v ≡ v
-  unfolding afterAll
-  after-last v h = ap (λ (qs : List Request). afterAll qs v) (fewer row (drop i words) (omega (arith, length-drop i words)))
+    first : requestsOf row (drop i words)
+        ≡ record { tape = tape; from = getD words (i + 2) 0; goal = getD words (i + 3) 0 } ∷ requestsOf row (drop (i + 4) words)
+    unfolding requestsOf
+    first =
+        ap (requestsOf row) (four-words h)
+        ∙ ap (λ (t : List ℕ). record { tape = t; from = getD words (i + 2) 0; goal = getD words (i + 3) 0 } ∷ requestsOf row (drop (i + 4) words)) (sym is)
+
+    pub after-next : w ≡ after answer v → afterAll (requestsOf row (drop (i + 4) words)) w ≡ afterAll (requestsOf row (drop i words)) v
+    unfolding afterAll
+    after-next this = ap (afterAll (requestsOf row (drop (i + 4) words))) this ∙ sym (ap (λ (qs : List Request). afterAll qs v) first)
+
+    pub numbers-next : (numbers numbers′ : List ℕ) (n : ℕ) → w ≡ after answer v → numbers′ ≡ set numbers n (numberIn answer)
+        → sets numbers′ (n + 1) (numbersAll (requestsOf row (drop (i + 4) words)) w) ≡ sets numbers n (numbersAll (requestsOf row (drop i words)) v)
+    unfolding numbersAll
+    numbers-next numbers numbers′ n this noted =
+        let next : n + 1 ≡ suc n = omega arith in
+        rw (this, noted, next) (sym (ap (λ (qs : List Request). sets numbers n (numbersAll qs v)) first))
+
+  module _ (v : List ℕ) (h : length words - i < 4) where
+    none : requestsOf row (drop i words) ≡ []
+    none = fewer row (drop i words) (omega (arith, length-drop i words))
+
+    pub after-last : afterAll (requestsOf row (drop i words)) v ≡ v
+    unfolding afterAll
+    after-last = ap (λ (qs : List Request). afterAll qs v) none
+
+    pub numbers-last : (numbers : List ℕ) (n : ℕ) → sets numbers n (numbersAll (requestsOf row (drop i words)) v) ≡ numbers
+    unfolding numbersAll
+    numbers-last numbers n = ap (λ (qs : List Request). sets numbers n (numbersAll qs v)) none
+
+-- ---- from requests to words
+
+-- the tapes stand one behind another, from an index on
+wordsFrom : ℕ → List Request → List ℕ
+wordsFrom at [] = []
+wordsFrom at (q ∷ qs) = at ∷ (at + length (q .tape)) ∷ q .from ∷ q .goal ∷ wordsFrom (at + length (q .tape)) qs
+
+middle : (front tape rest : List ℕ) → part (front ++ tape ++ rest) (length front) (length front + length tape) ≡ tape
+middle front tape rest =
+    let long : length front + length tape ≤ length (front ++ tape ++ rest) = omega (arith, length-append (front ++ tape) rest, length-append front tape) in
+    part-inside (front ++ tape ++ rest) (length front) (length front + length tape) (omega arith) long
+    ∙ ap (drop (length front)) (take-at (front ++ tape) rest _ (length-append front tape))
+    ∙ drop-at front tape _ refl
+
+words-requests : (front : List ℕ) (qs : List Request) → requestsOf (front ++ tapesOf qs) (wordsFrom (length front) qs) ≡ qs
+unfolding requestsOf tapesOf wordsFrom
+words-requests front [] = refl
+words-requests front (q ∷ qs) =
+    let again : front ++ (q .tape ++ tapesOf qs) ≡ front ++ q .tape ++ tapesOf qs = sym (append-assoc front (q .tape) (tapesOf qs)) in
+    rw (again, middle front (q .tape) (tapesOf qs), ← (length-append front (q .tape)), words-requests (front ++ q .tape) qs)
+
+below-words : (at : ℕ) (qs : List Request) → at + length (tapesOf qs) < 2 ^ 32 → PositionsFit qs → AllBelow (2 ^ 32) (wordsFrom at qs)
+unfolding AllBelow tapesOf wordsFrom PositionsFit
+below-words at [] short fit = tt
+below-words at (q ∷ qs) short fit =
+    let long = length-append (q .tape) (tapesOf qs) in
+    (omega arith, (omega arith, (fit .0, (fit .1, below-words (at + length (q .tape)) qs (omega arith) (fit .2)))))
+
+pub requests-given : (qs : List Request) → AllBelow (2 ^ 32) (tapesOf qs) → length (tapesOf qs) < 2 ^ 32 → PositionsFit qs → Given qs
+requests-given qs fits short positions =
+    record { row = tapesOf qs; words = wordsFrom 0 qs; row-fits = fits; words-fit = below-words 0 qs (omega arith) positions; requests = words-requests [] qs }

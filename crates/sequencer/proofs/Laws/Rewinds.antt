@@ -4,13 +4,14 @@
 use mathlib.Core.Path.{_≡_, refl, sym, ap, ap₂, _∙_}
 use mathlib.Core.List.{List, [], _∷_}
 use Prim.Native.Nat.{ℕ}
+use lib.Seq.{sets}
 use Rattle.refusal.specs.Outcomes.{Outcome, refused, answered, after}
 use Rattle.modular.specs.Primes.{Prime}
 use Rattle.tape.specs.declared.Step.{Step}
 use Rattle.tape.specs.Layout.{headerOf, stepsOf}
 use Rattle.machine.specs.Machine.{run, Good}
 use Rattle.machine.proofs.Laws.Runs.{run-good, run-compose, run-stay}
-use Rattle.sequencer.specs.Lists.{Request, answerTo, afterAll, unlessRefused, performed}
+use Rattle.sequencer.specs.Lists.{Request, answerTo, afterAll, numbersAll, unlessRefused, performed}
 use Rattle.sequencer.specs.Demand.{Returns, RewindEnds}
 use Rattle.sequencer.proofs.Laws.Answers.{steps-sound, prime-of, run-answered, each-as-said}
 
@@ -40,10 +41,10 @@ module _ (tape : List ℕ) (home : ℕ) (pr : Prime (headerOf tape .modulus)) wh
           ∙ ap (run p xs (q .goal) home) there
           ∙ run-compose p pr xs (steps-sound tape) at (q .goal) home v g
 
-pub rewind-ends : (qs : List Request) (v : List ℕ) → RewindEnds qs v (afterAll qs v)
-rewind-ends qs v tape home h =
+pub rewind-ends : (qs : List Request) (v row : List ℕ) → RewindEnds qs v (sets row 0 (numbersAll qs v)) (afterAll qs v)
+rewind-ends qs v row tape home h =
     let pr = prime-of tape (h .accepted) in (
-      each-as-said qs v,
+      each-as-said qs v row,
       from-there tape home pr qs home v (h .registers) (h .returns)
           ∙ run-stay (headerOf tape .modulus) pr (stepsOf tape) (steps-sound tape) home v (h .registers),
     )

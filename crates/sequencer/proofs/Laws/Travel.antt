@@ -1,60 +1,62 @@
--- One step of the way along a tape: the step that the code reads is the one that the definition has there, and registers that set out
--- beside their inverses stay beside them and arrive as four.
+-- One step of the way through step words: the step that the code reads is the one that the definition has there, and registers that
+-- set out beside their inverses stay beside them and arrive as four.
 use mathlib.Core.Path.{_≡_, sym, ap, _∙_}
 use mathlib.Core.Bool.{Bool, true, false}
-use mathlib.Core.List.{List, [], _∷_}
+use mathlib.Core.List.{List}
 use Prim.Native.Nat.{ℕ, _+_, _≤_, _<_}
 use native.Mathlib.Omega.{arith}
-use lib.IntN.{ℤ}
-use lib.ListN.{length, length-map}
-use lib.Seq.{slice}
+use lib.ListN.{length, take, drop, length-map, drop-of-length-le}
+use lib.Seq.{slice, take-all}
 use borrow.Author.Tests.{le-leb, lt-leb}
-use Rattle.refusal.specs.Outcomes.{Outcome, refused, answered}
 use Rattle.modular.specs.Primes.{Prime}
 use Rattle.modular.specs.Inverses.{inverse}
 use Rattle.tape.specs.declared.Step.{Step}
 use Rattle.tape.specs.Words.{decoded}
-use Rattle.tape.specs.Layout.{stepCount, stepAt, stepOf, stepsOf}
+use Rattle.tape.specs.Layout.{part, stepOf, stepsIn}
 use Rattle.tape.specs.Steps.{Sound}
 use Rattle.tape.proofs.Laws.Words.{decoded-lawful, step-sound}
-use Rattle.tape.proofs.Laws.Rows.{steps-at}
-use Rattle.tape.proofs.Laws.Layout.{steps-count}
+use Rattle.tape.proofs.Laws.Rows.{all-steps-sound, part-inside, steps-nth}
 use Rattle.machine.specs.Machine.{apply, opposite, doAll, undoAll, run, Good}
 use Rattle.machine.specs.Carried.{firstFour, inverses, applyWith, Carried}
-use Rattle.machine.specs.Exponents.{allInRange, shiftOutcome}
+use Rattle.machine.proofs.Laws.Lists.{four-first, map-slice}
 use Rattle.machine.proofs.Laws.Steps.{sound-opposite}
-use Rattle.machine.proofs.Laws.Carried.{four-values, carried-step}
+use Rattle.machine.proofs.Laws.Carried.{carried-step}
 use Rattle.machine.proofs.Laws.Runs.{do-next, undo-next, run-good}
-use Rattle.machine.proofs.Laws.Traces.{shift-next, shift-last}
 use Rattle.sequencer.specs.Stepping.{stepIn, turned}
-use Rattle.sequencer.proofs.Laws.Answers.{steps-sound}
 
-module _ (tape : List ℕ) (p : ℕ) (v : List ℕ) (i j : ℕ) (w : List ℕ) where
-  pub forward-next : i < j → j ≤ stepCount tape → w ≡ apply p (stepIn tape i) v
-      → doAll p (slice (i + 1) j (stepsOf tape)) w ≡ doAll p (slice i j (stepsOf tape)) v
-  forward-next h k applied =
-      ap (doAll p (slice (i + 1) j (stepsOf tape)))
-      (applied ∙ ap (λ (y : Step). apply p y v) (sym (steps-at tape i (omega arith))))
-      ∙ sym (do-next p (stepsOf tape) _ v i j h (omega (arith, steps-count tape)))
+pub count-in : (words : List ℕ) → length (stepsIn words) ≡ length words
+count-in words = length-map words _
 
-  pub backward-next : j ≤ i → i < stepCount tape → w ≡ apply p (opposite (stepIn tape i)) v
-      → undoAll p (slice j i (stepsOf tape)) w ≡ undoAll p (slice j (i + 1) (stepsOf tape)) v
-  backward-next h k applied =
-      ap (undoAll p (slice j i (stepsOf tape)))
-      (applied ∙ ap (λ (y : Step). apply p (opposite y) v) (sym (steps-at tape i k)))
-      ∙ sym (undo-next p (stepsOf tape) _ v i j h (omega (arith, steps-count tape)))
+-- the steps in a part of the words
+pub part-steps : (words : List ℕ) (i j : ℕ) → i ≤ j → j ≤ length words → stepsIn (part words i j) ≡ slice i j (stepsIn words)
+part-steps words i j order inside = ap stepsIn (part-inside words i j order inside) ∙ map-slice _ i j words
 
--- and so on whole exponents, where the step's outcome is that of the definition
-module _ (tape : List ℕ) (z : List ℤ) (i j : ℕ) (x : Step) (read : x ≡ stepOf (decoded (stepAt tape i))) (h : i < j) (k : j ≤ stepCount tape)
-    (o : Outcome (List ℤ)) (shifted : o ≡ shiftOutcome (x ∷ []) z) where
-  pub trace-next : (w : List ℤ) → o ≡ answered w
-      → (shiftOutcome (slice i j (stepsOf tape)) z ≡ shiftOutcome (slice (i + 1) j (stepsOf tape)) w) × (allInRange w ≡ true)
-  trace-next w e =
-      shift-next (stepsOf tape) z i j x _ (read ∙ sym (steps-at tape i (omega arith))) h (omega (arith, steps-count tape)) w (sym shifted ∙ e)
+module _ (words : List ℕ) (p : ℕ) (v : List ℕ) (i : ℕ) where
+  module _ (w : List ℕ) (inside : i < length words) where
+    pub forward-next : w ≡ apply p (stepIn words i) v → doAll p (drop (i + 1) (stepsIn words)) w ≡ doAll p (drop i (stepsIn words)) v
+    forward-next applied =
+        ap (doAll p (drop (i + 1) (stepsIn words))) (applied ∙ ap (λ (y : Step). apply p y v) (sym (steps-nth words i)))
+        ∙ sym (do-next p (stepsIn words) _ v i (omega (arith, count-in words)))
 
-  pub trace-stop : (n : ℕ) → o ≡ refused n → shiftOutcome (slice i j (stepsOf tape)) z ≡ refused n
-  trace-stop n e =
-      shift-last (stepsOf tape) z i j x _ (read ∙ sym (steps-at tape i (omega arith))) h (omega (arith, steps-count tape)) n (sym shifted ∙ e)
+    pub backward-next : w ≡ apply p (opposite (stepIn words i)) v → undoAll p (take i (stepsIn words)) w ≡ undoAll p (take (i + 1) (stepsIn words)) v
+    backward-next applied =
+        ap (undoAll p (take i (stepsIn words))) (applied ∙ ap (λ (y : Step). apply p (opposite y) v) (sym (steps-nth words i)))
+        ∙ sym (undo-next p (stepsIn words) _ v i (omega (arith, count-in words)))
+
+  -- no step is left
+  pub forward-none : length words ≤ i → doAll p (drop i (stepsIn words)) v ≡ v
+  unfolding doAll
+  forward-none past =
+      let none : length (stepsIn words) ≤ i = omega (arith, count-in words) in
+      ap (λ (l : List Step). doAll p l v) (drop-of-length-le (stepsIn words) none)
+
+  pub backward-none : i ≤ 0 → undoAll p (take i (stepsIn words)) v ≡ v
+  unfolding undoAll
+  backward-none past = let none : i ≡ 0 = omega arith in ap (λ (n : ℕ). undoAll p (take n (stepsIn words)) v) none
+
+-- all of them are
+pub backward-all : (words : List ℕ) (p : ℕ) (v : List ℕ) → undoAll p (take (length words) (stepsIn words)) v ≡ undoAll p (stepsIn words) v
+backward-all words p v = ap (λ (l : List Step). undoAll p l v) (take-all (length words) (stepsIn words) (omega (arith, count-in words)))
 
 -- ---- registers beside their inverses
 
@@ -63,10 +65,10 @@ turned-sound : (undone : Bool) (w : ℕ) → Sound (turned undone (stepOf (decod
 turned-sound true w = sound-opposite _ (step-sound (decoded w) (decoded-lawful w))
 turned-sound false w = step-sound (decoded w) (decoded-lawful w)
 
-pub carried-next : (tape : List ℕ) (p : ℕ) → Prime p → (i : ℕ) (undone : Bool) (x : Step) (v w v′ w′ : List ℕ) → x ≡ turned undone (stepIn tape i)
-    → Carried p v w → v′ ≡ applyWith p x v w → w′ ≡ applyWith p x w v → (v′ ≡ apply p (turned undone (stepIn tape i)) v) × Carried p v′ w′
-carried-next tape p pr i undone x v w v′ w′ read k ev ew =
-    carried-step p pr (turned undone (stepIn tape i)) v w v′ w′ (turned-sound undone (stepAt tape i)) k
+pub carried-next : (words : List ℕ) (p : ℕ) → Prime p → (i : ℕ) (undone : Bool) (x : Step) (v w v′ w′ : List ℕ) → x ≡ turned undone (stepIn words i)
+    → Carried p v w → v′ ≡ applyWith p x v w → w′ ≡ applyWith p x w v → (v′ ≡ apply p (turned undone (stepIn words i)) v) × Carried p v′ w′
+carried-next words p pr i undone x v w v′ w′ read k ev ew =
+    carried-step p pr (turned undone (stepIn words i)) v w v′ w′ (turned-sound undone _) k
     (ev ∙ ap (λ (y : Step). applyWith p y v w) read) (ew ∙ ap (λ (y : Step). applyWith p y w v) read)
 
 -- the registers set out beside their inverses
@@ -76,15 +78,17 @@ carried-start p v u w good same beside = record { good = rw same good; beside = 
 pub beside-four : (p : ℕ) (v w : List ℕ) → Carried p v w → length w ≡ 4
 beside-four p v w k = ap length (k .beside) ∙ length-map v (inverse p) ∙ k .good .four
 
-module _ (tape : List ℕ) (p : ℕ) (v : List ℕ) (from goal : ℕ) (pr : Prime p) (good : Good p v) (u w : List ℕ) (set-out : u ≡ v) where
+module _ (words : List ℕ) (p : ℕ) (v : List ℕ) (from goal : ℕ) (pr : Prime p) (good : Good p v) (u w part-words : List ℕ) (set-out : u ≡ v) where
   -- four registers arrive
-  arrived : w ≡ run p (stepsOf tape) from goal v → firstFour w ≡ run p (stepsOf tape) from goal v
-  arrived e = four-values w (ap length e ∙ run-good p pr (stepsOf tape) (steps-sound tape) from goal v good .four) ∙ e
+  arrived : w ≡ run p (stepsIn words) from goal v → firstFour w ≡ run p (stepsIn words) from goal v
+  arrived e = four-first 0 w (ap length e ∙ run-good p pr (stepsIn words) (all-steps-sound words) from goal v good .four) ∙ e
 
-  pub forward-there : from ≤ goal → w ≡ doAll p (slice from goal (stepsOf tape)) u → firstFour w ≡ run p (stepsOf tape) from goal v
+  pub forward-there : from ≤ goal → goal ≤ length words → part-words ≡ part words from goal → w ≡ doAll p (stepsIn part-words) u
+      → firstFour w ≡ run p (stepsIn words) from goal v
   unfolding run
-  forward-there h done = arrived (done ∙ rw (set-out, le-leb from goal h))
+  forward-there h inside is done = arrived (done ∙ rw (is, part-steps words from goal h inside, set-out, le-leb from goal h))
 
-  pub backward-there : goal < from → w ≡ undoAll p (slice goal from (stepsOf tape)) u → firstFour w ≡ run p (stepsOf tape) from goal v
+  pub backward-there : goal < from → from ≤ length words → part-words ≡ part words goal from → w ≡ undoAll p (stepsIn part-words) u
+      → firstFour w ≡ run p (stepsIn words) from goal v
   unfolding run
-  backward-there h done = arrived (done ∙ rw (set-out, lt-leb from goal h))
+  backward-there h inside is done = arrived (done ∙ rw (is, part-steps words goal from (omega arith) inside, set-out, lt-leb from goal h))

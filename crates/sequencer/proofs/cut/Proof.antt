@@ -1,7 +1,9 @@
 -- `cut` meets its contract: what check refuses, cut refuses, and the rule past it is `cut_accepted`'s.
 use mathlib.Core.Path.{sym, ap, _∙_}
 use Rattle.tape.specs.Layout.{readingOf}
-use Rattle.sequencer.proofs.Laws.Cases.{cut-refused, cut-unaccepted}
+use Rattle.program.proofs.Laws.Door.{tape-refused}
+use Rattle.sequencer.specs.Services.{cutOutcome}
+use Rattle.sequencer.proofs.Laws.Cases.{cut-refused}
 use borrow.Author.Needs.{needs}
 use Rattle.sequencer.proofs.cut.Statement.{statement}
 use Rattle.sequencer.proofs.cut.Tie as tie
@@ -25,9 +27,10 @@ cut-accepted-requires : tie.Need-cut-accepted-requires
 cut-accepted-requires c κs = sym (c .before .before .before .before .accept .ensures) ∙ ap readingOf (c .before .before .header .given .1)
 
 returns : tie.Need-returns
+unfolding cutOutcome
 returns c =
     let refusal = c .before .before .before in
-    cut-refused (cut-unaccepted _ _ (sym (refusal .before .before .accept .ensures) ∙ ap readingOf (refusal .e .given .1)) _ _) (c .before .number .ensures)
+    cut-refused (tape-refused _ _ _ (sym (refusal .before .before .accept .ensures) ∙ ap readingOf (refusal .e .given .1))) (c .before .number .ensures)
 
 returns-2 : tie.Need-returns-2
 returns-2 c = search needs

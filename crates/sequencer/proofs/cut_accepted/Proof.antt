@@ -1,6 +1,8 @@
--- `cut_accepted` meets its contract: each return is a case of cut on an accepted tape.
+-- `cut_accepted` meets its contract: its return is refused by cut's one rule, or passes it.
 use mathlib.Core.Path.{sym, _∙_}
-use Rattle.sequencer.proofs.Laws.Cases.{cut-refused, cut-answered, cut-position, cut-there}
+use Rattle.refusal.specs.Outcomes.{gives, passes, answers}
+use Rattle.sequencer.specs.Services.{cutRules}
+use Rattle.sequencer.proofs.Laws.Cases.{cut-refused, cut-answered, cut-rules, cut-words}
 use borrow.Author.Needs.{needs}
 use Rattle.sequencer.proofs.cut_accepted.Statement.{statement}
 use Rattle.sequencer.proofs.cut_accepted.Tie as tie
@@ -15,17 +17,21 @@ slice-aggregate-result : tie.Need-slice-aggregate-result
 slice-aggregate-result c = search needs
 
 returns : tie.Need-returns
+unfolding cutRules
 returns c =
     let test = c .before .before in
-    cut-refused (cut-position _ _ (test .before .before .before .pre) _ _ (sym (test .before .is-bad-cut .ensures) ∙ test .if1 .taken)) (c .before .number .ensures)
+    cut-refused (cut-rules _ _ (test .before .before .before .pre) _ _ ∙ gives _ _ _ (sym (test .before .is-bad-cut .ensures) ∙ test .if1 .taken)) (c .before .number .ensures)
 
 step-words-requires : tie.Need-step-words-requires
 step-words-requires c κs = search needs
 
 returns-2 : tie.Need-returns-2
+unfolding cutRules
 returns-2 c =
     let test = c .before in
-    cut-answered (cut-there _ _ (test .before .before .before .pre) _ _ (sym (test .before .is-bad-cut .ensures) ∙ test .if1 .left)) (c .step-words .ensures)
+    let accept = test .before .before .before .pre in
+    let good = sym (test .before .is-bad-cut .ensures) ∙ test .if1 .left in
+    cut-answered (cut-rules _ _ accept _ _ ∙ passes _ _ _ good ∙ answers _) (c .step-words .ensures ∙ cut-words _ _ accept _ _ good)
 
 pub cut-accepted-spec : {M : Type 1} → statement M
 cut-accepted-spec =

@@ -1,7 +1,8 @@
 -- `forward` meets its contract: what check refuses, load refuses, and an accepted tape is `forward_accepted`'s.
 use mathlib.Core.Path.{sym, ap, _∙_}
 use Rattle.tape.specs.Layout.{readingOf}
-use Rattle.sequencer.proofs.Laws.Cases.{load-unaccepted}
+use Rattle.program.proofs.Laws.Door.{tape-refused}
+use Rattle.sequencer.specs.Services.{loadOutcome}
 use Rattle.sequencer.proofs.Laws.Forward.{forward-refused}
 use borrow.Author.Needs.{needs}
 use Rattle.sequencer.proofs.forward.Statement.{statement}
@@ -20,7 +21,8 @@ forward-accepted-requires : tie.Need-forward-accepted-requires
 forward-accepted-requires c κs = sym (c .before .before .before .accept .ensures) ∙ ap readingOf (c .before .header .given .1)
 
 returns : tie.Need-returns
-returns c = sym (forward-refused _ _ (load-unaccepted _ _ (sym (c .before .before .before .accept .ensures) ∙ ap readingOf (c .before .e .given .1)) _))
+unfolding loadOutcome
+returns c = sym (forward-refused _ _ (tape-refused _ _ _ (sym (c .before .before .before .accept .ensures) ∙ ap readingOf (c .before .e .given .1))))
 
 returns-2 : tie.Need-returns-2
 returns-2 c = search needs

@@ -1,7 +1,8 @@
 -- `load` meets its contract: what check refuses, load refuses, and the rules past it are `load_accepted`'s.
 use mathlib.Core.Path.{sym, ap, _∙_}
 use Rattle.tape.specs.Layout.{readingOf}
-use Rattle.sequencer.proofs.Laws.Cases.{load-unaccepted}
+use Rattle.program.proofs.Laws.Door.{tape-refused}
+use Rattle.sequencer.specs.Services.{loadOutcome}
 use borrow.Author.Needs.{needs}
 use Rattle.sequencer.proofs.load.Statement.{statement}
 use Rattle.sequencer.proofs.load.Tie as tie
@@ -19,7 +20,8 @@ load-accepted-requires : tie.Need-load-accepted-requires
 load-accepted-requires c κs = sym (c .before .before .before .accept .ensures) ∙ ap readingOf (c .before .header .given .1)
 
 returns : tie.Need-returns
-returns c = sym (load-unaccepted _ _ (sym (c .before .before .before .accept .ensures) ∙ ap readingOf (c .before .e .given .1)) _)
+unfolding loadOutcome
+returns c = sym (tape-refused _ _ _ (sym (c .before .before .before .accept .ensures) ∙ ap readingOf (c .before .e .given .1)))
 
 returns-2 : tie.Need-returns-2
 returns-2 c = search needs

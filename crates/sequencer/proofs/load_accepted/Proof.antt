@@ -1,8 +1,10 @@
--- `load_accepted` meets its contract: each return is a case of load on an accepted tape.
+-- `load_accepted` meets its contract: each return is a line of a base's rules.
 use mathlib.Core.Path.{sym, _∙_}
 use native.Mathlib.Omega.{arith}
 use borrow.Author.Needs.{needs}
-use Rattle.sequencer.proofs.Laws.Cases.{modulus-prime, load-register, load-base, load-start}
+use Rattle.refusal.specs.Outcomes.{gives, passes, answers}
+use Rattle.sequencer.specs.Services.{baseRules}
+use Rattle.sequencer.proofs.Laws.Cases.{modulus-prime, load-rules}
 use Rattle.sequencer.proofs.load_accepted.Statement.{statement}
 use Rattle.sequencer.proofs.load_accepted.Tie as tie
 
@@ -10,24 +12,30 @@ is-bad-register-requires : tie.Need-is-bad-register-requires
 is-bad-register-requires c κs = search needs
 
 returns : tie.Need-returns
-returns c = sym (load-register _ _ (c .before .before .before .pre) _ (sym (c .before .is-bad-register .ensures) ∙ c .if1 .taken))
+unfolding baseRules
+returns c = sym (load-rules _ _ (c .before .before .before .pre) _ ∙ gives _ _ _ (sym (c .before .is-bad-register .ensures) ∙ c .if1 .taken))
 
 is-bad-base-requires : tie.Need-is-bad-base-requires
 is-bad-base-requires c κs = omega (arith, modulus-prime _ _ (c .before .before .before .pre) .least)
 
 returns-2 : tie.Need-returns-2
+unfolding baseRules
 returns-2 c =
     let first = c .before .before in
     sym
-    (load-base _ _ (first .before .before .before .pre) _ (sym (first .before .is-bad-register .ensures) ∙ first .if1 .left)
-    (sym (c .before .is-bad-base .ensures) ∙ c .if2 .taken))
+    (load-rules _ _ (first .before .before .before .pre) _
+    ∙ passes _ _ _ (sym (first .before .is-bad-register .ensures) ∙ first .if1 .left)
+    ∙ gives _ _ _ (sym (c .before .is-bad-base .ensures) ∙ c .if2 .taken))
 
 returns-3 : tie.Need-returns-3
+unfolding baseRules
 returns-3 c =
     let first = c .before .before in
     sym
-    (load-start _ _ (first .before .before .before .pre) _ (sym (first .before .is-bad-register .ensures) ∙ first .if1 .left)
-    (sym (c .before .is-bad-base .ensures) ∙ c .if2 .left))
+    (load-rules _ _ (first .before .before .before .pre) _
+    ∙ passes _ _ _ (sym (first .before .is-bad-register .ensures) ∙ first .if1 .left)
+    ∙ passes _ _ _ (sym (c .before .is-bad-base .ensures) ∙ c .if2 .left)
+    ∙ answers _)
 
 pub load-accepted-spec : {M : Type 1} → statement M
 load-accepted-spec =

@@ -1,7 +1,8 @@
 -- `run` meets its contract: what check refuses, run refuses, and the rules past it are `run_accepted`'s.
 use mathlib.Core.Path.{sym, ap, _∙_}
 use Rattle.tape.specs.Layout.{readingOf}
-use Rattle.sequencer.proofs.Laws.Cases.{run-unaccepted}
+use Rattle.program.proofs.Laws.Door.{tape-refused}
+use Rattle.sequencer.specs.Services.{runOutcome}
 use borrow.Author.Needs.{needs}
 use Rattle.sequencer.proofs.run.Statement.{statement}
 use Rattle.sequencer.proofs.run.Tie as tie
@@ -19,7 +20,8 @@ run-accepted-requires : tie.Need-run-accepted-requires
 run-accepted-requires c κs = sym (c .before .before .before .accept .ensures) ∙ ap readingOf (c .before .header .given .1)
 
 returns : tie.Need-returns
-returns c = sym (run-unaccepted _ _ (sym (c .before .before .before .accept .ensures) ∙ ap readingOf (c .before .e .given .1)) _ _ _)
+unfolding runOutcome
+returns c = sym (tape-refused _ _ _ (sym (c .before .before .before .accept .ensures) ∙ ap readingOf (c .before .e .given .1)))
 
 returns-2 : tie.Need-returns-2
 returns-2 c = search needs

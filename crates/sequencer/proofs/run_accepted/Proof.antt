@@ -1,9 +1,16 @@
--- `run_accepted` meets its contract: each return is a case of run on an accepted tape.
-use mathlib.Core.Path.{sym, _∙_}
+-- `run_accepted` meets its contract: each return is a line of run's own rules.
+use mathlib.Core.Path.{sym, ap, _∙_}
+use mathlib.Core.List.{List}
+use Prim.Native.Nat.{ℕ}
 use native.Mathlib.Omega.{arith}
 use borrow.Author.Needs.{needs}
-use Rattle.program.proofs.Laws.Checking.{steps-are}
-use Rattle.sequencer.proofs.Laws.Cases.{modulus-prime, run-register, run-from, run-goal, run-there}
+use lib.ListN.{length}
+use Rattle.refusal.specs.Outcomes.{answered, gives, passes, answers}
+use Rattle.tape.specs.Layout.{stepsIn}
+use Rattle.machine.specs.Machine.{valuesOf, run}
+use Rattle.refusal.specs.Outcomes.{gives, passes, answers}
+use Rattle.sequencer.specs.Services.{travelRules}
+use Rattle.sequencer.proofs.Laws.Cases.{modulus-prime, words-are, past-from, past-goal, both-inside, run-rules}
 use Rattle.sequencer.proofs.Laws.Answers.{good-registers}
 use Rattle.sequencer.proofs.run_accepted.Statement.{statement}
 use Rattle.sequencer.proofs.run_accepted.Tie as tie
@@ -12,32 +19,61 @@ is-some-bad-requires : tie.Need-is-some-bad-requires
 is-some-bad-requires c κs = search needs
 
 returns : tie.Need-returns
-returns c = sym (run-register _ _ (c .before .before .before .pre) _ _ _ (sym (c .before .is-some-bad .ensures) ∙ c .if1 .taken))
+unfolding travelRules
+returns c = sym (run-rules _ _ (c .before .before .before .pre) _ _ _ ∙ gives _ _ _ (sym (c .before .is-some-bad .ensures) ∙ c .if1 .taken))
 
 returns-2 : tie.Need-returns-2
+unfolding travelRules
 returns-2 c =
     let first = c .before .before in
-    sym (run-from _ _ (first .before .before .before .pre) _ _ _ (sym (first .before .is-some-bad .ensures) ∙ first .if1 .left) (c .if2 .taken))
+    sym
+    (run-rules _ _ (first .before .before .before .pre) _ _ _
+    ∙ passes _ _ _ (sym (first .before .is-some-bad .ensures) ∙ first .if1 .left)
+    ∙ gives _ _ _ (past-from _ _ _ (c .if2 .taken)))
 
 returns-3 : tie.Need-returns-3
+unfolding travelRules
 returns-3 c =
     let first = c .before .before .before .before in
-    sym (run-goal _ _ (first .before .before .before .pre) _ _ _ (sym (first .before .is-some-bad .ensures) ∙ first .if1 .left) (c .if3 .taken))
+    sym
+    (run-rules _ _ (first .before .before .before .pre) _ _ _
+    ∙ passes _ _ _ (sym (first .before .is-some-bad .ensures) ∙ first .if1 .left)
+    ∙ gives _ _ _ (past-goal _ _ _ (c .if3 .taken)))
+
+steps-requires : tie.Need-steps-requires
+steps-requires c κs = search needs
 
 travel-requires : tie.Need-travel-requires
 travel-requires c κs =
-    let tested = c .before .before .before .before in
+    let tested = c .before .before .before .before .before in
     let accept = tested .before .before .before .pre in
-    let steps = steps-are _ _ accept in
+    let long = ap length (c .steps .ensures) ∙ words-are _ _ accept in
     (omega arith, omega arith, modulus-prime _ _ accept, good-registers _ _ _ _ _ (sym (tested .before .is-some-bad .ensures) ∙ tested .if1 .left))
 
 returns-4 : tie.Need-returns-4
+unfolding travelRules
 returns-4 c =
-    let first = c .before .before .before .before .before in
+    let words = c .before in
+    let goal = words .before in
+    let from = goal .before .before in
+    let first = from .before .before in
+    let start = first .before .before .before in
+    let given = start .args in
     sym
-    (run-there _ _ (first .before .before .before .pre) _ _ _ (sym (first .before .is-some-bad .ensures) ∙ first .if1 .left)
-    (c .before .before .before .if2 .left) (c .before .if3 .left) _ (c .travel .ensures))
+    (run-rules _ _ (start .pre) _ _ _
+    ∙ passes _ _ _ (sym (first .before .is-some-bad .ensures) ∙ first .if1 .left)
+    ∙ passes _ _ _ (both-inside _ _ _ (from .if2 .left) (goal .if3 .left))
+    ∙ answers _
+    ∙ ap answered (sym (c .travel .ensures ∙ ap (λ (l : List ℕ). run (given .header .modulus) (stepsIn l) (given .from) (given .to) (valuesOf (given .registers))) (words .steps .ensures))))
 
 pub run-accepted-spec : {M : Type 1} → statement M
 run-accepted-spec =
-    tie.close (tie.spec is-some-bad-requires returns returns-2 returns-3 travel-requires returns-4)
+    tie.close
+    (tie.spec
+    is-some-bad-requires
+    returns
+    returns-2
+    returns-3
+    steps-requires
+    travel-requires
+    returns-4)

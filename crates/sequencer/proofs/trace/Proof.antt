@@ -6,9 +6,9 @@ use Prim.Native.Nat.{ℕ}
 use lib.IntN.{ℤ}
 use Rattle.refusal.specs.Outcomes.{Outcome}
 use Rattle.tape.specs.Layout.{readingOf}
+use Rattle.program.proofs.Laws.Door.{tape-refused}
 use Rattle.sequencer.specs.Services.{traceOutcome}
 use Rattle.sequencer.specs.Tracing.{NeverOutside, MeansPowers}
-use Rattle.sequencer.proofs.Laws.Cases.{trace-unaccepted}
 use Rattle.sequencer.proofs.Laws.Tracing.{trace-inside, trace-powers}
 use borrow.Author.Needs.{needs}
 use Rattle.sequencer.proofs.trace.Statement.{statement}
@@ -32,9 +32,10 @@ trace-accepted-requires : tie.Need-trace-accepted-requires
 trace-accepted-requires c κs = sym (c .before .before .before .accept .ensures) ∙ ap readingOf (c .before .header .given .1)
 
 returns : tie.Need-returns
+unfolding traceOutcome
 returns c =
     let start = c .before .before .before .before .before in
-    said _ (start .args .position) _ (sym (trace-unaccepted _ _ (sym (c .before .before .before .accept .ensures) ∙ ap readingOf (c .before .e .given .1)) _))
+    said _ (start .args .position) _ (sym (tape-refused _ _ _ (sym (c .before .before .before .accept .ensures) ∙ ap readingOf (c .before .e .given .1))))
 
 returns-2 : tie.Need-returns-2
 returns-2 c = said _ _ _ (c .trace-accepted .ensures)

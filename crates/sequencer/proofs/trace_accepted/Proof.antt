@@ -1,19 +1,94 @@
--- `trace_accepted` meets its contract: each return is a case of trace on an accepted tape.
-use mathlib.Core.Path.{sym, _∙_}
+-- `trace_accepted` meets its contract: each return is a line of trace's own rules.
+use mathlib.Core.Path.{_≡_, sym, ap, _∙_}
+use mathlib.Core.Bool.{not}
+use mathlib.Core.List.{List}
+use Prim.Native.Nat.{ℕ}
 use native.Mathlib.Omega.{arith}
-use Rattle.program.proofs.Laws.Checking.{steps-are}
-use Rattle.sequencer.proofs.Laws.Cases.{trace-position, trace-there}
+use borrow.Author.Needs.{needs}
+use borrow.Author.Tests.{lt-ltb, le-ltb, not-true, not-false}
+use lib.IntN.{pos}
+use lib.ListN.{take}
+use Rattle.refusal.specs.Outcomes.{answered, gives, passes, answers}
+use Rattle.tape.specs.declared.Step.{Step}
+use Rattle.tape.specs.Layout.{part, stepsIn, stepsOf}
+use Rattle.machine.specs.Exponents.{shiftAll, startExponents, staysInRange}
+use Rattle.machine.proofs.Laws.Lists.{four-first}
+use Rattle.machine.proofs.Laws.Traces.{start-range}
+use Rattle.sequencer.specs.Services.{traceRules}
+use Rattle.sequencer.proofs.Laws.Cases.{words-are, trace-rules}
+use Rattle.sequencer.proofs.Laws.Travel.{part-steps}
 use Rattle.sequencer.proofs.trace_accepted.Statement.{statement}
 use Rattle.sequencer.proofs.trace_accepted.Tie as tie
 
-returns : tie.Need-returns
-returns c = sym (trace-position _ _ (c .before .before .before .pre) _ (c .if1 .taken))
+-- the steps in the part of the words up to the position
+module _ (c : tie.After-part) where
+  walked : let start = c .before .before .before .before .before in stepsIn (c .part .result .now) ≡ take (start .args .position) (stepsOf (start .args .tape .now))
+  walked =
+      let inside = c .before .before in
+      let start = inside .before .before .before in
+      ap stepsIn (c .part .ensures ∙ ap (λ (l : List ℕ). part l 0 (start .args .position)) (c .before .steps .ensures))
+      ∙ part-steps _ 0 (start .args .position) (omega arith) (omega (arith, words-are _ _ (start .pre)))
 
-exponents-at-requires : tie.Need-exponents-at-requires
-exponents-at-requires c κs = let steps = steps-are _ _ (c .before .before .before .pre) in omega arith
+returns : tie.Need-returns
+unfolding traceRules
+returns c = sym (trace-rules _ _ (c .before .before .before .pre) _ ∙ gives _ _ _ (lt-ltb _ _ (c .if1 .taken)))
+
+steps-requires : tie.Need-steps-requires
+steps-requires c κs = search needs
+
+part-requires : tie.Need-part-requires
+part-requires c κs = search needs
+
+slice-aggregate-shift-all : tie.Need-slice-aggregate-shift-all
+slice-aggregate-shift-all c = search needs
+
+shift-all-requires : tie.Need-shift-all-requires
+shift-all-requires c κs = start-range
 
 returns-2 : tie.Need-returns-2
-returns-2 c = c .exponents-at .ensures ∙ sym (trace-there _ _ (c .before .before .before .before .pre) _ (c .before .if1 .left))
+unfolding traceRules
+returns-2 c =
+    let shifted = c .before .before in
+    let part = shifted .before .before in
+    let inside = part .before .before in
+    let start = inside .before .before .before in
+    let out = ap (λ (xs : List Step). staysInRange xs startExponents) (sym (walked part)) ∙ sym (shifted .shift-all .ensures .0) ∙ not-true _ (c .if2 .taken) in
+    sym (trace-rules _ _ (start .pre) _ ∙ passes _ _ _ (le-ltb _ _ (inside .if1 .left)) ∙ gives _ _ _ (ap not out))
+
+slice-aggregate-exponents-of : tie.Need-slice-aggregate-exponents-of
+slice-aggregate-exponents-of c = search needs
+
+exponents-of-requires : tie.Need-exponents-of-requires
+exponents-of-requires c κs = search needs
+
+returns-3 : tie.Need-returns-3
+unfolding traceRules
+returns-3 c =
+    let row = c .before in
+    let shifted = row .before .before .before in
+    let part = shifted .before .before in
+    let inside = part .before .before in
+    let start = inside .before .before .before in
+    let stayed = not-false _ (row .before .if2 .left) in
+    let stays = ap (λ (xs : List Step). staysInRange xs startExponents) (sym (walked part)) ∙ sym (shifted .shift-all .ensures .0) ∙ stayed in
+    let there = shifted .shift-all .ensures .1 stayed ∙ ap (λ (xs : List Step). shiftAll xs startExponents) (walked part) in
+    sym
+    (trace-rules _ _ (start .pre) _
+    ∙ passes _ _ _ (le-ltb _ _ (inside .if1 .left))
+    ∙ passes _ _ _ (ap not stays)
+    ∙ answers _
+    ∙ ap answered (sym (c .exponents-of .ensures ∙ four-first (pos 0) _ (shifted .shift-all .kept .1 .0) ∙ there)))
 
 pub trace-accepted-spec : {M : Type 1} → statement M
-trace-accepted-spec = tie.close (tie.spec returns exponents-at-requires returns-2)
+trace-accepted-spec =
+    tie.close
+    (tie.spec
+    returns
+    steps-requires
+    part-requires
+    slice-aggregate-shift-all
+    shift-all-requires
+    returns-2
+    slice-aggregate-exponents-of
+    exponents-of-requires
+    returns-3)

@@ -1,13 +1,11 @@
--- `whole::is_sum_in_range` meets its contract: above 0 a sum can only leave the range upward, else only downward, and what is left
--- of the range fits.
+-- `whole::is_sum_in_range` meets its contract: above 0 a sum is told by what is left of the range above, else by what is left
+-- below.
 use mathlib.Core.Path.{_≡_}
-use mathlib.Core.Bool.{true, false}
-use lib.IntN.{pos}
-use lib.Signed.{ltZ}
+use lib.IntN.{_+ℤ_, _-ℤ_}
+use lib.Signed.{leZ}
 use mir.Syntax.{w64}
 use mir.Val.{toZ, ofZ}
-use mir.ValLaws.{toZ-ofZ}
-use Rattle.machine.proofs.Laws.Sums.{from-bits, room-above, sum-above, room-below, sum-below}
+use Rattle.machine.proofs.Laws.Sums.{Told, lowest, highest, from-bits, sum-above, sum-below}
 use Rattle.machine.proofs.whole.is_sum_in_range.Statement.{statement}
 use Rattle.machine.proofs.whole.is_sum_in_range.Tie as tie
 
@@ -18,27 +16,51 @@ X c = from-bits (c .args .x) (c .fits .x .sfits)
 Y : (c : tie.Start) → toZ w64 (ofZ w64 (c .args .y)) ≡ c .args .y
 Y c = from-bits (c .args .y) (c .fits .y .sfits)
 
-positive : (c : tie.Then1) → ltZ (pos 0) (c .before .args .y) ≡ true
-positive c = rw (Y (c .before)) at (c .if1 .taken)
+above : (c : tie.Then1) → let x = c .before .args .x in let y = c .before .args .y in Told (highest -ℤ y) (leZ x (highest -ℤ y)) (x +ℤ y) (leZ lowest (x +ℤ y))
+above c = let s = c .before in sum-above _ _ (s .fits .x) (s .fits .y) (rw (Y s) at (c .if1 .taken))
 
-rest : (c : tie.Else1) → ltZ (pos 0) (c .before .args .y) ≡ false
-rest c = rw (Y (c .before)) at (c .if1 .left)
+below : (c : tie.Else1) → let x = c .before .args .x in let y = c .before .args .y in Told (lowest -ℤ y) (leZ (lowest -ℤ y) x) (x +ℤ y) (leZ (x +ℤ y) highest)
+below c = let s = c .before in sum-below _ _ (s .fits .x) (s .fits .y) (rw (Y s) at (c .if1 .left))
 
-sub-result : tie.Need-sub-result
-sub-result c = rw (Y (c .before)) (room-above _ _ (c .before .pre .0) (c .before .pre .1) (positive c))
+sub-if2 : tie.Need-sub-if2
+sub-if2 c = rw (Y (c .before)) (above c .left-fits)
+
+add-result : tie.Need-add-result
+add-result c =
+    let t = above (c .before) in
+    let s = c .before .before in
+    rw (X s, Y s) (t .made-fits (rw (X s, Y s, from-bits _ (t .left-fits .sfits)) at (c .if2 .taken)))
 
 returns : tie.Need-returns
 returns c =
-    let s = c .before in
-    rw (X s, Y s, toZ-ofZ w64 _ (room-above _ _ (s .pre .0) (s .pre .1) (positive c))) (sum-above _ _ (s .pre .0) (s .pre .1) (positive c))
-
-sub-result-2 : tie.Need-sub-result-2
-sub-result-2 c = rw (Y (c .before)) (room-below _ _ (c .before .pre .0) (c .before .pre .1) (rest c))
+    let t = above (c .before) in
+    let s = c .before .before in
+    let first = rw (X s, Y s, from-bits _ (t .left-fits .sfits)) at (c .if2 .taken) in
+    rw (X s, Y s, from-bits _ (t .made-fits first .sfits)) (t .tested first)
 
 returns-2 : tie.Need-returns-2
-returns-2 c =
-    let s = c .before in
-    rw (X s, Y s, toZ-ofZ w64 _ (room-below _ _ (s .pre .0) (s .pre .1) (rest c))) (sum-below _ _ (s .pre .0) (s .pre .1) (rest c))
+returns-2 c = let t = above (c .before) in let s = c .before .before in t .outside (rw (X s, Y s, from-bits _ (t .left-fits .sfits)) at (c .if2 .left))
+
+sub-if3 : tie.Need-sub-if3
+sub-if3 c = rw (Y (c .before)) (below c .left-fits)
+
+add-result-2 : tie.Need-add-result-2
+add-result-2 c =
+    let t = below (c .before) in
+    let s = c .before .before in
+    rw (X s, Y s) (t .made-fits (rw (X s, Y s, from-bits _ (t .left-fits .sfits)) at (c .if3 .taken)))
+
+returns-3 : tie.Need-returns-3
+returns-3 c =
+    let t = below (c .before) in
+    let s = c .before .before in
+    let first = rw (X s, Y s, from-bits _ (t .left-fits .sfits)) at (c .if3 .taken) in
+    rw (X s, Y s, from-bits _ (t .made-fits first .sfits)) (t .tested first)
+
+returns-4 : tie.Need-returns-4
+returns-4 c = let t = below (c .before) in let s = c .before .before in t .outside (rw (X s, Y s, from-bits _ (t .left-fits .sfits)) at (c .if3 .left))
 
 pub is-sum-in-range-spec : {M : Type 1} → statement M
-is-sum-in-range-spec = tie.close (tie.spec sub-result returns sub-result-2 returns-2)
+is-sum-in-range-spec =
+    tie.close
+    (tie.spec sub-if2 add-result returns returns-2 sub-if3 add-result-2 returns-3 returns-4)

@@ -1,36 +1,32 @@
 -- `travel::backward` meets its contract: what undoing the steps from the start does is what undoing those that are left does to the
 -- registers so far, which are carried with their inverses.
-use mathlib.Core.Path.{_≡_, refl, sym, ap, _∙_}
+use mathlib.Core.Path.{_≡_, sym, ap, _∙_}
 use Prim.Native.Nat.{ℕ, _+_, _-_, _≤_}
 use native.Mathlib.Omega.{arith}
 use borrow.Author.Needs.{needs}
-use lib.Seq.{slice}
-use Rattle.tape.specs.Layout.{stepsOf}
+use lib.ListN.{length, take}
+use Rattle.tape.specs.Layout.{stepsIn}
 use Rattle.machine.specs.Machine.{undoAll}
 use Rattle.machine.specs.Carried.{Carried}
-use Rattle.machine.proofs.Laws.Runs.{undo-none}
-use Rattle.sequencer.proofs.Laws.Travel.{backward-next, beside-four}
+use Rattle.sequencer.proofs.Laws.Travel.{backward-all, backward-next, backward-none, beside-four}
 use Rattle.sequencer.proofs.travel.backward.Statement.{statement}
 use Rattle.sequencer.proofs.travel.backward.Tie as tie
 
 abbrev Inv-loop : tie.InvT-loop
-Inv-loop tape p values₀ inverses₀ from to i₀ values inverses i =
-    (to ≤ i)
-    × (i ≤ from)
-    × (undoAll p (slice to i (stepsOf tape)) values ≡ undoAll p (slice to from (stepsOf tape)) values₀)
-    × Carried p values inverses
+Inv-loop words p values₀ inverses₀ i₀ values inverses i =
+    (i ≤ length words) × (undoAll p (take i (stepsIn words)) values ≡ undoAll p (stepsIn words) values₀) × Carried p values inverses
 
 abbrev μ-loop : tie.MeasureT-loop
-μ-loop tape p values₀ inverses₀ from to i₀ values inverses i = i - to
+μ-loop words p values₀ inverses₀ i₀ values inverses i = i
 
 loop-holds : tie.Need-loop-holds Inv-loop μ-loop
-loop-holds c = (omega arith, omega arith, refl, c .before .before .before .pre .3)
+loop-holds c = let start = c .before .before .before in (omega arith, backward-all (start .args .words .now) _ _, start .pre .1)
 
 sub-i : tie.Need-sub-i Inv-loop μ-loop
 sub-i c = search needs
 
 carry-requires : tie.Need-carry-requires Inv-loop μ-loop
-carry-requires c κs = let at = c .before .before .before in (at .before .before .before .before .pre .2, at .loop .inv .3)
+carry-requires c κs = let at = c .before .before .before in (at .before .before .before .before .pre .0, at .loop .inv .2)
 
 loop-less : tie.Need-loop-less Inv-loop μ-loop
 loop-less c = search needs
@@ -44,28 +40,26 @@ loop-again c =
     let i : ℕ = at .loop .i in
     let again : i - 1 + 1 ≡ i = omega arith in (
       omega arith,
-      omega arith,
-      backward-next (start .args .tape .now) p (at .loop .values) (i - 1) (start .args .to) _ (omega arith) (omega (arith, start .pre .1)) (done .carry .ensures .0)
-          ∙ ap (λ (n : ℕ). undoAll p (slice (start .args .to) n (stepsOf (start .args .tape .now))) (at .loop .values)) again
-          ∙ at .loop .inv .2,
+      backward-next (start .args .words .now) p (at .loop .values) (i - 1) _ (omega arith) (done .carry .ensures .0)
+          ∙ ap (λ (n : ℕ). undoAll p (take n (stepsIn (start .args .words .now))) (at .loop .values)) again
+          ∙ at .loop .inv .1,
       done .carry .ensures .1,
     )
 
 same-length : tie.Need-same-length Inv-loop μ-loop
 same-length c =
     let at = c .before in
-    at .loop .inv .3 .good .four ∙ sym (at .before .before .before .before .pre .3 .good .four)
+    at .loop .inv .2 .good .four ∙ sym (at .before .before .before .before .pre .1 .good .four)
 
 same-length-2 : tie.Need-same-length-2 Inv-loop μ-loop
 same-length-2 c =
     let at = c .before in
-    beside-four _ _ _ (at .loop .inv .3) ∙ sym (beside-four _ _ _ (at .before .before .before .before .pre .3))
+    beside-four _ _ _ (at .loop .inv .2) ∙ sym (beside-four _ _ _ (at .before .before .before .before .pre .1))
 
 returns : tie.Need-returns Inv-loop μ-loop
 returns c =
     let at = c .before in
-    let there : at .before .before .before .before .args .to ≡ at .loop .i = omega arith in
-    sym (undo-none _ _ _ _ _ there) ∙ at .loop .inv .2
+    sym (backward-none (at .before .before .before .before .args .words .now) _ _ (at .loop .i) (omega arith)) ∙ at .loop .inv .1
 
 pub backward-spec : {M : Type 1} → statement M
 backward-spec =

@@ -2,17 +2,13 @@
 -- inverses are carried through it.
 use mathlib.Core.Path.{ap, _∙_}
 use borrow.Author.Needs.{needs}
-use Rattle.tape.specs.Layout.{stepOf}
 use Rattle.sequencer.specs.Stepping.{turned}
 use Rattle.sequencer.proofs.Laws.Travel.{carried-next}
 use Rattle.sequencer.proofs.travel.carry.Statement.{statement}
 use Rattle.sequencer.proofs.travel.carry.Tie as tie
 
-step-at-requires : tie.Need-step-at-requires
-step-at-requires c κs = search needs
-
-step-of-requires : tie.Need-step-of-requires
-step-of-requires c κs = search needs
+nth-step-requires : tie.Need-nth-step-requires
+nth-step-requires c κs = search needs
 
 turned-requires : tie.Need-turned-requires
 turned-requires c κs = search needs
@@ -30,16 +26,15 @@ returns : tie.Need-returns
 returns c =
     let done = c .before .before .before .before in
     let turn = done .before .before .before in
-    let start = turn .before .before .before .before .before .before in
-    let read = turn .turned .ensures ∙ ap (turned (start .args .undone)) (turn .before .step-of .ensures ∙ ap stepOf (turn .before .before .step-at .ensures)) in
-    carried-next (start .args .tape .now) _ (start .pre .0) (start .args .i) (start .args .undone) _ _ _ _ _ read (start .pre .1) (done .apply-with .ensures .0) (done .apply-with .ensures .1)
+    let start = turn .before .before .before .before .before in
+    let read = turn .turned .ensures ∙ ap (turned (start .args .undone)) (turn .before .nth-step .ensures) in
+    carried-next (start .args .words .now) _ (start .pre .0) (start .args .i) (start .args .undone) _ _ _ _ _ read (start .pre .1) (done .apply-with .ensures .0) (done .apply-with .ensures .1)
 
 pub carry-spec : {M : Type 1} → statement M
 carry-spec =
     tie.close
     (tie.spec
-    step-at-requires
-    step-of-requires
+    nth-step-requires
     turned-requires
     apply-with-requires
     same-length

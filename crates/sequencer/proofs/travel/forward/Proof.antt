@@ -4,29 +4,26 @@ use mathlib.Core.Path.{_≡_, refl, sym, _∙_}
 use Prim.Native.Nat.{_-_, _≤_}
 use native.Mathlib.Omega.{arith}
 use borrow.Author.Needs.{needs}
-use lib.Seq.{slice}
-use Rattle.tape.specs.Layout.{stepsOf}
+use lib.ListN.{length, drop}
+use Rattle.tape.specs.Layout.{stepsIn}
 use Rattle.machine.specs.Machine.{doAll}
 use Rattle.machine.specs.Carried.{Carried}
-use Rattle.machine.proofs.Laws.Runs.{do-none}
-use Rattle.sequencer.proofs.Laws.Travel.{forward-next, beside-four}
+use Rattle.sequencer.proofs.Laws.Travel.{forward-next, forward-none, beside-four}
 use Rattle.sequencer.proofs.travel.forward.Statement.{statement}
 use Rattle.sequencer.proofs.travel.forward.Tie as tie
 
 abbrev Inv-loop : tie.InvT-loop
-Inv-loop tape p values₀ inverses₀ from to i₀ values inverses i =
-    (i ≤ to)
-    × (doAll p (slice i to (stepsOf tape)) values ≡ doAll p (slice from to (stepsOf tape)) values₀)
-    × Carried p values inverses
+Inv-loop words p values₀ inverses₀ i₀ values inverses i =
+    (i ≤ length words) × (doAll p (drop i (stepsIn words)) values ≡ doAll p (stepsIn words) values₀) × Carried p values inverses
 
 abbrev μ-loop : tie.MeasureT-loop
-μ-loop tape p values₀ inverses₀ from to i₀ values inverses i = to - i
+μ-loop words p values₀ inverses₀ i₀ values inverses i = length words - i
 
 loop-holds : tie.Need-loop-holds Inv-loop μ-loop
-loop-holds c = (omega arith, refl, c .before .before .before .pre .3)
+loop-holds c = (omega arith, refl, c .before .before .before .pre .1)
 
 carry-requires : tie.Need-carry-requires Inv-loop μ-loop
-carry-requires c κs = let at = c .before .before .before in (at .before .before .before .before .pre .2, at .loop .inv .2)
+carry-requires c κs = let at = c .before .before .before in (at .before .before .before .before .pre .0, at .loop .inv .2)
 
 add-i : tie.Need-add-i Inv-loop μ-loop
 add-i c = search needs
@@ -40,25 +37,24 @@ loop-again c =
     let at = done .before .before .before .before in
     let start = at .before .before .before .before in (
       omega arith,
-      forward-next (start .args .tape .now) _ _ (at .loop .i) (start .args .to) _ (omega arith) (start .pre .1) (done .carry .ensures .0) ∙ at .loop .inv .1,
+      forward-next (start .args .words .now) _ _ (at .loop .i) _ (omega arith) (done .carry .ensures .0) ∙ at .loop .inv .1,
       done .carry .ensures .1,
     )
 
 same-length : tie.Need-same-length Inv-loop μ-loop
 same-length c =
     let at = c .before in
-    at .loop .inv .2 .good .four ∙ sym (at .before .before .before .before .pre .3 .good .four)
+    at .loop .inv .2 .good .four ∙ sym (at .before .before .before .before .pre .1 .good .four)
 
 same-length-2 : tie.Need-same-length-2 Inv-loop μ-loop
 same-length-2 c =
     let at = c .before in
-    beside-four _ _ _ (at .loop .inv .2) ∙ sym (beside-four _ _ _ (at .before .before .before .before .pre .3))
+    beside-four _ _ _ (at .loop .inv .2) ∙ sym (beside-four _ _ _ (at .before .before .before .before .pre .1))
 
 returns : tie.Need-returns Inv-loop μ-loop
 returns c =
     let at = c .before in
-    let there : at .loop .i ≡ at .before .before .before .before .args .to = omega arith in
-    sym (do-none _ _ _ _ _ there) ∙ at .loop .inv .1
+    sym (forward-none (at .before .before .before .before .args .words .now) _ _ (at .loop .i) (omega arith)) ∙ at .loop .inv .1
 
 pub forward-spec : {M : Type 1} → statement M
 forward-spec =
