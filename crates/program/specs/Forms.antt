@@ -9,8 +9,6 @@ use Rattle.fibonacci.specs.declared.BitString.{BitString}
 use Rattle.fibonacci.specs.Forms.{pad, zeckendorf, ones}
 use Rattle.fibonacci.specs.Services.{lastPlace, bit, bitRow}
 use Rattle.tape.specs.Words.{numberLimit}
-use Rattle.named.specs.declared.Figure.{Figure}
-use Rattle.named.specs.declared.Figure.the-variants.{Two, Four, Six}
 use Rattle.named.specs.Generators.{Forms}
 use Rattle.named.specs.Named.{formsFor}
 use Rattle.program.specs.declared.forms.FormRows.{FormRows}
@@ -44,25 +42,6 @@ rowsOf f =
       count = ones (f .first) + ones (f .beside) + ones (f .last) + ones (f .besideLast);
     }
 
--- a figure's first and last form, with nothing beside them
-abbrev pub lone : Figure → List Bool → List Bool → Forms
-lone figure first last = record { figure = figure; first = first; beside = []; last = last; besideLast = [] }
-
--- only Figure 4 selects a form beside another
-abbrev pub Alone : Figure → List Bool → Type 0
-Alone Two bs = bs ≡ []
-Alone Four bs = Unit {0}
-Alone Six bs = bs ≡ []
-
--- the rows hold the forms whole
-pub record Fits (f : Forms) : Type 0 where
-  pub first : length (f .first) ≤ lastPlace
-  pub beside : length (f .beside) ≤ length (f .first)
-  pub last : length (f .last) ≤ lastPlace
-  pub besideLast : length (f .besideLast) ≤ length (f .last)
-  pub alone : Alone (f .figure) (f .beside)
-  pub aloneLast : Alone (f .figure) (f .besideLast)
-
 -- the rows are as long as their forms, at least
 pub record Whole (rows : FormRows) : Type 0 where
   pub first : rows .«first_length» ≤ length (rows .first)
@@ -75,4 +54,3 @@ pub record Given (variant r k : ℕ) (rows : FormRows) : Type 0 where
   pub forms : Forms
   pub forms-are : formsFor variant r k ≡ forms ∷ []
   pub rows-are : rows ≡ rowsOf forms
-  pub fits : Fits forms

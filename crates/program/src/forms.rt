@@ -4,10 +4,10 @@ ghost use mathlib.Core.Bool.{false};
 ghost use Prim.Native.Nat.{_*_, _≤_};
 ghost use Rattle.modular.specs.Residues.{remainder};
 ghost use Rattle.fibonacci.specs.Forms.{zeckendorf};
-ghost use Rattle.named.specs.Generators.{stepsFrom};
+ghost use Rattle.named.specs.Generators.{lone, stepsFrom};
 ghost use Rattle.named.specs.Named.{dualForms, hybridForms};
 ghost use Rattle.named.specs.Parameters.{unnamed};
-ghost use Rattle.program.specs.Forms.{Invertible, BitsOf, rowsOf, lone, Given};
+ghost use Rattle.program.specs.Forms.{Invertible, BitsOf, rowsOf, Given};
 use fibonacci::BitString;
 use fibonacci::bit_string;
 use fibonacci::fibonacci_or_zero;
@@ -63,6 +63,7 @@ fn basic_forms(k: u32, inverse: u32) -> FormRows
     let inverses = bit_string(inverse as u64);
     let first = ks.bits;
     let last = inverses.bits;
+    let count = ks.count + inverses.count;
     FormRows {
         figure: Figure::Two,
         first,
@@ -71,7 +72,7 @@ fn basic_forms(k: u32, inverse: u32) -> FormRows
         beside_last: [0u8; 92],
         first_length: ks.length,
         last_length: inverses.length,
-        count: ks.count + inverses.count,
+        count,
     }
 }
 
@@ -91,15 +92,17 @@ fn dual_forms(r: u32, k: u32, inverse: u32) -> FormRows
     let beside = t.bits;
     let last = s_back.bits;
     let beside_last = t_back.bits;
+    let n = h as usize;
+    let count = s.count + t.count + s_back.count + t_back.count;
     FormRows {
         figure: Figure::Four,
         first,
         beside,
         last,
         beside_last,
-        first_length: h as usize,
-        last_length: h as usize,
-        count: s.count + t.count + s_back.count + t_back.count,
+        first_length: n,
+        last_length: n,
+        count,
     }
 }
 
@@ -121,6 +124,8 @@ fn hybrid_forms(r: u32, k: u32, inverse: u32) -> FormRows
     let inverses = bit_string(inverse as u64);
     let first = v.bits;
     let last = inverses.bits;
+    let n = l as usize;
+    let count = v.count + inverses.count;
     FormRows {
         figure: Figure::Six,
         first,
@@ -128,7 +133,7 @@ fn hybrid_forms(r: u32, k: u32, inverse: u32) -> FormRows
         last,
         beside_last: [0u8; 92],
         first_length: v.length,
-        last_length: l as usize,
-        count: v.count + inverses.count,
+        last_length: n,
+        count,
     }
 }

@@ -8,7 +8,7 @@ ghost use lib.ListN.{length, take, drop};
 ghost use Rattle.refusal.specs.Rows.{Wrote};
 ghost use Rattle.text.specs.Text.{blank, newline};
 ghost use Rattle.text.specs.Rows.{Put};
-ghost use Rattle.program.specs.Services.{sameWords};
+ghost use Rattle.program.specs.Same.{sameWords};
 ghost use Rattle.scripting.specs.Script.{argumentsOf, isEquals, equalsIn, isCopied, verdict, judged, mostLine, commandDone, lineDone};
 ghost use Rattle.scripting.specs.States.{stateIn, Inside, Did, DidLine};
 use crate::commands::commanded;

@@ -10,7 +10,7 @@ use Rattle.text.specs.declared.Parsed.{Parsed}
 use Rattle.text.specs.declared.Parsed.the-variants.{Number}
 use Rattle.text.specs.Reading.{numberIn}
 use Rattle.named.specs.Named.{variantNames}
-use Rattle.program.specs.Services.{sameWords}
+use Rattle.program.specs.Same.{sameWords}
 use Rattle.tool.specs.declared.TapeVerb.the-variants.{Check, Listing, Load, Run, Power, Trace, Cut, Play}
 use Rattle.tool.specs.declared.NumberVerb.{NumberVerb}
 use Rattle.tool.specs.declared.NumberVerb.the-variants.{Decode, Fibonacci, Places, NumberOf, Hofstadter, Inverse, Height, Prime, MulMod, PowMod}

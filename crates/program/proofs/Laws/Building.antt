@@ -1,6 +1,7 @@
 -- A call whose result is a program's words: it is refused where the row is too short; else the tape is laid out in the row and the words
 -- of its steps are written, and that row is what the definition leaves.
-use mathlib.Core.Path.{_≡_, sym, ap, _∙_}
+use mathlib.Core.Path.{_≡_, refl, sym, ap, _∙_}
+use mathlib.Core.Logic.{inl}
 use mathlib.Core.List.{List, [], map}
 use Prim.Native.Nat.{ℕ, _+_, _≤_, _<_}
 use native.Mathlib.Omega.{arith}
@@ -18,8 +19,9 @@ use Rattle.tape.proofs.Laws.Layout.{LawfulProgram, program-length}
 use Rattle.tape.proofs.Laws.Writing.{steps-fit, program-laid}
 use Rattle.named.specs.Generators.{Forms, generated, stepsFrom}
 use Rattle.named.specs.Named.{namedSteps, namedProgram, namedWords}
+use Rattle.named.specs.Promises.{Fits}
 use Rattle.named.proofs.Laws.Parameters.{named-some, named-most}
-use Rattle.named.proofs.Laws.Table.{named-program}
+use Rattle.named.proofs.Laws.Table.{member-fits, named-program}
 use Rattle.program.specs.declared.forms.FormRows.{FormRows}
 use Rattle.program.specs.Services.{roomOutcome}
 use Rattle.program.specs.Forms.{Given, Whole}
@@ -71,19 +73,22 @@ module _ {p r k variant : ℕ} {rows : FormRows} (w : Writable p r k variant) (g
   unfolding namedSteps
   steps-are = ap (λ (fs : List Forms). getD (map generated fs) 0 []) (g .forms-are)
 
+  fits : Fits (g .forms)
+  fits = member-fits variant r k (w .exponent) (w .order) (g .forms) (rw (g .forms-are) (inl refl))
+
   pub words-are : drawnWords rows ≡ map stepWord (namedSteps variant r k)
-  words-are = ap drawnWords (g .rows-are) ∙ rows-words (g .forms) (g .fits) ∙ ap (map stepWord) (sym steps-are)
+  words-are = ap drawnWords (g .rows-are) ∙ rows-words (g .forms) fits ∙ ap (map stepWord) (sym steps-are)
 
   pub whole : Whole rows
-  whole = rw (g .rows-are) (rows-whole (g .forms) (g .fits))
+  whole = rw (g .rows-are) (rows-whole (g .forms) fits)
 
   pub small : (rows .«first_length» ≤ 92) × (rows .«last_length» ≤ 92) × (rows .count ≤ 368)
-  small = rw (g .rows-are) (g .fits .first, g .fits .last, few-ones (g .forms) (g .fits))
+  small = rw (g .rows-are) (fits .first, fits .last, few-ones (g .forms) fits)
 
   pub count-is : {n : ℕ} → n ≡ stepsFrom (rows .figure) (rows .«first_length») (rows .«last_length») (rows .count) → n ≡ length (namedSteps variant r k)
   count-is e =
       e ∙ ap (λ (f : FormRows). stepsFrom (f .figure) (f .«first_length») (f .«last_length») (f .count)) (g .rows-are)
-      ∙ rows-count (g .forms) (g .fits) ∙ ap length (sym steps-are)
+      ∙ rows-count (g .forms) fits ∙ ap length (sym steps-are)
 
   module _ {h : Header} (header-is : h ≡ headerFor q) where
     total-is : wordCount h ≡ length (wordsOf q)

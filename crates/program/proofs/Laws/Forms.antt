@@ -26,12 +26,12 @@ use Rattle.fibonacci.proofs.Laws.Lengths.{multiple-64, multiple-length}
 use Rattle.tape.specs.Words.{stepWord}
 use Rattle.named.specs.declared.Figure.{Figure}
 use Rattle.named.specs.declared.Figure.the-variants.{Two, Four, Six}
-use Rattle.named.specs.Generators.{Forms, generated, stepsFrom}
+use Rattle.named.specs.Generators.{Forms, lone, generated, stepsFrom}
+use Rattle.named.specs.Promises.{Fits}
 use Rattle.named.specs.Named.{basicForms, dualForm, dualForms, hybridForms, formsIn}
-use Rattle.named.proofs.Laws.Forms.{dual-form-length, padded-length}
-use Rattle.named.proofs.Laws.Lengths.{Fits as Fitting, generated-count}
+use Rattle.named.proofs.Laws.Lengths.{generated-count}
 use Rattle.program.specs.declared.forms.FormRows.{FormRows}
-use Rattle.program.specs.Forms.{Invertible, BitsOf, bitsOf, rowsOf, lone, Alone, Fits, Whole, Given}
+use Rattle.program.specs.Forms.{Invertible, BitsOf, bitsOf, rowsOf, Whole, Given}
 use Rattle.program.specs.Writing.{drawnWords}
 use Rattle.program.proofs.Laws.Writing.{drawn-words}
 
@@ -169,66 +169,24 @@ module _ {r k K : ℕ} (b : Invertible r k K) where
         (padded K (oddHeight r) (omega (arith, odd-height-28 r (b .order))) (omega (arith, zeckendorf-height r K inverse-below, height-le-odd r)) held),
   )
 
-  -- ---- the forms fit their rows
-
-  form-fits : (n : ℕ) → n < r → length (zeckendorf n) ≤ 92
-  form-fits n h = omega (arith, zeckendorf-height r n h, height-28 r (b .order))
-
-  pub basic-fits : Fits (basicForms r k)
-  unfolding basicForms
-  basic-fits = record {
-    first = form-fits k exponent-below;
-    beside = omega arith;
-    last = rw (← b .inverse-is) (form-fits K inverse-below);
-    besideLast = omega arith;
-    alone = refl;
-    aloneLast = refl;
-  }
-
-  pub dual-fits : Fits (dualForms r k)
-  unfolding dualForms
-  dual-fits =
-      let size : (x i : ℕ) → length (dualForm r x i) ≡ height r = dual-form-length r k (b .exponent) in
-      let small = height-28 r (b .order) in
-      record {
-        first = omega (arith, size k (height r));
-        beside = omega (arith, size k (height r), size k (suc (height r)));
-        last = omega (arith, size (inverse r k) (height r));
-        besideLast = omega (arith, size (inverse r k) (height r), size (inverse r k) (suc (height r)));
-        alone = tt;
-        aloneLast = tt;
-      }
-
-  pub hybrid-fits : Fits (hybridForms r k)
-  unfolding hybridForms
-  hybrid-fits = record {
-    first = omega (arith, multiple-length r k exponent-below, height-28 r (b .order));
-    beside = omega arith;
-    last = omega (arith, padded-length r k (b .exponent), odd-height-28 r (b .order));
-    besideLast = omega arith;
-    alone = refl;
-    aloneLast = refl;
-  }
-
 -- ---- from the rows of a variant's forms to those that the table gives
 
-module _ (variant : ℕ) {r k K : ℕ} {rows : FormRows} (b : Invertible r k K) where
-  pub given-basic : variant ≡ 1 → rows ≡ rowsOf (lone Two (zeckendorf k) (zeckendorf K)) → Given variant r k rows
+module _ (variant r k : ℕ) {rows : FormRows} where
+  pub given-basic : {K : ℕ} → K ≡ inverse r k → variant ≡ 1 → rows ≡ rowsOf (lone Two (zeckendorf k) (zeckendorf K)) → Given variant r k rows
   unfolding formsIn basicForms
-  given-basic is e = record {
+  given-basic inverse-is is e = record {
     forms = basicForms r k;
     forms-are = rw is refl;
-    rows-are = e ∙ ap (λ (n : ℕ). rowsOf (lone Two (zeckendorf k) (zeckendorf n))) (b .inverse-is);
-    fits = basic-fits b;
+    rows-are = e ∙ ap (λ (n : ℕ). rowsOf (lone Two (zeckendorf k) (zeckendorf n))) inverse-is;
   }
 
   pub given-dual : variant ≡ 2 → rows ≡ rowsOf (dualForms r k) → Given variant r k rows
   unfolding formsIn
-  given-dual is e = record { forms = dualForms r k; forms-are = rw is refl; rows-are = e; fits = dual-fits b }
+  given-dual is e = record { forms = dualForms r k; forms-are = rw is refl; rows-are = e }
 
   pub given-hybrid : variant ≡ 3 → rows ≡ rowsOf (hybridForms r k) → Given variant r k rows
   unfolding formsIn
-  given-hybrid is e = record { forms = hybridForms r k; forms-are = rw is refl; rows-are = e; fits = hybrid-fits b }
+  given-hybrid is e = record { forms = hybridForms r k; forms-are = rw is refl; rows-are = e }
 
 -- ---- how many steps they give
 
@@ -252,14 +210,5 @@ few-ones f fits =
       fits .besideLast,
     )
 
--- what a figure takes, by its forms in rows
-fitting : (figure : Figure) (ss ts Ss Ts : List Bool) → length ts ≤ length ss → length Ts ≤ length Ss → Alone figure ts → Alone figure Ts
-    → Fitting (record { figure = figure; first = ss; beside = ts; last = Ss; besideLast = Ts })
-unfolding ones
-fitting Two ss ts Ss Ts h H e E = (ap ones e, ap ones E)
-fitting Four ss ts Ss Ts h H e E = (h, H)
-fitting Six ss ts Ss Ts h H e E = (ap ones e, ap ones E)
-
 pub rows-count : (f : Forms) → Fits f → stepsFrom (f .figure) (length (f .first)) (length (f .last)) (rowsOf f .count) ≡ length (generated f)
-rows-count f fits =
-    sym (generated-count f (fitting (f .figure) (f .first) (f .beside) (f .last) (f .besideLast) (fits .beside) (fits .besideLast) (fits .alone) (fits .aloneLast)))
+rows-count f fits = sym (generated-count f fits)

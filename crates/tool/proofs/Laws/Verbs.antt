@@ -14,7 +14,7 @@ use Rattle.text.specs.Reading.{Small, numberIn}
 use Rattle.text.proofs.Laws.Digits.{number-small}
 use Rattle.encoding.proofs.Laws.Tapes.{drop-next}
 use Rattle.named.specs.Named.{variantNames}
-use Rattle.program.specs.Services.{sameWords}
+use Rattle.program.specs.Same.{sameWords}
 use Rattle.program.proofs.Laws.Same.{same-itself, same-equal}
 use Rattle.tool.specs.declared.NumberVerb.{NumberVerb}
 use Rattle.tool.specs.declared.NumberVerb.the-variants.{Decode, Fibonacci, Places, NumberOf, Hofstadter, Inverse, Height, Prime, MulMod, PowMod}

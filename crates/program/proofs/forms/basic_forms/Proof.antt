@@ -12,8 +12,8 @@ bit-string-requires c κs = search needs
 bit-string-requires-2 : tie.Need-bit-string-requires-2
 bit-string-requires-2 c κs = search needs
 
-add-t11 : tie.Need-add-t11
-add-t11 c =
+add-count : tie.Need-add-count
+add-count c =
     let a = c .before .before .before .before .before .before in
     omega (arith, bits-of (a .args .k) (omega (arith, a .fits .k)) (c .before .before .before .before .before .bit-string .ensures) .few, bits-of (a .args .inverse) (omega (arith, a .fits .inverse)) (c .before .before .before .before .bit-string2 .ensures) .few)
 
@@ -21,4 +21,4 @@ returns : tie.Need-returns
 returns c = lone-rows Two (whole _ (c .before .before .before .before .before .bit-string .ensures)) (whole _ (c .before .before .before .before .bit-string2 .ensures))
 
 pub basic-forms-spec : {M : Type 1} → statement M
-basic-forms-spec = tie.close (tie.spec bit-string-requires bit-string-requires-2 add-t11 returns)
+basic-forms-spec = tie.close (tie.spec bit-string-requires bit-string-requires-2 add-count returns)

@@ -40,20 +40,17 @@ residue-requires-3 c κs = search needs
 residue-requires-4 : tie.Need-residue-requires-4
 residue-requires-4 c κs = search needs
 
-cast-t18 : tie.Need-cast-t18
-cast-t18 c = search needs
+cast-n : tie.Need-cast-n
+cast-n c = search needs
 
-cast-t19 : tie.Need-cast-t19
-cast-t19 c = search needs
+add-count : tie.Need-add-count
+add-count c = search needs
 
-add-t20 : tie.Need-add-t20
-add-t20 c = search needs
+add-count-2 : tie.Need-add-count-2
+add-count-2 c = search needs
 
-add-t21 : tie.Need-add-t21
-add-t21 c = search needs
-
-add-t22 : tie.Need-add-t22
-add-t22 c = search needs
+add-count-3 : tie.Need-add-count-3
+add-count-3 c = search needs
 
 returns : tie.Need-returns
 returns c =
@@ -83,9 +80,8 @@ dual-forms-spec =
     residue-requires-2
     residue-requires-3
     residue-requires-4
-    cast-t18
-    cast-t19
-    add-t20
-    add-t21
-    add-t22
+    cast-n
+    add-count
+    add-count-2
+    add-count-3
     returns)

@@ -16,16 +16,16 @@ hybrid-forms-requires : tie.Need-hybrid-forms-requires
 hybrid-forms-requires c κs = search needs
 
 returns : tie.Need-returns
-returns c = given-basic _ (c .before .before .pre .0) (c .before .match .keys1) (c .basic-forms .ensures)
+returns c = given-basic _ _ _ (c .before .before .pre .0 .inverse-is) (c .before .match .keys1) (c .basic-forms .ensures)
 
 returns-2 : tie.Need-returns-2
-returns-2 c = given-dual _ (c .before .before .pre .0) (c .before .match .keys2) (c .dual-forms .ensures)
+returns-2 c = given-dual _ _ _ (c .before .match .keys2) (c .dual-forms .ensures)
 
 returns-3 : tie.Need-returns-3
 returns-3 c =
     let a = c .before .before in
     let other = c .before .match .rest in
-    given-hybrid _ (a .pre .0) (omega (arith, other .0 .1, other .1, named-some _ (a .pre .1), named-most _ (a .pre .1))) (c .hybrid-forms .ensures)
+    given-hybrid _ _ _ (omega (arith, other .0 .1, other .1, named-some _ (a .pre .1), named-most _ (a .pre .1))) (c .hybrid-forms .ensures)
 
 pub forms-spec : {M : Type 1} → statement M
 forms-spec =

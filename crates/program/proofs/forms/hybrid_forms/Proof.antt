@@ -32,11 +32,11 @@ bit-string-requires c κs = search needs
 bit-string-requires-2 : tie.Need-bit-string-requires-2
 bit-string-requires-2 c κs = search needs
 
-cast-t18 : tie.Need-cast-t18
-cast-t18 c = search needs
+cast-n : tie.Need-cast-n
+cast-n c = search needs
 
-add-t19 : tie.Need-add-t19
-add-t19 c =
+add-count : tie.Need-add-count
+add-count c =
     let a = c .before .before .before .before .before .before .before .before in
     let v = multiple-fits (a .pre) (c .before .before .before .before .before .before .before .height .ensures) (c .before .before .before .before .before .before .fibonacci-or-zero .ensures) in
     omega (arith, bits-of _ v (c .before .before .before .before .before .bit-string .ensures) .few, bits-of (a .args .inverse) (omega (arith, a .fits .inverse)) (c .before .before .before .before .bit-string2 .ensures) .few)
@@ -62,6 +62,6 @@ hybrid-forms-spec =
     mul-bit-string
     bit-string-requires
     bit-string-requires-2
-    cast-t18
-    add-t19
+    cast-n
+    add-count
     returns)
