@@ -42,10 +42,6 @@ stepCount tape = length tape - otherWords
 abbrev pub stepIndex : List ℕ → ℕ → ℕ
 stepIndex tape i = headerWords + i
 
--- that word
-abbrev pub stepAt : List ℕ → ℕ → ℕ
-stepAt tape i = getD tape (stepIndex tape i) 0
-
 -- the words of the steps numbered first + 1 to last, and of all
 abbrev pub stepWords : List ℕ → ℕ → ℕ → List ℕ
 stepWords tape first last = slice (stepIndex tape first) (stepIndex tape last) tape

@@ -5,7 +5,7 @@ mod words;
 ghost use mathlib.Core.Path.{_≡_};
 ghost use lib.ListN.{length, getD};
 ghost use Rattle.tape.specs.Words.{decoded};
-ghost use Rattle.tape.specs.Layout.{headerOutcome, readOutcome, readingOf, stepAt, stepOf, stepIndex, stepWordsOf, part, wordCount, layBegin, laidRow};
+ghost use Rattle.tape.specs.Layout.{headerOutcome, readOutcome, readingOf, stepOf, stepIndex, stepWordsOf, part, wordCount, layBegin, laidRow};
 use layout::HEADER_WORDS;
 use layout::OTHER_WORDS;
 use layout::are_steps;
@@ -14,7 +14,6 @@ use layout::is_end;
 use layout::is_free_or_named;
 use layout::is_header;
 use layout::is_length;
-use layout::means_at;
 use layout::numbers_fit;
 use refusal::Refusal;
 use words::FORMAT;
@@ -109,32 +108,6 @@ pub fn steps(tape: &[u32]) -> &[u32]
         return &tape[..0];
     }
     &tape[HEADER_WORDS..tape.len() - 1]
-}
-
-// What the word of the step numbered position + 1 means; past the tape, nothing.
-pub fn step_at(tape: &[u32], position: usize) -> Decoded
-    ensures { λ d. ⌜ d ≡ decoded (stepAt (now (tape .entry)) position) ⌝ }
-{
-    if tape.len() <= position {
-        return Decoded::Bad;
-    }
-    means_at(tape, HEADER_WORDS + position)
-}
-
-// The step that a word's meaning is; mul 0 1 stands for what is none, and a tape that is laid out has none such between its header
-// and its end.
-pub fn step_of(d: Decoded) -> Step
-    ensures { λ s. ⌜ s ≡ stepOf d ⌝ }
-{
-    match d {
-        Decoded::Heading(_) => Step::Mul(0, 1),
-        Decoded::P(_) => Step::Mul(0, 1),
-        Decoded::R(_) => Step::Mul(0, 1),
-        Decoded::K(_) => Step::Mul(0, 1),
-        Decoded::Action(step) => step,
-        Decoded::End(_) => Step::Mul(0, 1),
-        Decoded::Bad => Step::Mul(0, 1),
-    }
 }
 
 // The index of the word of the step numbered position + 1.

@@ -7,13 +7,13 @@ use Prim.Native.Nat.{ℕ, zero, suc, _+_, _-_, _≤_, _<_}
 use native.Mathlib.Omega.{arith}
 use lib.Dec.{leb, eqb}
 use lib.ListN.{length, getD, take, drop, length-take, length-drop, drop-of-length-le, List·getD-eq-default, List·getD-map}
-use lib.Seq.{slice, drop-cons, getD-drop, getD-take, take-nil, drop-nil}
+use lib.Seq.{slice, drop-cons, take-nil, drop-nil}
 use borrow.Author.Tests.{le-leb, lt-leb, eqb-true}
 use Rattle.tape.specs.declared.Step.{Step}
 use Rattle.tape.specs.declared.Decoded.the-variants.{Bad}
 use Rattle.tape.specs.Steps.{AllSound}
 use Rattle.tape.specs.Words.{decoded, stepWord, encoded}
-use Rattle.tape.specs.Layout.{headerWords, otherWords, part, stepCount, stepIndex, stepAt, stepWordsOf, sortOf, stepOf, meansAt, stepsIn, stepsOf, allSteps}
+use Rattle.tape.specs.Layout.{headerWords, otherWords, part, stepCount, stepIndex, stepWordsOf, sortOf, stepOf, meansAt, stepsIn, allSteps}
 use Rattle.refusal.proofs.Laws.Tests.{both}
 use Rattle.tape.proofs.Laws.Words.{decoded-step, decoded-lawful, decoded-zero, step-sound, word-again}
 
@@ -68,14 +68,6 @@ words-count tape = simp (length-drop, length-take) (omega arith)
 
 pub words-none : (tape : List ℕ) → length tape < otherWords → stepWordsOf tape ≡ []
 words-none tape short = drop-of-length-le (take (4 + stepCount tape) tape) {i = 4} (simp length-take (omega arith))
-
-pub words-at : (tape : List ℕ) (i : ℕ) → i < stepCount tape → getD (stepWordsOf tape) i 0 ≡ stepAt tape i
-words-at tape i inside =
-    getD-drop 4 (take (4 + stepCount tape) tape) i 0 ∙ getD-take (4 + stepCount tape) tape (4 + i) 0 (omega arith)
-
--- the step numbered i + 1
-pub steps-at : (tape : List ℕ) (i : ℕ) → i < stepCount tape → getD (stepsOf tape) i (stepOf (decoded 0)) ≡ stepOf (decoded (stepAt tape i))
-steps-at tape i inside = steps-nth (stepWordsOf tape) i ∙ ap (λ (w : ℕ). stepOf (decoded w)) (words-at tape i inside)
 
 -- ---- the part of a row
 

@@ -5,14 +5,16 @@ use native.Mathlib.Omega.{arith}
 use lib.Dec.{eqb}
 use borrow.Author.Needs.{needs}
 use Rattle.tape.specs.Words.{decoded}
-use Rattle.tape.specs.Layout.{stepCount, stepAt, endAt, sortOf, valueOf}
+use Rattle.tape.specs.Layout.{stepIndex, stepCount, endAt, sortOf, valueOf, meansAt}
 use Rattle.tape.proofs.Laws.Reading.{end-sort, end-count}
 use Rattle.tape.proofs.layout.is_end.Statement.{statement}
 use Rattle.tape.proofs.layout.is_end.Tie as tie
 
 -- the word that is read is the one past the steps
 end : (c : tie.After-means-at) → c .means-at .result ≡ decoded (endAt (c .before .before .before .args .tape .now))
-end c = c .means-at .ensures ∙ ap (λ (n : ℕ). decoded (stepAt (c .before .before .before .args .tape .now) n)) (c .before .step-count .ensures)
+end c =
+    let tape = c .before .before .before .args .tape .now in
+    c .means-at .ensures ∙ ap (λ (n : ℕ). meansAt tape (stepIndex tape n)) (c .before .step-count .ensures)
 
 sort : (c : tie.After-sort-of) → c .sort-of .result ≡ sortOf (decoded (endAt (c .before .before .before .before .args .tape .now)))
 sort c = c .sort-of .ensures ∙ ap sortOf (end (c .before))
