@@ -13,5 +13,4 @@ pub mod Basic
 pub mod Dual
 pub mod Hybrid
 pub mod Table
-pub mod Named
 pub mod Figures

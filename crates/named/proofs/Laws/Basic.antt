@@ -1,20 +1,21 @@
 -- The basic program: figure 2 on the Zeckendorf forms of k and K, of at most h places each, of which at most (h + 1) / 2 are set.
-use mathlib.Core.Path.{_≡_, ap, _∙_}
+use mathlib.Core.Path.{_≡_, refl, ap, _∙_}
 use mathlib.Core.Bool.{false}
+use mathlib.Core.List.{[]}
 use Prim.Native.Nat.{ℕ, suc, _+_, _*_, _%_, _≤_, _<_, _^_}
 use native.Mathlib.Omega.{arith}
 use lib.ListN.{length}
 use Rattle.modular.specs.Inverses.{inverse, badExponent}
-use Rattle.fibonacci.specs.Forms.{zeckendorf}
+use Rattle.fibonacci.specs.Forms.{ones, zeckendorf}
 use Rattle.fibonacci.specs.Height.{height}
 use Rattle.fibonacci.proofs.Laws.Zeckendorf.{zeckendorf-sum}
 use Rattle.fibonacci.proofs.Laws.Height.{zeckendorf-height, height-28}
 use Rattle.tape.specs.Words.{numberLimit}
 use Rattle.named.specs.declared.Figure.the-variants.{Two}
-use Rattle.named.specs.Generators.{drawn, generated}
+use Rattle.named.specs.Generators.{generated}
 use Rattle.named.specs.Named.{basicForms}
 use Rattle.named.specs.Promises.{Fits, IsProgram}
-use Rattle.named.proofs.Laws.Lengths.{basic-length, lone-fits}
+use Rattle.named.proofs.Laws.Lengths.{drawn-count, lone-fits}
 use Rattle.named.proofs.Laws.Sequences.{multiple-28}
 use Rattle.named.proofs.Laws.Forms.{form-ones}
 use Rattle.named.proofs.Laws.Programs.{below, inverse-is, two-program}
@@ -30,9 +31,9 @@ module _ (r k : ℕ) (good : badExponent k r ≡ false) where
   H = inverse-is r k good .high
 
   pub basic-bound : length (generated (basicForms r k)) ≤ 9 * height r + 2
-  unfolding basicForms drawn
+  unfolding basicForms ones
   basic-bound =
-      omega (arith, basic-length (zeckendorf k) (zeckendorf K), zeckendorf-height r k h, zeckendorf-height r K H, form-ones r k h, form-ones r K H)
+      omega (arith, drawn-count Two (zeckendorf k) [] (zeckendorf K) [] (omega arith) (omega arith) refl refl, zeckendorf-height r k h, zeckendorf-height r K H, form-ones r k h, form-ones r K H)
 
   module _ (small : r < numberLimit) where
     low : height r ≤ 41

@@ -14,10 +14,11 @@ use Rattle.fibonacci.proofs.Laws.Fibonacci.{fib-one, fib-monotone}
 use Rattle.fibonacci.proofs.Laws.Height.{height-28}
 use Rattle.tape.specs.Words.{numberLimit}
 use Rattle.machine.proofs.Laws.Integers.{Within, within-natural}
-use Rattle.named.specs.Generators.{drawn, generated}
+use Rattle.named.specs.declared.Figure.the-variants.{Four}
+use Rattle.named.specs.Generators.{generated}
 use Rattle.named.specs.Named.{dualForm, dualForms}
 use Rattle.named.specs.Promises.{Fits, IsProgram}
-use Rattle.named.proofs.Laws.Lengths.{dual-length}
+use Rattle.named.proofs.Laws.Lengths.{drawn-count}
 use Rattle.named.proofs.Laws.Sequences.{multiple-28, reaching}
 use Rattle.named.proofs.Laws.Forms.{padded-sum, padded-length, padded-ones}
 use Rattle.named.proofs.Laws.Programs.{FormOf, below, four-program}
@@ -42,12 +43,12 @@ module _ (r k : ℕ) (good : badExponent k r ≡ false) where
   few x i = padded-ones h (x * fib i % r) r (residue-below (x * fib i))
 
   pub dual-bound : length (generated (dualForms r k)) ≤ 6 * h + 4
-  unfolding dualForms drawn
+  unfolding dualForms
   dual-bound =
       omega (
         arith,
-        dual-length (dualForm r k h) (dualForm r k (suc h)) (dualForm r K h) (dualForm r K (suc h))
-            (omega (arith, places k h, places k (suc h))) (omega (arith, places K h, places K (suc h))),
+        drawn-count Four (dualForm r k h) (dualForm r k (suc h)) (dualForm r K h) (dualForm r K (suc h))
+            (omega (arith, places k h, places k (suc h))) (omega (arith, places K h, places K (suc h))) tt tt,
         places k h,
         places K h,
         few k h,

@@ -1,7 +1,7 @@
 -- The hybrid program: figure 6 on the Zeckendorf form of v = k F_(ℓ'+1), of at most 2h places with h set, and on K's padded to ℓ'.
-use mathlib.Core.Path.{_≡_, sym, ap, _∙_}
+use mathlib.Core.Path.{_≡_, refl, sym, ap, _∙_}
 use mathlib.Core.Bool.{Bool, false}
-use mathlib.Core.List.{List}
+use mathlib.Core.List.{List, []}
 use Prim.Native.Nat.{ℕ, suc, _+_, _*_, _%_, _≤_, _<_, _^_}
 use native.Mathlib.Omega.{arith}
 use lib.ListN.{length}
@@ -15,10 +15,10 @@ use Rattle.fibonacci.proofs.Laws.Height.{height-least, height-28, height-le-odd
 use Rattle.fibonacci.proofs.Laws.Lengths.{multiple-length, multiple-shift, multiple-count}
 use Rattle.tape.specs.Words.{numberLimit}
 use Rattle.named.specs.declared.Figure.the-variants.{Six}
-use Rattle.named.specs.Generators.{drawn, generated}
+use Rattle.named.specs.Generators.{generated}
 use Rattle.named.specs.Named.{hybridForms}
 use Rattle.named.specs.Promises.{Fits, IsProgram}
-use Rattle.named.proofs.Laws.Lengths.{hybrid-length, lone-fits}
+use Rattle.named.proofs.Laws.Lengths.{drawn-count, lone-fits}
 use Rattle.named.proofs.Laws.Sequences.{multiple-28, reaching-multiples}
 use Rattle.named.proofs.Laws.Forms.{padded-sum, padded-length, padded-ones}
 use Rattle.named.proofs.Laws.Programs.{below, inverse-is, six-program}
@@ -40,11 +40,11 @@ module _ (r k : ℕ) (good : badExponent k r ≡ false) where
   few = padded-ones (oddHeight r) (inverse r k) r (inverse-is r k good .high)
 
   pub hybrid-bound : length (generated (hybridForms r k)) ≤ 8 * height r + 5
-  unfolding hybridForms drawn
+  unfolding hybridForms ones
   hybrid-bound =
       omega (
         arith,
-        hybrid-length (zeckendorf v) Ks,
+        drawn-count Six (zeckendorf v) [] Ks [] (omega arith) (omega arith) refl refl,
         multiple-length r k h,
         multiple-count r k h,
         ones-places 1 (zeckendorf v),

@@ -16,7 +16,7 @@ use Rattle.named.specs.declared.Figure.the-variants.{Two, Four, Six}
 use Rattle.named.specs.Generators.{select, lowest, higher, ascend, chain, downSteps, descend, basic, dual, hybrid, Forms, lone, drawn, generated, stepsFrom}
 use Rattle.named.specs.Promises.{Alone, Fits}
 
-pub length-back : (xs : List Step) → length (back xs) ≡ length xs
+length-back : (xs : List Step) → length (back xs) ≡ length xs
 unfolding back
 length-back [] = refl
 length-back (x ∷ xs) = length-append (back xs) (opposite x ∷ []) ∙ omega (arith, length-back xs)
@@ -35,7 +35,7 @@ pub length-higher : (n : ℕ) (ts : List Bool) → length ts ≤ suc n → lengt
 length-higher n [] h = omega arith
 length-higher n (t ∷ ts) h = omega arith
 
-pub ascend-length : (ss ts : List Bool) → length ts ≤ length ss → length (ascend ss ts) ≡ 2 * length ss + (ones ss + ones ts)
+ascend-length : (ss ts : List Bool) → length ts ≤ length ss → length (ascend ss ts) ≡ 2 * length ss + (ones ss + ones ts)
 unfolding ascend ones
 ascend-length [] [] h = refl
 ascend-length [] (t ∷ ts) h = absurd (omega arith)
@@ -48,7 +48,7 @@ ascend-length (s ∷ ss) ts h =
       ones-lowest ts,
     )
 
-pub descend-length : (bs : List Bool) → length (descend bs) ≡ 2 * length bs + ones bs
+descend-length : (bs : List Bool) → length (descend bs) ≡ 2 * length bs + ones bs
 unfolding descend ones
 descend-length [] = refl
 descend-length (b ∷ bs) =
@@ -59,13 +59,17 @@ chain-length : (n : ℕ) → length (chain n) ≡ 2 * n
 unfolding ones
 chain-length n = ascend-length (pad n []) [] (omega arith) ∙ omega (arith, pad-length n [] (omega arith), ones-pad n [])
 
-pub basic-length : (ks Ks : List Bool) → length (basic ks Ks) ≡ 4 * length ks + ones ks + 1 + 4 * length Ks + ones Ks
-unfolding basic ones
-basic-length ks Ks =
+-- ---- whichever the figure
+
+pub drawn-count : (figure : Figure) (ss ts Ss Ts : List Bool) → length ts ≤ length ss → length Ts ≤ length Ss → Alone figure ts → Alone figure Ts
+    → length (drawn figure ss ts Ss Ts) ≡ stepsFrom figure (length ss) (length Ss) (ones ss + ones ts + ones Ss + ones Ts)
+unfolding drawn basic dual hybrid ones
+drawn-count Two ks ts Ks Ts h H e E =
     length-append (ascend ks []) _
     ∙ ap (λ (n : ℕ). length (ascend ks []) + n) (length-append (back (chain (length ks))) _)
     ∙ ap (λ (n : ℕ). length (ascend ks []) + (length (back (chain (length ks))) + suc n)) (length-append (chain (length Ks)) (back (ascend Ks [])))
-    ∙ omega (
+    ∙ rw (e, E)
+    (omega (
       arith,
       ascend-length ks [] (omega arith),
       ascend-length Ks [] (omega arith),
@@ -73,29 +77,13 @@ basic-length ks Ks =
       length-back (ascend Ks []),
       chain-length (length ks),
       chain-length (length Ks),
-    )
-
-pub dual-length : (ss ts Ss Ts : List Bool) → length ts ≤ length ss → length Ts ≤ length Ss
-    → length (dual ss ts Ss Ts) ≡ 2 * length ss + 2 * length Ss + ones ss + ones ts + ones Ss + ones Ts + 2
-unfolding dual
-dual-length ss ts Ss Ts h H =
+    ))
+drawn-count Four ss ts Ss Ts h H e E =
     length-append (ascend ss ts) _
     ∙ omega (arith, ascend-length ss ts h, ascend-length Ss Ts H, length-back (ascend Ss Ts))
-
-pub hybrid-length : (vs Ks : List Bool) → length (hybrid vs Ks) ≡ 2 * length vs + ones vs + 2 * length Ks + ones Ks + 3
-unfolding hybrid ones
-hybrid-length vs Ks =
+drawn-count Six vs ts Ks Ts h H e E =
     ap suc (length-append (descend vs) _)
-    ∙ omega (arith, descend-length vs, ascend-length Ks [] (omega arith), length-back (ascend Ks []))
-
--- ---- whichever the figure
-
-drawn-count : (figure : Figure) (ss ts Ss Ts : List Bool) → length ts ≤ length ss → length Ts ≤ length Ss → Alone figure ts → Alone figure Ts
-    → length (drawn figure ss ts Ss Ts) ≡ stepsFrom figure (length ss) (length Ss) (ones ss + ones ts + ones Ss + ones Ts)
-unfolding drawn ones
-drawn-count Two ss ts Ss Ts h H e E = rw (e, E) (omega (arith, basic-length ss Ss))
-drawn-count Four ss ts Ss Ts h H e E = omega (arith, dual-length ss ts Ss Ts h H)
-drawn-count Six ss ts Ss Ts h H e E = rw (e, E) (omega (arith, hybrid-length ss Ss))
+    ∙ rw (e, E) (omega (arith, descend-length vs, ascend-length Ks [] (omega arith), length-back (ascend Ks [])))
 
 pub generated-count : (f : Forms) → Fits f
     → length (generated f) ≡ stepsFrom (f .figure) (length (f .first)) (length (f .last)) (ones (f .first) + ones (f .beside) + ones (f .last) + ones (f .besideLast))
@@ -120,6 +108,6 @@ lone-fits figure ss Ss h H = record {
 -- each has a swap at least
 pub drawn-some : (figure : Figure) (ss ts Ss Ts : List Bool) → 0 < length (drawn figure ss ts Ss Ts)
 unfolding drawn dual hybrid
-drawn-some Two ss ts Ss Ts = omega (arith, basic-length ss Ss)
+drawn-some Two ss ts Ss Ts = omega (arith, drawn-count Two ss [] Ss [] (omega arith) (omega arith) refl refl)
 drawn-some Four ss ts Ss Ts = rw length-append (omega arith)
 drawn-some Six ss ts Ss Ts = omega arith

@@ -1,4 +1,4 @@
--- Steps that are one of the programs of a list: the test tells it, and what holds of every member holds of the first.
+-- Steps that are one of the programs of a list: the test tells it; and the laws of members that the table needs.
 use mathlib.Core.Path.{_≡_, refl, sym, ap, ap₂, _∙_}
 use mathlib.Core.Bool.{Bool, true, false, _&&_, _||_, or-true, false≢true}
 use mathlib.Core.Logic.{inl, inr}
@@ -81,10 +81,6 @@ module _ {A : Type 0} where
   first-only [] none x few m = absurd m
   first-only (y ∷ []) none x few m = only-member m
   first-only (y ∷ z ∷ xs) none x few m = absurd (omega arith)
-
-  pub first-any : (P : A → Type 0) (xs : List A) (none : A) → P none → ((x : A) → Member x xs → P x) → P (getD xs 0 none)
-  first-any P [] none n every = n
-  first-any P (x ∷ xs) none n every = every x (inl refl)
 
 -- what holds of the images of all members
 pub member-map : {A B : Type 0} (P : B → Type 0) (f : A → B) (xs : List A) → ((x : A) → Member x xs → P (f x)) → (y : B) → Member y (map f xs) → P y

@@ -108,7 +108,3 @@ module _ (variant : ℕ) where
   pub named-most : unnamed variant ≡ false → variant ≤ lastVariant
   unfolding unnamed
   named-most is = ltb-false lastVariant variant (neither (eqb variant 0) _ is .1)
-
-  pub unnamed-other : ¬ (variant ≡ 1) → ¬ (variant ≡ 2) → ¬ (variant ≡ 3) → unnamed variant ≡ true
-  unnamed-other not-1 not-2 not-3 =
-      by-test (unnamed variant) (λ is. is) (λ is. absurd (omega (arith, named-some is, named-most is)))
