@@ -38,7 +38,7 @@ step-same (Mul t s) = rw (eq-eqb t t refl, eq-eqb s s refl)
 step-same (Div t s) = rw (eq-eqb t t refl, eq-eqb s s refl)
 step-same (Swp t s) = rw (eq-eqb t t refl, eq-eqb s s refl)
 
-pub same-steps : (xs ys : List Step) → sameSteps xs ys ≡ true → xs ≡ ys
+same-steps : (xs ys : List Step) → sameSteps xs ys ≡ true → xs ≡ ys
 unfolding sameSteps
 same-steps [] [] e = refl
 same-steps [] (y ∷ ys) e = absurd (false≢true e)
@@ -47,7 +47,7 @@ same-steps (x ∷ xs) (y ∷ ys) e =
     let h = both (sameStep x y) (sameSteps xs ys) e in
     ap₂ _∷_ (same-step x y (h .0)) (same-steps xs ys (h .1))
 
-pub steps-same : (xs : List Step) → sameSteps xs xs ≡ true
+steps-same : (xs : List Step) → sameSteps xs xs ≡ true
 unfolding sameSteps
 steps-same [] = refl
 steps-same (x ∷ xs) = and-both (sameStep x x) (sameSteps xs xs) (step-same x) (steps-same xs)
