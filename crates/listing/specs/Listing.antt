@@ -9,7 +9,7 @@ use Rattle.tape.specs.declared.Step.the-variants.{Mul, Div, Swp}
 use Rattle.tape.specs.declared.Header.{Header}
 use Rattle.tape.specs.Layout.{mostSteps, headerOf, stepsOf}
 use Rattle.encoding.specs.Encoding.{tapeOf, noTape}
-use Rattle.named.specs.Named.{variantName}
+use Rattle.named.specs.Named.{variantNames, variantName, longest}
 use Rattle.program.specs.Services.{roomOutcome, checkRules}
 use Rattle.listing.specs.declared.Listed.{Listed}
 use Rattle.text.specs.Text.{ascii, decimal, line}
@@ -67,9 +67,9 @@ linesFor (answered h) steps = firstLine h ++ stepLines 1 steps
 unfoldable pub listingOf : List ℕ → List ℕ
 listingOf bytes = linesFor (listingOutcome bytes) (stepsOf (tapeOf bytes))
 
--- no listing is longer (`listing-most` of Laws/Lengths): 53 bytes for the first line, 12 for each step
+-- no listing is longer (`listing-most` of Laws/Lengths): 47 bytes and a variant's name for the first line, 12 for each step
 abbrev pub mostWritten : ℕ
-mostWritten = 53 + mostSteps * 12
+mostWritten = 47 + longest variantNames + mostSteps * 12
 
 -- ---- the service, into a row that is lent
 

@@ -13,6 +13,7 @@ use encoding::tape_words;
 use lines::first_line;
 use lines::refused_line;
 use lines::step_lines;
+use named::LONGEST_NAME;
 use refusal::Refusal;
 use tape::Header;
 use tape::MOST_STEPS;
@@ -27,7 +28,7 @@ pub struct Listed {
 }
 
 // The most bytes of a listing (`tape-listing-most`).
-pub const MOST_WRITTEN: usize = 53 + 12 * MOST_STEPS;
+pub const MOST_WRITTEN: usize = 47 + LONGEST_NAME + 12 * MOST_STEPS;
 
 // Writes the listing of a tape that is given as bytes; a refusal is one line. 5 where the row is shorter than the listing.
 pub fn listing(bytes: &[u8], lines: &mut [u8]) -> Listed

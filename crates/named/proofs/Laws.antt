@@ -14,3 +14,4 @@ pub mod Dual
 pub mod Hybrid
 pub mod Table
 pub mod Figures
+pub mod Names

@@ -2,7 +2,7 @@
 use mathlib.Core.Bool.{Bool, cond}
 use mathlib.Core.List.{List, [], _∷_, map}
 use Prim.Native.Nat.{ℕ, suc, _*_, _%_}
-use lib.Dec.{eqb}
+use lib.Dec.{leb, eqb}
 use lib.ListN.{length, getD}
 use Rattle.text.specs.Text.{ascii}
 use Rattle.modular.specs.Inverses.{inverse}
@@ -64,6 +64,11 @@ variantNames = ascii "free" ∷ map (λ (row : Variant). row .name) variants
 
 abbrev pub variantName : ℕ → List ℕ
 variantName variant = getD variantNames variant []
+
+-- how many bytes the longest of some names has
+abbrev pub longest : List (List ℕ) → ℕ
+longest [] = 0
+longest (name ∷ names) = cond (leb (length name) (longest names)) (longest names) (length name)
 
 -- the forms that a table gives for a variant's number, r and k; none for a number that it doesn't have
 unfoldable pub formsIn : List Variant → ℕ → ℕ → ℕ → List Forms

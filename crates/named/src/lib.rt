@@ -9,3 +9,6 @@ pub enum Figure {
 
 // The variants' names by their numbers, a zero byte after each.
 pub const VARIANT_NAMES: [u8; 23] = *b"free\0basic\0dual\0hybrid\0";
+
+// The bytes of the longest of them.
+pub const LONGEST_NAME: usize = 6;

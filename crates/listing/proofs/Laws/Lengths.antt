@@ -1,8 +1,8 @@
--- How long a listing is: at most 53 bytes for the first line and 12 for each of as many steps as a tape can have, so that a row of that length is
--- never too short; and never empty, so that a count of 0 says that there was no room.
+-- How long a listing is: at most 47 bytes and a variant's name for the first line and 12 for each of as many steps as a tape can have, so
+-- that a row of that length is never too short; and never empty, so that a count of 0 says that there was no room.
 use mathlib.Core.Path.{_≡_, refl, sym, ap, _∙_}
 use mathlib.Core.List.{List, [], _∷_, _++_}
-use Prim.Native.Nat.{ℕ, zero, suc, _+_, _*_, _≤_, _<_}
+use Prim.Native.Nat.{ℕ, _+_, _*_, _≤_, _<_}
 use native.Mathlib.Decide.{decLt}
 use native.Mathlib.Omega.{arith}
 use lib.ListN.{length, drop, length-append}
@@ -17,7 +17,8 @@ use Rattle.tape.proofs.Laws.Reading.{length-most}
 use Rattle.tape.proofs.Laws.Rows.{all-steps-sound}
 use Rattle.tape.proofs.Laws.Layout.{Fits, steps-count, header-fits}
 use Rattle.encoding.specs.Encoding.{tapeOf, tapeIn}
-use Rattle.named.specs.Named.{variantName}
+use Rattle.named.specs.Named.{variantNames, variantName, longest}
+use Rattle.named.proofs.Laws.Names.{longest-most}
 use Rattle.program.specs.Services.{roomOutcome, checkRules, acceptOutcome}
 use Rattle.program.proofs.Laws.Building.{short, enough}
 use Rattle.program.proofs.Laws.Checking.{accepted, header-is}
@@ -38,20 +39,13 @@ refused-most n h = omega (arith, line-length (ascii "refused") (decimal n ∷ []
 
 -- ---- the first line
 
-name-most : (variant : ℕ) → length (variantName variant) ≤ 6
-name-most zero = omega arith
-name-most (suc zero) = omega arith
-name-most (suc (suc zero)) = omega arith
-name-most (suc (suc (suc zero))) = omega arith
-name-most (suc (suc (suc (suc variant)))) = omega arith
-
-first-most : (h : Header) → Fits h → h .steps < 1000 → length (firstLine h) ≤ 53
+first-most : (h : Header) → Fits h → h .steps < 1000 → length (firstLine h) ≤ 47 + longest variantNames
 first-most h fits n =
     let words = (ascii "p=" ++ decimal (h .modulus)) ∷ (ascii "r=" ++ decimal (h .order)) ∷ (ascii "k=" ++ decimal (h .exponent)) ∷ (ascii "steps=" ++ decimal (h .steps)) ∷ [] in
     omega (
       arith,
       line-length (variantName (h .variant)) words,
-      name-most (h .variant),
+      longest-most variantNames (h .variant),
       decimal-length 8 (h .modulus) (omega arith),
       decimal-length 8 (h .order) (omega arith),
       decimal-length 8 (h .exponent) (omega arith),
