@@ -76,13 +76,22 @@ pub fn cut(tape: &[u32], first: u32, last: u32) -> Result<&[u32], u32> {
 /// A list of runs on tapes that stand in one row of words. A request is four numbers: where its tape
 /// begins and ends in the row, and two positions; numbers left over are no request. A tape that isn't
 /// inside the row is the empty one. Each run gets the registers as the runs before it left them, and a
-/// refused run leaves them.
-pub fn play(row: &[u32], requests: &[u32], registers: [u32; 4]) -> [u32; 4] {
-    requests.chunks_exact(4).fold(registers, |before, request| {
+/// refused run leaves them. Told are the registers at the end, and of each run its number.
+pub fn play(row: &[u32], requests: &[u32], registers: [u32; 4]) -> ([u32; 4], Vec<u32>) {
+    let mut after = registers;
+    let mut numbers = Vec::new();
+    for request in requests.chunks_exact(4) {
         let (begin, end) = (request[0] as usize, request[1] as usize);
         let tape = row.get(begin..end).unwrap_or_default();
-        run(tape, before, request[2], request[3]).unwrap_or(before)
-    })
+        numbers.push(match run(tape, after, request[2], request[3]) {
+            Ok(registers) => {
+                after = registers;
+                0
+            }
+            Err(number) => number,
+        });
+    }
+    (after, numbers)
 }
 
 /// A register with its inverse modulo p.

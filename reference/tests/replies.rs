@@ -109,13 +109,13 @@ fn tapes() {
     // An empty list, a request, one with numbers left over, tapes that aren't inside.
     let far = built(359, 179, 76, 1);
     answers(&far, "play 1 4 1 1", "1 4 1 1");
-    answers(&far, "play 1 4 1 1 0 88 0 83", "1 266 1 1");
-    answers(&far, "play 1 4 1 1 0 88 0 83 0 88 0", "1 266 1 1");
-    answers(&far, "play 0 4 1 1 0 88 0 83", "0 4 1 1");
+    answers(&far, "play 1 4 1 1 0 88 0 83", "1 266 1 1 0");
+    answers(&far, "play 1 4 1 1 0 88 0 83 0 88 0", "1 266 1 1 0");
+    answers(&far, "play 0 4 1 1 0 88 0 83", "0 4 1 1 9");
     answers(
         &far,
         "play 1 4 1 1 0 89 0 83 88 0 0 83 0 88 0 84",
-        "1 4 1 1",
+        "1 4 1 1 6 6 10",
     );
     let build = on(&[], "build 3 2 1 basic");
     assert_eq!((build.status, build.text), (Status::Answered, bytes(&tape)));
@@ -344,7 +344,7 @@ fn bytes_that_are_no_whole_words() {
         .split(' ')
         .map(str::as_bytes)
         .collect();
-    assert_eq!(reply(&play, b"12345").text, b"1 2 3 4\n");
+    assert_eq!(reply(&play, b"12345").text, b"1 2 3 4 6\n");
     // A tape with words behind it, which play finds unless standard input is too long.
     let play: Vec<&[u8]> = "play 2 3 1 1 0 6 0 1"
         .split(' ')
@@ -352,9 +352,9 @@ fn bytes_that_are_no_whole_words() {
         .collect();
     let mut row = free(7, &[step(MUL, 0, 1)]);
     row.resize(512, 0);
-    assert_eq!(reply(&play, &bytes(&row)).text, b"6 3 1 1\n");
+    assert_eq!(reply(&play, &bytes(&row)).text, b"6 3 1 1 0\n");
     row.push(0);
-    assert_eq!(reply(&play, &bytes(&row)).text, b"2 3 1 1\n");
+    assert_eq!(reply(&play, &bytes(&row)).text, b"2 3 1 1 6\n");
     // A call that takes no tape is refused for its own reason, whatever the bytes.
     let alone = reply(&[b"fibonacci", b"94"], b"12345");
     assert_eq!(

@@ -101,7 +101,7 @@ fn a_row_of_tapes() {
     let step = "tape 0x10000001 0x20000007 0x30000000 0x40000000 0x50000004 0xF0000001\n";
     prints(
         &format!("{free}behind\n{step}list\nplay 2 3 1 1 0 5 0 0 5 11 0 1\nplay 2 3 1 1 0 6 0 1\n"),
-        "5\n0\n6\nfree p=7 r=0 k=0 steps=1\n1 mul 0 1\n6 3 1 1\n2 3 1 1\n",
+        "5\n0\n6\nfree p=7 r=0 k=0 steps=1\n1 mul 0 1\n6 3 1 1 0 0\n2 3 1 1 7\n",
     );
     prints(
         "behind\nbehind\ncheck\n",

@@ -4,7 +4,7 @@ ghost use mathlib.Core.List.{[], _∷_};
 ghost use Prim.Native.Nat.{_≤_};
 ghost use lib.ListN.{length};
 ghost use Rattle.tool.specs.Verbs.{largest8, largest32, mostParameters, limitOn};
-ghost use Rattle.tool.specs.Replies.{built, onNumbers, bit};
+ghost use Rattle.tool.specs.Replies.{built, numberReply, bit};
 ghost use Rattle.tool.specs.Rows.{Told, Within};
 use crate::values::bytes;
 use crate::values::large;
@@ -25,7 +25,7 @@ use tool::Reply;
 // A verb on its parameters.
 pub(crate) fn on_numbers(verb: NumberVerb, own: u32, values: &[u64], text: &mut [u8]) -> Reply
     requires { ⌜ (length (now values) ≤ mostParameters) × Within (limitOn verb) (now values) ⌝ }
-    ensures { λ r. ⌜ Told (now (text .entry)) (onNumbers verb own (now (values .entry))) r (now (text .exit)) ⌝ }
+    ensures { λ r. ⌜ Told (now (text .entry)) (numberReply verb own (now (values .entry))) r (now (text .exit)) ⌝ }
 {
     match verb {
         NumberVerb::Decode => meaning(text, tape::decode(small(values, 0))),
@@ -89,7 +89,7 @@ pub(crate) fn build(own: u32, values: &[u64], text: &mut [u8]) -> Reply
 
 // The places of a number's Zeckendorf form.
 fn places(n: u64, text: &mut [u8]) -> Reply
-    ensures { λ r. ⌜ Told (now (text .entry)) (onNumbers NumberVerb.Places 0 (n ∷ [])) r (now (text .exit)) ⌝ }
+    ensures { λ r. ⌜ Told (now (text .entry)) (numberReply NumberVerb.Places 0 (n ∷ [])) r (now (text .exit)) ⌝ }
 {
     let form = fibonacci::zeckendorf(n);
     let bytes = form.places;
@@ -103,7 +103,7 @@ fn places(n: u64, text: &mut [u8]) -> Reply
 // The number of a list of places.
 fn number_of(own: u32, values: &[u64], text: &mut [u8]) -> Reply
     requires { ⌜ (length (now values) ≤ mostParameters) × Within largest8 (now values) ⌝ }
-    ensures { λ r. ⌜ Told (now (text .entry)) (onNumbers NumberVerb.NumberOf own (now (values .entry))) r (now (text .exit)) ⌝ }
+    ensures { λ r. ⌜ Told (now (text .entry)) (numberReply NumberVerb.NumberOf own (now (values .entry))) r (now (text .exit)) ⌝ }
 {
     let mut row = [0u8; MOST_PARAMETERS];
     let count = bytes(values, &mut row);

@@ -1,14 +1,18 @@
 // The verbs on a tape.
 ghost use Prim.Native.Nat.{_≤_};
-ghost use lib.ListN.{length, getD, drop};
+ghost use mathlib.Core.Path.{_≡_};
+ghost use mathlib.Core.List.{_++_};
+ghost use lib.ListN.{length, getD};
+ghost use lib.Seq.{sets};
 ghost use Rattle.text.specs.Text.{numbersLine};
 ghost use Rattle.tape.specs.Layout.{stepsOf};
 ghost use Rattle.program.specs.Services.{acceptOutcome};
 ghost use Rattle.sequencer.specs.Services.{runOutcome, cutOutcome};
-ghost use Rattle.sequencer.specs.Lists.{afterAll, requestsOf};
+ghost use Rattle.machine.specs.Machine.{valuesOf};
+ghost use Rattle.sequencer.specs.Lists.{afterAll, numbersAll, requestsOf};
 ghost use Rattle.listing.specs.Listing.{linesFor};
 ghost use Rattle.tool.specs.Verbs.{largest32, mostParameters};
-ghost use Rattle.tool.specs.Replies.{answers, printed, registersIn, onTape};
+ghost use Rattle.tool.specs.Replies.{answers, printed, registersIn, played, tapeReply};
 ghost use Rattle.tool.specs.Rows.{Told, Within};
 use crate::values::past_registers;
 use crate::values::registers;
@@ -16,6 +20,7 @@ use crate::values::small;
 use crate::values::words;
 use lines::numbers_line;
 use listing::list_tape;
+use machine::Registers;
 use printing::answer;
 use printing::forward;
 use printing::refuse;
@@ -24,6 +29,12 @@ use tool::ANSWERED;
 use tool::MOST_PARAMETERS;
 use tool::Reply;
 use tool::TapeVerb;
+
+// The registers of the machine, which a list of runs begins with.
+const REGISTERS: usize = 4;
+
+// The words of a request in a list of runs.
+const REQUEST_WORDS: usize = 4;
 
 // A verb on the tape at hand; a list of runs is on the row of tapes.
 pub(crate) fn on_tape(
@@ -35,7 +46,7 @@ pub(crate) fn on_tape(
     text: &mut [u8],
 ) -> Reply
     requires { ⌜ (length (now values) ≤ mostParameters) × Within largest32 (now values) ⌝ }
-    ensures { λ r. ⌜ Told (now (text .entry)) (onTape verb own (now (values .entry)) (now (tape .entry)) (now (tapes .entry))) r (now (text .exit)) ⌝ }
+    ensures { λ r. ⌜ Told (now (text .entry)) (tapeReply verb own (now (values .entry)) (now (tape .entry)) (now (tapes .entry))) r (now (text .exit)) ⌝ }
 {
     match verb {
         TapeVerb::Check => answer(text, own, program::check(tape)),
@@ -85,14 +96,30 @@ fn cut(own: u32, tape: &[u32], first: u32, last: u32, text: &mut [u8]) -> Reply
     }
 }
 
-// A list of runs: four registers, then the requests.
+// A list of runs: four registers, then the requests. Told are the registers at its end, then each run's number.
 fn play(values: &[u64], tapes: &[u32], text: &mut [u8]) -> Reply
     requires { ⌜ (length (now values) ≤ mostParameters) × Within largest32 (now values) ⌝ }
-    ensures { λ r. ⌜ Told (now (text .entry)) (answers (numbersLine (afterAll (requestsOf (now (tapes .entry)) (drop 4 (now (values .entry)))) (registersIn (now (values .entry)))))) r (now (text .exit)) ⌝ }
+    ensures { λ r. ⌜ Told (now (text .entry)) (played (now (values .entry)) (now (tapes .entry))) r (now (text .exit)) ⌝ }
 {
     let mut row = [0u32; MOST_PARAMETERS];
     let count = words(values, &mut row);
     let requests = past_registers(&row[..count]);
-    let after = sequencer::play(tapes, requests, registers(values));
-    printing::registers(text, after)
+    let mut told = [0u32; MOST_PARAMETERS];
+    runs(tapes, requests, registers(values), &mut told);
+    Reply {
+        status: ANSWERED,
+        length: numbers_line(text, 0, &told[..REGISTERS + requests.len() / REQUEST_WORDS]),
+    }
+}
+
+// The registers after a list of runs, then each run's number.
+fn runs(tapes: &[u32], requests: &[u32], registers: Registers, told: &mut [u32])
+    requires { ⌜ 4 ≤ length (now told) ⌝ }
+    ensures { λ _. ⌜ now (told .exit) ≡ sets (now (told .entry)) 0 (afterAll (requestsOf (now (tapes .entry)) (now (requests .entry))) (valuesOf registers) ++ numbersAll (requestsOf (now (tapes .entry)) (now (requests .entry))) (valuesOf registers)) ⌝ }
+{
+    let after = sequencer::play(tapes, requests, registers, &mut told[REGISTERS..]);
+    told[0] = after.c;
+    told[1] = after.d;
+    told[2] = after.e;
+    told[3] = after.f;
 }

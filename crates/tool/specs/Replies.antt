@@ -1,7 +1,7 @@
 -- The reply to a command line: a status and a text, which goes to standard output where the call is answered, else to standard error.
 use mathlib.Core.Path.{_≡_}
 use mathlib.Core.Bool.{Bool, false, not, _&&_, cond}
-use mathlib.Core.List.{List, [], _∷_}
+use mathlib.Core.List.{List, [], _∷_, _++_}
 use Prim.Native.Nat.{ℕ, _*_, _^_, _%_, _<_}
 use lib.Dec.{eqb}
 use lib.ListN.{length, getD, drop}
@@ -19,7 +19,7 @@ use Rattle.encoding.specs.Encoding.{bytesOf, tapeIn, wordBytes}
 use Rattle.named.specs.Named.{namedWords}
 use Rattle.program.specs.Services.{buildOutcome, checkOutcome, acceptOutcome}
 use Rattle.sequencer.specs.Services.{loadOutcome, runOutcome, forwardOutcome, traceOutcome, cutOutcome}
-use Rattle.sequencer.specs.Lists.{afterAll, requestsOf}
+use Rattle.sequencer.specs.Lists.{afterAll, numbersAll, requestsOf}
 use Rattle.listing.specs.Listing.{linesFor}
 use Rattle.tool.specs.declared.TapeVerb.{TapeVerb}
 use Rattle.tool.specs.declared.TapeVerb.the-variants.{Check, Listing, Load, Run, Power, Trace, Cut, Play}
@@ -87,28 +87,34 @@ unfoldable pub built : ℕ → List ℕ → Replied
 built own v =
     printed own (buildOutcome (at v 0) (at v 1) (at v 2) (at v 3) mostWords) (λ (n : ℕ). bytesOf (namedWords (at v 0) (at v 1) (at v 2) (at v 3)))
 
-unfoldable pub onNumbers : NumberVerb → ℕ → List ℕ → Replied
-onNumbers Decode own v = answers (meaning (decoded (at v 0)))
-onNumbers Fibonacci own v = printed own (fibonacciOutcome (at v 0)) numberLine
-onNumbers Places own v = answers (numbersLine (placesOf (at v 0)))
-onNumbers NumberOf own v = printed own (numberOutcome v) numberLine
-onNumbers Hofstadter own v = answers (numberLine (G (at v 0)))
-onNumbers Inverse own v = printed own (inverseOutcome (at v 0) (at v 1)) numberLine
-onNumbers Height own v = answers (numberLine (height (at v 0)))
-onNumbers Prime own v = answers (numberLine (bit (isPrime (at v 0))))
-onNumbers MulMod own v = answers (numberLine (remainder (at v 0 * at v 1) (at v 2)))
-onNumbers PowMod own v = answers (numberLine (remainder (at v 0 ^ at v 1) (at v 2)))
+unfoldable pub numberReply : NumberVerb → ℕ → List ℕ → Replied
+numberReply Decode own v = answers (meaning (decoded (at v 0)))
+numberReply Fibonacci own v = printed own (fibonacciOutcome (at v 0)) numberLine
+numberReply Places own v = answers (numbersLine (placesOf (at v 0)))
+numberReply NumberOf own v = printed own (numberOutcome v) numberLine
+numberReply Hofstadter own v = answers (numberLine (G (at v 0)))
+numberReply Inverse own v = printed own (inverseOutcome (at v 0) (at v 1)) numberLine
+numberReply Height own v = answers (numberLine (height (at v 0)))
+numberReply Prime own v = answers (numberLine (bit (isPrime (at v 0))))
+numberReply MulMod own v = answers (numberLine (remainder (at v 0 * at v 1) (at v 2)))
+numberReply PowMod own v = answers (numberLine (remainder (at v 0 ^ at v 1) (at v 2)))
+
+-- a list of runs: the registers at its end, then each run's number
+abbrev pub played : List ℕ → List ℕ → Replied
+played v tapes =
+    let requests = requestsOf tapes (drop 4 v) in
+    answers (numbersLine (afterAll requests (registersIn v) ++ numbersAll requests (registersIn v)))
 
 -- on a tape; a list of runs is on a row of tapes
-unfoldable pub onTape : TapeVerb → ℕ → List ℕ → List ℕ → List ℕ → Replied
-onTape Check own v tape tapes = printed own (checkOutcome tape) numberLine
-onTape Listing own v tape tapes = answers (linesFor (acceptOutcome tape) (stepsOf tape))
-onTape Load own v tape tapes = printed own (loadOutcome tape (at v 0)) numbersLine
-onTape Run own v tape tapes = printed own (runOutcome tape (registersIn v) (at v 4) (at v 5)) numbersLine
-onTape Power own v tape tapes = printed own (forwardOutcome tape (at v 0)) powerLines
-onTape Trace own v tape tapes = printed own (traceOutcome tape (at v 0)) exponentsLine
-onTape Cut own v tape tapes = printed own (cutOutcome tape (at v 0) (at v 1)) numbersLine
-onTape Play own v tape tapes = answers (numbersLine (afterAll (requestsOf tapes (drop 4 v)) (registersIn v)))
+unfoldable pub tapeReply : TapeVerb → ℕ → List ℕ → List ℕ → List ℕ → Replied
+tapeReply Check own v tape tapes = printed own (checkOutcome tape) numberLine
+tapeReply Listing own v tape tapes = answers (linesFor (acceptOutcome tape) (stepsOf tape))
+tapeReply Load own v tape tapes = printed own (loadOutcome tape (at v 0)) numbersLine
+tapeReply Run own v tape tapes = printed own (runOutcome tape (registersIn v) (at v 4) (at v 5)) numbersLine
+tapeReply Power own v tape tapes = printed own (forwardOutcome tape (at v 0)) powerLines
+tapeReply Trace own v tape tapes = printed own (traceOutcome tape (at v 0)) exponentsLine
+tapeReply Cut own v tape tapes = printed own (cutOutcome tape (at v 0) (at v 1)) numbersLine
+tapeReply Play own v tape tapes = played v tapes
 
 abbrev pub means : Verb → ℕ → List ℕ → List ℕ → List ℕ → Replied
 means Unknown own v tape tapes = complains usage
@@ -116,8 +122,8 @@ means Build own v tape tapes = built own v
 means Script own v tape tapes = complains scriptLine
 means Help own v tape tapes = answers usage
 means Version own v tape tapes = answers versionLine
-means (OnTape verb) own v tape tapes = onTape verb own v tape tapes
-means (OnNumbers verb) own v tape tapes = onNumbers verb own v
+means (OnTape verb) own v tape tapes = tapeReply verb own v tape tapes
+means (OnNumbers verb) own v tape tapes = numberReply verb own v
 means (InScript verb) own v tape tapes = complains usage
 
 -- ---- the reply

@@ -109,7 +109,7 @@ usage =
     ∷ ascii "  power BASE             load and run: register 1 (a named program's power), the registers"
     ∷ ascii "  trace POSITION         the four whole exponents"
     ∷ ascii "  cut FIRST LAST         the words of the steps FIRST + 1 to LAST"
-    ∷ ascii "  play C D E F REQUEST.. a list of runs, each BEGIN END FROM TO: the registers at its end"
+    ∷ ascii "  play C D E F REQUEST.. a list of runs, each BEGIN END FROM TO: the registers at its end, each run's number"
     ∷ ascii "on numbers:"
     ∷ ascii "  decode WORD            what a tape's word means"
     ∷ ascii "  fibonacci I            the Fibonacci number of index I"

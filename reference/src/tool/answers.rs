@@ -46,7 +46,8 @@ fn on_tape(call: &Call, tapes: Tapes) -> Answer {
         Verb::Cut => services::cut(tape, n[0], n[1]).map(line_of),
         _ => {
             let registers = [n[0], n[1], n[2], n[3]];
-            Ok(line_of(&services::play(tapes.all, &n[4..], registers)))
+            let (after, numbers) = services::play(tapes.all, &n[4..], registers);
+            Ok(line_of(&[&after[..], &numbers].concat()))
         }
     }
 }

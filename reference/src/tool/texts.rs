@@ -20,7 +20,7 @@ on the tape from standard input:
   power BASE             load and run: register 1 (a named program's power), the registers
   trace POSITION         the four whole exponents
   cut FIRST LAST         the words of the steps FIRST + 1 to LAST
-  play C D E F REQUEST.. a list of runs, each BEGIN END FROM TO: the registers at its end
+  play C D E F REQUEST.. a list of runs, each BEGIN END FROM TO: the registers at its end, each run's number
 on numbers:
   decode WORD            what a tape's word means
   fibonacci I            the Fibonacci number of index I

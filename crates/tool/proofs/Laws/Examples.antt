@@ -22,14 +22,16 @@ use Rattle.encoding.specs.Encoding.{tapeOf, bytesOf, noTape, tapeIn}
 use Rattle.machine.specs.Machine.{apply, doAll, run}
 use Rattle.machine.specs.Exponents.{shift, shiftAll, inRange, allInRange, staysInRange}
 use Rattle.named.specs.Parameters.{badModulus, badOrder, unnamed}
-use Rattle.program.specs.Services.{sameWords, buildOutcome, checkRules}
-use Rattle.sequencer.specs.Services.{badRegister, badRegisters, allowed, badBase, loadOutcome, runRules, runOutcome, forwardOutcome, traceOutcome, badCut, cutRules, cutOutcome}
-use Rattle.sequencer.specs.Lists.{afterAll, requestsOf}
+use Rattle.program.specs.Services.{buildOutcome, checkRules}
+use Rattle.program.specs.Door.{onTape}
+use Rattle.program.specs.Same.{sameWords}
+use Rattle.sequencer.specs.Services.{badRegister, badRegisters, allowed, badBase, baseRules, loadOutcome, travelRules, runOutcome, forwardOutcome, traceRules, traceOutcome, badCut, cutRules, cutOutcome}
+use Rattle.sequencer.specs.Lists.{afterAll, numbersAll, requestsOf}
 use Rattle.listing.specs.Listing.{stepLines}
 use Rattle.tool.specs.Verbs.{entries, names, rows, indexIn, rowNamed, variantIn, parameterIn}
 use Rattle.tool.specs.Calls.{numbersFrom, askedBy}
 use Rattle.tool.specs.Texts.{usage, scriptLine}
-use Rattle.tool.specs.Replies.{Replied, built, onNumbers, onTape, reply, answers, refuses, complains}
+use Rattle.tool.specs.Replies.{Replied, built, numberReply, tapeReply, reply, answers, refuses, complains}
 
 -- the reply that the definitions give, and what is said of it
 pub record Example : Type 0 where
@@ -71,7 +73,7 @@ examples =
     ∷ tape-prints ("power" ∷ "3" ∷ []) "3\n3 3 1 1\n"
     ∷ tape-prints ("trace" ∷ "1" ∷ []) "1 1 0 0\n"
     ∷ tape-replies ("cut" ∷ "1" ∷ "0" ∷ []) (refuses 10 10)
-    ∷ tape-prints ("play" ∷ "1" ∷ "3" ∷ "1" ∷ "1" ∷ "0" ∷ "6" ∷ "0" ∷ "1" ∷ []) "3 3 1 1\n"
+    ∷ tape-prints ("play" ∷ "1" ∷ "3" ∷ "1" ∷ "1" ∷ "0" ∷ "6" ∷ "0" ∷ "1" ∷ []) "3 3 1 1 0\n"
     ∷ prints ("decode" ∷ "0x70000004" ∷ []) "swp 0 1\n"
     ∷ prints ("fibonacci" ∷ "10" ∷ []) "55\n"
     ∷ prints ("places" ∷ "6" ∷ []) "4 1\n"
@@ -85,5 +87,5 @@ examples =
     ∷ []
 
 pub examples-hold : AllHold examples
-unfolding reply askedBy numbersFrom parameterIn variantIn rowNamed indexIn names rows entries built onTape onNumbers digitOf allDigits valueFrom numberFrom inBase isHexadecimal numberIn sameWords decimalWithin decimal whole line outcome tapeIn noTape tapeOf bytesOf isLength isHeader isFreeOrNamed allSteps isEnd laidOut part decoded headingIn actionIn swapIn checkRules buildOutcome badModulus badOrder unnamed isPrime greatest gcd badExponent inverse inverseOutcome remainder times badRegister badRegisters allowed badBase loadOutcome runRules runOutcome forwardOutcome traceOutcome badCut cutRules cutOutcome afterAll requestsOf run doAll apply staysInRange allInRange inRange shiftAll shift stepLines fib lucas pad greedy zeckendorf placesFrom weighed arePlaces reaches firstFrom height hofstadterTo G fibonacciOutcome totalOutcome numberOutcome
+unfolding reply askedBy numbersFrom parameterIn variantIn rowNamed indexIn names rows entries built tapeReply numberReply digitOf allDigits valueFrom numberFrom inBase isHexadecimal numberIn sameWords onTape decimalWithin decimal whole line outcome tapeIn noTape tapeOf bytesOf isLength isHeader isFreeOrNamed allSteps isEnd laidOut part decoded headingIn actionIn swapIn checkRules buildOutcome badModulus badOrder unnamed isPrime greatest gcd badExponent inverse inverseOutcome remainder times badRegister badRegisters allowed badBase loadOutcome baseRules travelRules traceRules runOutcome forwardOutcome traceOutcome badCut cutRules cutOutcome afterAll numbersAll requestsOf run doAll apply staysInRange allInRange inRange shiftAll shift stepLines fib lucas pad greedy zeckendorf placesFrom weighed arePlaces reaches firstFrom height hofstadterTo G fibonacciOutcome totalOutcome numberOutcome
 examples-hold = (refl, (refl, (refl, (refl, (refl, (refl, (refl, (refl, (refl, (refl, (refl, (refl, (refl, (refl, (refl, (refl, (refl, (refl, (refl, (refl, (refl, (refl, tt))))))))))))))))))))))

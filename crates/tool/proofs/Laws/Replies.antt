@@ -29,7 +29,7 @@ use Rattle.tool.specs.declared.Verb.{Verb}
 use Rattle.tool.specs.declared.Verb.the-variants.{Unknown, Build, Script, Help, Version, OnTape, OnNumbers, InScript}
 use Rattle.tool.specs.Texts.{exponentsLine, powerLines, meaning, stepMeaning, refusalLine, noVerbLine, wrongCountLine, unreadLine, lines, usage}
 use Rattle.tool.specs.Calls.{Asked, noWord, noVerb, wrongCount, unread, known, askedBy}
-use Rattle.tool.specs.Replies.{Replied, printed, at, registersIn, Streams, built, onNumbers, onTape, means, ownIn, replyTo, reply, isWhole}
+use Rattle.tool.specs.Replies.{Replied, printed, at, registersIn, Streams, built, numberReply, tapeReply, means, ownIn, replyTo, reply, isWhole}
 
 -- ---- texts
 
@@ -82,8 +82,8 @@ some-printed : {A : Type 0} (own : ℕ) (o : Outcome A) (show : A → List ℕ) 
 some-printed own (refused n) show h = some-refusal own n
 some-printed own (answered x) show h = h x
 
-on-numbers-some : (verb : NumberVerb) (own : ℕ) (v : List ℕ) → 0 < length (onNumbers verb own v .text)
-unfolding onNumbers
+on-numbers-some : (verb : NumberVerb) (own : ℕ) (v : List ℕ) → 0 < length (numberReply verb own v .text)
+unfolding numberReply
 on-numbers-some Decode own v = some-meaning (decoded (at v 0))
 on-numbers-some Fibonacci own v = some-printed own (fibonacciOutcome (at v 0)) numberLine (λ n. some-line _)
 on-numbers-some Places own v = some-line _
@@ -95,8 +95,8 @@ on-numbers-some Prime own v = some-line _
 on-numbers-some MulMod own v = some-line _
 on-numbers-some PowMod own v = some-line _
 
-on-tape-some : (verb : TapeVerb) (own : ℕ) (v tape tapes : List ℕ) → 0 < length (onTape verb own v tape tapes .text)
-unfolding onTape
+on-tape-some : (verb : TapeVerb) (own : ℕ) (v tape tapes : List ℕ) → 0 < length (tapeReply verb own v tape tapes .text)
+unfolding tapeReply
 on-tape-some Check own v tape tapes = some-printed own (checkOutcome tape) numberLine (λ n. some-line _)
 on-tape-some Listing own v tape tapes = some-listing (acceptOutcome tape) (stepsOf tape)
 on-tape-some Load own v tape tapes = some-printed own (loadOutcome tape (at v 0)) numbersLine (λ n. some-line _)

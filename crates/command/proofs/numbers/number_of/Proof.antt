@@ -3,7 +3,7 @@ use mathlib.Core.Path.{_≡_}
 use native.Mathlib.Omega.{arith}
 use lib.ListN.{take}
 use Rattle.refusal.proofs.Laws.Rows.{wrote-taken}
-use Rattle.tool.specs.Replies.{onNumbers}
+use Rattle.tool.specs.Replies.{numberReply}
 use borrow.Author.Needs.{needs}
 use Rattle.command.proofs.numbers.number_of.Statement.{statement}
 use Rattle.command.proofs.numbers.number_of.Tie as tie
@@ -34,7 +34,7 @@ same-length : tie.Need-same-length
 same-length c = search needs
 
 returns : tie.Need-returns
-unfolding onNumbers
+unfolding numberReply
 returns c = rw (← taken (c .before .before .before .before .before .before .before), ← c .before .before .before .number .ensures) (c .before .before .answer .ensures)
 
 pub number-of-spec : {M : Type 1} → statement M

@@ -1,5 +1,5 @@
 -- `numbers::on_numbers` meets its contract: each arm prints what its verb means, on parameters in the range of that verb.
-use Rattle.tool.specs.Replies.{onNumbers}
+use Rattle.tool.specs.Replies.{numberReply}
 use borrow.Author.Needs.{needs}
 use Rattle.command.proofs.numbers.on_numbers.Statement.{statement}
 use Rattle.command.proofs.numbers.on_numbers.Tie as tie
@@ -146,70 +146,70 @@ same-length : tie.Need-same-length
 same-length c = search needs
 
 returns : tie.Need-returns
-unfolding onNumbers
+unfolding numberReply
 returns c = rw (c .before .before .before .before .before .before .enum-told .given .1, ← c .before .before .before .before .small .ensures, ← c .before .before .before .decode .ensures) (c .before .before .meaning .ensures)
 
 same-length-2 : tie.Need-same-length-2
 same-length-2 c = search needs
 
 returns-2 : tie.Need-returns-2
-unfolding onNumbers
+unfolding numberReply
 returns-2 c = rw (c .before .before .before .before .before .before .enum-told2 .given .1, ← c .before .before .before .before .small2 .ensures, ← c .before .before .before .fibonacci .ensures) (c .before .before .answer .ensures)
 
 same-length-3 : tie.Need-same-length-3
 same-length-3 c = search needs
 
 returns-3 : tie.Need-returns-3
-unfolding onNumbers
+unfolding numberReply
 returns-3 c = rw (c .before .before .before .before .before .enum-told3 .given .1, ← c .before .before .before .before .large .ensures) (c .before .before .places .ensures)
 
 same-length-4 : tie.Need-same-length-4
 same-length-4 c = search needs
 
 returns-4 : tie.Need-returns-4
-unfolding onNumbers
+unfolding numberReply
 returns-4 c = rw (c .before .before .before .before .enum-told4 .given .1) (c .before .before .number-of .ensures)
 
 same-length-5 : tie.Need-same-length-5
 same-length-5 c = search needs
 
 returns-5 : tie.Need-returns-5
-unfolding onNumbers
+unfolding numberReply
 returns-5 c = rw (c .before .before .before .before .before .before .enum-told5 .given .1, ← c .before .before .before .before .large2 .ensures, ← c .before .before .before .hofstadter .ensures) (c .before .before .number .ensures)
 
 same-length-6 : tie.Need-same-length-6
 same-length-6 c = search needs
 
 returns-6 : tie.Need-returns-6
-unfolding onNumbers
+unfolding numberReply
 returns-6 c = rw (c .before .before .before .before .before .before .before .enum-told6 .given .1, ← c .before .before .before .before .before .small3 .ensures, ← c .before .before .before .before .small4 .ensures, ← c .before .before .before .inverse .ensures) (c .before .before .answer2 .ensures)
 
 same-length-7 : tie.Need-same-length-7
 same-length-7 c = search needs
 
 returns-7 : tie.Need-returns-7
-unfolding onNumbers
+unfolding numberReply
 returns-7 c = rw (c .before .before .before .before .before .before .enum-told7 .given .1, ← c .before .before .before .before .small5 .ensures, ← c .before .before .before .height .ensures) (c .before .before .number2 .ensures)
 
 same-length-8 : tie.Need-same-length-8
 same-length-8 c = search needs
 
 returns-8 : tie.Need-returns-8
-unfolding onNumbers
+unfolding numberReply
 returns-8 c = rw (c .before .before .before .before .before .before .before .enum-told8 .given .1, ← c .before .before .before .before .before .small6 .ensures, ← c .before .before .before .before .is-prime .ensures, ← c .before .before .before .bit .ensures) (c .before .before .number3 .ensures)
 
 same-length-9 : tie.Need-same-length-9
 same-length-9 c = search needs
 
 returns-9 : tie.Need-returns-9
-unfolding onNumbers
+unfolding numberReply
 returns-9 c = rw (c .before .before .before .before .before .before .before .before .enum-told9 .given .1, ← c .before .before .before .before .before .before .small7 .ensures, ← c .before .before .before .before .before .small8 .ensures, ← c .before .before .before .before .small9 .ensures, ← c .before .before .before .product .ensures) (c .before .before .number4 .ensures)
 
 same-length-10 : tie.Need-same-length-10
 same-length-10 c = search needs
 
 returns-10 : tie.Need-returns-10
-unfolding onNumbers
+unfolding numberReply
 returns-10 c = rw (c .before .before .before .before .before .before .before .before .enum-told10 .given .1, ← c .before .before .before .before .before .before .small10 .ensures, ← c .before .before .before .before .before .small11 .ensures, ← c .before .before .before .before .small12 .ensures, ← c .before .before .before .power .ensures) (c .before .before .number5 .ensures)
 
 pub on-numbers-spec : {M : Type 1} → statement M

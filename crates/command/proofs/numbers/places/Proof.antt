@@ -6,7 +6,7 @@ use lib.ListN.{length, take, length-append}
 use lib.Seq.{length-take-le, take-at}
 use Rattle.fibonacci.specs.Services.{placesOf}
 use Rattle.fibonacci.proofs.Laws.Zeckendorf.{zeckendorf-count-64}
-use Rattle.tool.specs.Replies.{onNumbers}
+use Rattle.tool.specs.Replies.{numberReply}
 use borrow.Author.Needs.{needs}
 use Rattle.command.proofs.numbers.places.Statement.{statement}
 use Rattle.command.proofs.numbers.places.Tie as tie
@@ -36,7 +36,7 @@ same-length : tie.Need-same-length
 same-length c = search needs
 
 returns : tie.Need-returns
-unfolding onNumbers
+unfolding numberReply
 returns c =
     let z = c .before .before .before .before .before .before in
     record { status = refl; text = rw (listed z) at (c .before .before .bytes-line .ensures .0); short = rw (← listed z) (omega (arith, c .before .before .bytes-line .ensures .1, length-take-le (z .zeckendorf .result .count) (z .zeckendorf .result .places) (inside z), few z)) }

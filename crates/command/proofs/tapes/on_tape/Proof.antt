@@ -1,5 +1,5 @@
 -- `tapes::on_tape` meets its contract: each arm replies what its verb means.
-use Rattle.tool.specs.Replies.{onTape}
+use Rattle.tool.specs.Replies.{tapeReply}
 use borrow.Author.Needs.{needs}
 use Rattle.command.proofs.tapes.on_tape.Statement.{statement}
 use Rattle.command.proofs.tapes.on_tape.Tie as tie
@@ -83,56 +83,56 @@ same-length : tie.Need-same-length
 same-length c = search needs
 
 returns : tie.Need-returns
-unfolding onTape
+unfolding tapeReply
 returns c = rw (c .before .before .before .before .before .enum-told .given .1) (rw (c .before .before .before .check .ensures) at (c .before .before .answer .ensures))
 
 same-length-2 : tie.Need-same-length-2
 same-length-2 c = search needs
 
 returns-2 : tie.Need-returns-2
-unfolding onTape
+unfolding tapeReply
 returns-2 c = rw (c .before .before .before .before .enum-told2 .given .1) (c .before .before .list .ensures)
 
 same-length-3 : tie.Need-same-length-3
 same-length-3 c = search needs
 
 returns-3 : tie.Need-returns-3
-unfolding onTape
+unfolding tapeReply
 returns-3 c = rw (c .before .before .before .before .before .before .enum-told3 .given .1) (rw (c .before .before .before .load .ensures, c .before .before .before .before .small .ensures) at (c .before .before .standing .ensures))
 
 same-length-4 : tie.Need-same-length-4
 same-length-4 c = search needs
 
 returns-4 : tie.Need-returns-4
-unfolding onTape
+unfolding tapeReply
 returns-4 c = rw (c .before .before .before .before .enum-told4 .given .1) (c .before .before .run .ensures)
 
 same-length-5 : tie.Need-same-length-5
 same-length-5 c = search needs
 
 returns-5 : tie.Need-returns-5
-unfolding onTape
+unfolding tapeReply
 returns-5 c = rw (c .before .before .before .before .before .before .enum-told5 .given .1) (rw (c .before .before .before .forward .ensures, c .before .before .before .before .small2 .ensures) at (c .before .before .forward2 .ensures))
 
 same-length-6 : tie.Need-same-length-6
 same-length-6 c = search needs
 
 returns-6 : tie.Need-returns-6
-unfolding onTape
+unfolding tapeReply
 returns-6 c = rw (c .before .before .before .before .before .before .enum-told6 .given .1) (rw (c .before .before .before .trace .ensures .0, c .before .before .before .before .small3 .ensures) at (c .before .before .trace2 .ensures))
 
 same-length-7 : tie.Need-same-length-7
 same-length-7 c = search needs
 
 returns-7 : tie.Need-returns-7
-unfolding onTape
+unfolding tapeReply
 returns-7 c = rw (c .before .before .before .before .before .before .enum-told7 .given .1) (rw (c .before .before .before .before .before .small4 .ensures, c .before .before .before .before .small5 .ensures) at (c .before .before .cut .ensures))
 
 same-length-8 : tie.Need-same-length-8
 same-length-8 c = search needs
 
 returns-8 : tie.Need-returns-8
-unfolding onTape
+unfolding tapeReply
 returns-8 c = rw (c .before .before .before .before .enum-told8 .given .1) (c .before .before .play .ensures)
 
 pub on-tape-spec : {M : Type 1} → statement M
