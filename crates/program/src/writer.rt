@@ -4,8 +4,7 @@ ghost use mathlib.Core.Path.{_≡_};
 ghost use Prim.Native.Nat.{_+_, _≤_, _<_};
 ghost use mathlib.Core.List.{[], _∷_};
 ghost use lib.ListN.{length};
-ghost use Rattle.refusal.specs.Rows.{Wrote};
-ghost use Rattle.program.specs.Writing.{chosen, upWords, backWords, downWords, ascendWords, ascendBackWords, descendWords};
+ghost use Rattle.program.specs.Writing.{Writes, chosen, upWords, backWords, downWords, ascendWords, ascendBackWords, descendWords};
 use crate::words::DIV_0_1;
 use crate::words::DIV_2_1;
 use crate::words::DIV_3_1;
@@ -17,19 +16,20 @@ use crate::words::MUL_3_1;
 use crate::words::SWP_0_1;
 use crate::words::SWP_1_2;
 
-// One word.
+// One word, where the row has room.
 pub(crate) fn put(row: &mut [u32], at: usize, word: u32) -> usize
-    requires { ⌜ at < length (now row) ⌝ }
-    ensures { λ next. ⌜ Wrote (now (row .entry)) at (word ∷ []) next (now (row .exit)) ⌝ }
+    ensures { λ next. ⌜ Writes (now (row .entry)) at (word ∷ []) next (now (row .exit)) ⌝ }
 {
+    if row.len() <= at {
+        return at;
+    }
     row[at] = word;
     at + 1
 }
 
 // A word for a place that is set.
 fn put_if(row: &mut [u32], at: usize, bit: u8, word: u32) -> usize
-    requires { ⌜ at + length (chosen bit word) ≤ length (now row) ⌝ }
-    ensures { λ next. ⌜ Wrote (now (row .entry)) at (chosen bit word) next (now (row .exit)) ⌝ }
+    ensures { λ next. ⌜ Writes (now (row .entry)) at (chosen bit word) next (now (row .exit)) ⌝ }
 {
     if bit == 1 {
         return put(row, at, word);
@@ -39,8 +39,7 @@ fn put_if(row: &mut [u32], at: usize, bit: u8, word: u32) -> usize
 
 // A place going up: a chain step, then the selected multiplications.
 fn place_up(row: &mut [u32], at: usize, first: u8, second: u8) -> usize
-    requires { ⌜ at + length (upWords first second) ≤ length (now row) ⌝ }
-    ensures { λ next. ⌜ Wrote (now (row .entry)) at (upWords first second) next (now (row .exit)) ⌝ }
+    ensures { λ next. ⌜ Writes (now (row .entry)) at (upWords first second) next (now (row .exit)) ⌝ }
 {
     let b = put(row, at, MUL_0_1);
     let c = put(row, b, SWP_0_1);
@@ -50,8 +49,7 @@ fn place_up(row: &mut [u32], at: usize, first: u8, second: u8) -> usize
 
 // The same place taken back.
 fn place_back(row: &mut [u32], at: usize, first: u8, second: u8) -> usize
-    requires { ⌜ at + length (backWords first second) ≤ length (now row) ⌝ }
-    ensures { λ next. ⌜ Wrote (now (row .entry)) at (backWords first second) next (now (row .exit)) ⌝ }
+    ensures { λ next. ⌜ Writes (now (row .entry)) at (backWords first second) next (now (row .exit)) ⌝ }
 {
     let b = put_if(row, at, second, DIV_3_1);
     let c = put_if(row, b, first, DIV_2_1);
@@ -61,8 +59,7 @@ fn place_back(row: &mut [u32], at: usize, first: u8, second: u8) -> usize
 
 // A place of the first loop of the hybrid program.
 fn place_down(row: &mut [u32], at: usize, bit: u8) -> usize
-    requires { ⌜ at + length (downWords bit) ≤ length (now row) ⌝ }
-    ensures { λ next. ⌜ Wrote (now (row .entry)) at (downWords bit) next (now (row .exit)) ⌝ }
+    ensures { λ next. ⌜ Writes (now (row .entry)) at (downWords bit) next (now (row .exit)) ⌝ }
 {
     let b = put_if(row, at, bit, MUL_2_0);
     let c = put(row, b, MUL_1_2);
@@ -72,8 +69,7 @@ fn place_down(row: &mut [u32], at: usize, bit: u8) -> usize
 // Two forms going up, of as many bits each.
 pub(crate) fn ascend(row: &mut [u32], at: usize, firsts: &[u8], seconds: &[u8]) -> usize
     requires { ⌜ length (now firsts) ≡ length (now seconds) ⌝ }
-    requires { ⌜ at + length (ascendWords (now firsts) (now seconds)) ≤ length (now row) ⌝ }
-    ensures { λ next. ⌜ Wrote (now (row .entry)) at (ascendWords (now (firsts .entry)) (now (seconds .entry))) next (now (row .exit)) ⌝ }
+    ensures { λ next. ⌜ Writes (now (row .entry)) at (ascendWords (now (firsts .entry)) (now (seconds .entry))) next (now (row .exit)) ⌝ }
 {
     let mut next = at;
     let mut i: usize = 0;
@@ -87,8 +83,7 @@ pub(crate) fn ascend(row: &mut [u32], at: usize, firsts: &[u8], seconds: &[u8]) 
 // Two forms taken back, highest place first.
 pub(crate) fn ascend_back(row: &mut [u32], at: usize, firsts: &[u8], seconds: &[u8]) -> usize
     requires { ⌜ length (now firsts) ≡ length (now seconds) ⌝ }
-    requires { ⌜ at + length (ascendBackWords (now firsts) (now seconds)) ≤ length (now row) ⌝ }
-    ensures { λ next. ⌜ Wrote (now (row .entry)) at (ascendBackWords (now (firsts .entry)) (now (seconds .entry))) next (now (row .exit)) ⌝ }
+    ensures { λ next. ⌜ Writes (now (row .entry)) at (ascendBackWords (now (firsts .entry)) (now (seconds .entry))) next (now (row .exit)) ⌝ }
 {
     let mut next = at;
     let mut i = firsts.len();
@@ -101,8 +96,7 @@ pub(crate) fn ascend_back(row: &mut [u32], at: usize, firsts: &[u8], seconds: &[
 
 // A form coming down, highest place first.
 pub(crate) fn descend(row: &mut [u32], at: usize, bits: &[u8]) -> usize
-    requires { ⌜ at + length (descendWords (now bits)) ≤ length (now row) ⌝ }
-    ensures { λ next. ⌜ Wrote (now (row .entry)) at (descendWords (now (bits .entry))) next (now (row .exit)) ⌝ }
+    ensures { λ next. ⌜ Writes (now (row .entry)) at (descendWords (now (bits .entry))) next (now (row .exit)) ⌝ }
 {
     let mut next = at;
     let mut i = bits.len();

@@ -10,6 +10,7 @@ use native.Mathlib.Omega.{arith}
 use lib.ListN.{length, getD, take, drop, take-append-drop, length-append, length-take, length-map}
 use lib.Seq.{take-suc, drop-cons}
 use borrow.Author.Tests.{eq-eqb, ne-eqb}
+use Rattle.refusal.proofs.Laws.Rows.{wrote-none, wrote-more}
 use Rattle.fibonacci.specs.Forms.{pad}
 use Rattle.fibonacci.specs.Services.{bit}
 use Rattle.tape.specs.declared.Step.{Step}
@@ -21,8 +22,7 @@ use Rattle.named.specs.declared.Figure.{Figure}
 use Rattle.named.specs.declared.Figure.the-variants.{Two, Four, Six}
 use Rattle.named.specs.Generators.{select, ascend, descend, basic, dual, hybrid, drawn}
 use Rattle.named.specs.Promises.{Alone}
-use Rattle.program.specs.declared.forms.FormRows.{FormRows}
-use Rattle.program.specs.Writing.{isSet, formIn, chosen, ascendWords, ascendBackWords, descendWords, upWords, backWords, downWords, frontWords, drawnWords}
+use Rattle.program.specs.Writing.{Writes, isSet, formIn, chosen, ascendWords, ascendBackWords, descendWords, upWords, backWords, downWords, frontWords}
 
 -- ---- one place
 
@@ -109,11 +109,6 @@ module _ (fs ss : List ℕ) (e : length fs ≡ length ss) where
       rw (add-one, take-suc fs i 0 h, take-suc ss i 0 (omega arith))
       (ascend-words (take i fs) (getD fs i 0 ∷ []) (take i ss) (getD ss i 0 ∷ []) (omega (arith, length-take i fs, length-take i ss)))
 
-  pub ascend-total : (i : ℕ) → ascendWords fs ss ≡ ascendWords (take i fs) (take i ss) ++ ascendWords (drop i fs) (drop i ss)
-  ascend-total i =
-      ap₂ ascendWords (sym (take-append-drop i fs)) (sym (take-append-drop i ss))
-      ∙ ascend-words (take i fs) (drop i fs) (take i ss) (drop i ss) (omega (arith, length-take i fs, length-take i ss))
-
   pub ascend-back-next : (i : ℕ) → 0 < i → i ≤ length fs
       → ascendBackWords (drop (i - 1) fs) (drop (i - 1) ss) ≡ ascendBackWords (drop i fs) (drop i ss) ++ backWords (getD fs (i - 1) 0) (getD ss (i - 1) 0)
   ascend-back-next zero p h = absurd (omega arith)
@@ -121,17 +116,9 @@ module _ (fs ss : List ℕ) (e : length fs ≡ length ss) where
       rw (sub-one, drop-cons fs i 0 h, drop-cons ss i 0 (omega arith))
       (ascend-back-words (getD fs i 0 ∷ []) (drop (suc i) fs) (getD ss i 0 ∷ []) (drop (suc i) ss) refl)
 
-  pub ascend-back-total : (i : ℕ) → ascendBackWords fs ss ≡ ascendBackWords (drop i fs) (drop i ss) ++ ascendBackWords (take i fs) (take i ss)
-  ascend-back-total i =
-      ap₂ ascendBackWords (sym (take-append-drop i fs)) (sym (take-append-drop i ss))
-      ∙ ascend-back-words (take i fs) (drop i fs) (take i ss) (drop i ss) (omega (arith, length-take i fs, length-take i ss))
-
 pub descend-next : (fs : List ℕ) (i : ℕ) → 0 < i → i ≤ length fs → descendWords (drop (i - 1) fs) ≡ descendWords (drop i fs) ++ downWords (getD fs (i - 1) 0)
 descend-next fs zero p h = absurd (omega arith)
 descend-next fs (suc i) p h = rw (sub-one, drop-cons fs i 0 h) (descend-words (getD fs i 0 ∷ []) (drop (suc i) fs))
-
-pub descend-total : (fs : List ℕ) (i : ℕ) → descendWords fs ≡ descendWords (drop i fs) ++ descendWords (take i fs)
-descend-total fs i = ap descendWords (sym (take-append-drop i fs)) ∙ descend-words (take i fs) (drop i fs)
 
 -- ---- a word for a bit
 
@@ -140,21 +127,6 @@ chosen-set bit word e = rw (eq-eqb bit 1 e)
 
 pub chosen-clear : (bit word : ℕ) → (bit ≡ 1 → ⊥) → chosen bit word ≡ []
 chosen-clear bit word ne = rw (ne-eqb bit 1 ne)
-
--- ---- how long the words of a place are
-
-module _ (s t : ℕ) where
-  pub up-length : length (upWords s t) ≡ 2 + (length (chosen s (stepWord (Mul 2 1))) + length (chosen t (stepWord (Mul 3 1))))
-  up-length = ap length (up-words s t) ∙ omega (arith, length-append (chosen s (stepWord (Mul 2 1))) (chosen t (stepWord (Mul 3 1))))
-
-  pub back-length : length (backWords s t) ≡ length (chosen t (stepWord (Div 3 1))) + (length (chosen s (stepWord (Div 2 1))) + 2)
-  back-length =
-      ap length (back-words s t)
-      ∙ length-append (chosen t (stepWord (Div 3 1))) _
-      ∙ ap (λ (n : ℕ). length (chosen t (stepWord (Div 3 1))) + n) (length-append (chosen s (stepWord (Div 2 1))) _)
-
-pub down-length : (b : ℕ) → length (downWords b) ≡ length (chosen b (stepWord (Mul 2 0))) + 2
-down-length b = ap length (down-words b) ∙ length-append (chosen b (stepWord (Mul 2 0))) _
 
 -- ---- the figures by their parts
 
@@ -190,23 +162,19 @@ drawn-words Six ss ts Ss Ts e E =
     (append-assoc (map stepWord (descend ss)) (stepWord (Swp 0 1) ∷ stepWord (Swp 1 2) ∷ []) (map stepWord (back (ascend Ss [])))
     ∙ sym (map-append stepWord (descend ss) (Swp 0 1 ∷ Swp 1 2 ∷ back (ascend Ss [])))))
 
--- ---- how long they are
+-- ---- parts written one after another
 
-pub size-2 : (first none noneLast : List ℕ)
-    → length (frontWords Two first none noneLast) ≡ length (ascendWords first none) + (length (ascendBackWords none none) + suc (length (ascendWords noneLast noneLast)))
-size-2 first none noneLast =
-    length-append (ascendWords first none) _ ∙ ap (λ (n : ℕ). length (ascendWords first none) + n) (length-append (ascendBackWords none none) _)
+pub writes-none : (row : List ℕ) (at : ℕ) → Writes row at [] at row
+writes-none row at = record { size = refl; wrote = λ room. wrote-none row at }
 
-pub size-4 : (first beside : List ℕ) → length (frontWords Four first beside []) ≡ length (ascendWords first beside) + 2
-size-4 first beside = length-append (ascendWords first beside) _
+pub writes-more : {a b c : List ℕ} {at m n : ℕ} {vs ws : List ℕ} → Writes a at vs m b → Writes b m ws n c → Writes a at (vs ++ ws) n c
+writes-more {vs = vs} {ws} v w = record {
+  size = w .size ∙ v .size;
+  wrote =
+      λ room.
+      let first = v .wrote (omega (arith, length-append vs ws)) in
+      wrote-more first (w .wrote (omega (arith, first .next-is, v .size, length-append vs ws)));
+}
 
-pub size-6 : (first : List ℕ) → length (frontWords Six first [] []) ≡ suc (length (descendWords first) + 2)
-size-6 first = ap suc (length-append (descendWords first) _)
-
-pub drawn-size : (rows : FormRows)
-    → length (drawnWords rows)
-    ≡ length (frontWords (rows .figure) (take (rows .«first_length») (rows .first)) (take (rows .«first_length») (rows .beside)) (take (rows .«last_length») (rows .«beside_last»)))
-    + length (ascendBackWords (take (rows .«last_length») (rows .last)) (take (rows .«last_length») (rows .«beside_last»)))
-drawn-size rows =
-    length-append
-    (frontWords (rows .figure) (take (rows .«first_length») (rows .first)) (take (rows .«first_length») (rows .beside)) (take (rows .«last_length») (rows .«beside_last»))) _
+pub writes-next : {a b c done done′ one : List ℕ} {at m n : ℕ} → Writes a at done m b → Writes b m one n c → done′ ≡ done ++ one → Writes a at done′ n c
+writes-next v w e = rw e (writes-more v w)

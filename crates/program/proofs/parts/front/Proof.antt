@@ -7,19 +7,19 @@ enum-told : tie.Need-enum-told
 enum-told c = search needs
 
 front-2-requires : tie.Need-front-2-requires
-front-2-requires c κs = let a = c .before .before .before .before .before .before .before in (a .pre .0, rw (c .before .enum-told .given .1) at (a .pre .1))
+front-2-requires c κs = search needs
 
 enum-told-2 : tie.Need-enum-told-2
 enum-told-2 c = search needs
 
 front-4-requires : tie.Need-front-4-requires
-front-4-requires c κs = let a = c .before .before .before .before .before .before .before in (a .pre .0, rw (c .before .enum-told2 .given .1) at (a .pre .1))
+front-4-requires c κs = search needs
 
 enum-told-3 : tie.Need-enum-told-3
 enum-told-3 c = search needs
 
 front-6-requires : tie.Need-front-6-requires
-front-6-requires c κs = rw (c .before .enum-told3 .given .1) at (c .before .before .before .before .before .before .before .pre .1)
+front-6-requires c κs = search needs
 
 same-length : tie.Need-same-length
 same-length c = search needs

@@ -1,45 +1,29 @@
 -- `parts::front_2` meets its contract: one part after another.
 use mathlib.Core.Path.{refl}
-use native.Mathlib.Omega.{arith}
 use borrow.Author.Needs.{needs}
-use Rattle.refusal.proofs.Laws.Rows.{wrote-more, wrote-length}
 use Rattle.tape.specs.Words.{stepWord}
-use Rattle.program.proofs.Laws.Writing.{size-2}
+use Rattle.program.proofs.Laws.Writing.{writes-more}
 use Rattle.program.proofs.parts.front_2.Statement.{statement}
 use Rattle.program.proofs.parts.front_2.Tie as tie
 
 ascend-requires : tie.Need-ascend-requires
-ascend-requires c κs =
-    let a = c .before .before .before .before .before in
-    (a .pre .0, omega (arith, a .pre .1, size-2 (a .args .first .now) (a .args .none .now) (a .args .none-last .now)))
+ascend-requires c κs = c .before .before .before .before .before .pre
 
 ascend-back-requires : tie.Need-ascend-back-requires
-ascend-back-requires c κs =
-    let a = c .before .before .before .before .before .before .before .before .before in
-    let w = c .before .before .before .ascend .ensures in
-    (refl, omega (arith, a .pre .1, size-2 (a .args .first .now) (a .args .none .now) (a .args .none-last .now), w .next-is, wrote-length w))
+ascend-back-requires c κs = refl
 
 put-requires : tie.Need-put-requires
-put-requires c κs =
-    let a = c .before .before .before .before .before .before .before .before .before .before .before .before .before in
-    let w = c .before .before .before .before .before .before .before .ascend .ensures in
-    let v = c .before .before .before .ascend-back .ensures in
-    omega (arith, a .pre .1, size-2 (a .args .first .now) (a .args .none .now) (a .args .none-last .now), w .next-is, wrote-length w, v .next-is, wrote-length v)
+put-requires c κs = search needs
 
 ascend-requires-2 : tie.Need-ascend-requires-2
-ascend-requires-2 c κs =
-    let a = c .before .before .before .before .before .before .before .before .before .before .before .before .before .before .before .before .before in
-    let w = c .before .before .before .before .before .before .before .before .before .before .before .ascend .ensures in
-    let v = c .before .before .before .before .before .before .before .ascend-back .ensures in
-    let u = c .before .before .before .put .ensures in
-    (refl, omega (arith, a .pre .1, size-2 (a .args .first .now) (a .args .none .now) (a .args .none-last .now), w .next-is, wrote-length w, v .next-is, wrote-length v, u .next-is, wrote-length u))
+ascend-requires-2 c κs = refl
 
 same-length : tie.Need-same-length
 same-length c = search needs
 
 returns : tie.Need-returns
 unfolding stepWord
-returns c = wrote-more (c .before .before .before .before .before .before .before .before .before .before .before .before .before .before .ascend .ensures) (wrote-more (c .before .before .before .before .before .before .before .before .before .before .ascend-back .ensures) (wrote-more (c .before .before .before .before .before .before .put .ensures) (c .before .before .ascend2 .ensures)))
+returns c = writes-more (c .before .before .before .before .before .before .before .before .before .before .before .before .before .before .ascend .ensures) (writes-more (c .before .before .before .before .before .before .before .before .before .before .ascend-back .ensures) (writes-more (c .before .before .before .before .before .before .put .ensures) (c .before .before .ascend2 .ensures)))
 
 pub front-2-spec : {M : Type 1} → statement M
 front-2-spec =
