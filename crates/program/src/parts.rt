@@ -1,6 +1,5 @@
 // The steps that a figure draws, as words, written into the lent row from `at` on. Each function answers the index past them.
 ghost use mathlib.Core.Path.{_≡_};
-ghost use Prim.Native.Nat.{_+_, _≤_};
 ghost use mathlib.Core.List.{[]};
 ghost use lib.ListN.{length};
 ghost use Rattle.program.specs.Forms.{Whole};
@@ -14,6 +13,7 @@ use crate::writer::ascend;
 use crate::writer::ascend_back;
 use crate::writer::descend;
 use crate::writer::put;
+use crate::writer::put_two;
 use named::Figure;
 
 // Every figure ends with its last form taken back.
@@ -75,8 +75,7 @@ fn front_4(row: &mut [u32], at: usize, first: &[u8], beside: &[u8]) -> usize
     ensures { λ next. ⌜ Writes (now (row .entry)) at (frontWords Figure.Four (now (first .entry)) (now (beside .entry)) []) next (now (row .exit)) ⌝ }
 {
     let b = ascend(row, at, first, beside);
-    let c = put(row, b, SWP_0_2);
-    put(row, c, SWP_1_3)
+    put_two(row, b, SWP_0_2, SWP_1_3)
 }
 
 // Figure 6: swp 0 1; down the first form; the reordering.
@@ -85,6 +84,5 @@ fn front_6(row: &mut [u32], at: usize, first: &[u8]) -> usize
 {
     let b = put(row, at, SWP_0_1);
     let c = descend(row, b, first);
-    let d = put(row, c, SWP_0_1);
-    put(row, d, SWP_1_2)
+    put_two(row, c, SWP_0_1, SWP_1_2)
 }

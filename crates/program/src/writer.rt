@@ -1,7 +1,6 @@
 // Writes the loops of the programs into the lent row, a place at a time. Each function writes from `at` on and answers the index
 // past what it wrote.
 ghost use mathlib.Core.Path.{_≡_};
-ghost use Prim.Native.Nat.{_+_, _≤_, _<_};
 ghost use mathlib.Core.List.{[], _∷_};
 ghost use lib.ListN.{length};
 ghost use Rattle.program.specs.Writing.{Writes, chosen, upWords, backWords, downWords, ascendWords, ascendBackWords, descendWords};
@@ -27,6 +26,14 @@ pub(crate) fn put(row: &mut [u32], at: usize, word: u32) -> usize
     at + 1
 }
 
+// Two words.
+pub(crate) fn put_two(row: &mut [u32], at: usize, first: u32, second: u32) -> usize
+    ensures { λ next. ⌜ Writes (now (row .entry)) at (first ∷ second ∷ []) next (now (row .exit)) ⌝ }
+{
+    let b = put(row, at, first);
+    put(row, b, second)
+}
+
 // A word for a place that is set.
 fn put_if(row: &mut [u32], at: usize, bit: u8, word: u32) -> usize
     ensures { λ next. ⌜ Writes (now (row .entry)) at (chosen bit word) next (now (row .exit)) ⌝ }
@@ -41,10 +48,9 @@ fn put_if(row: &mut [u32], at: usize, bit: u8, word: u32) -> usize
 fn place_up(row: &mut [u32], at: usize, first: u8, second: u8) -> usize
     ensures { λ next. ⌜ Writes (now (row .entry)) at (upWords first second) next (now (row .exit)) ⌝ }
 {
-    let b = put(row, at, MUL_0_1);
-    let c = put(row, b, SWP_0_1);
-    let d = put_if(row, c, first, MUL_2_1);
-    put_if(row, d, second, MUL_3_1)
+    let b = put_two(row, at, MUL_0_1, SWP_0_1);
+    let c = put_if(row, b, first, MUL_2_1);
+    put_if(row, c, second, MUL_3_1)
 }
 
 // The same place taken back.
@@ -53,8 +59,7 @@ fn place_back(row: &mut [u32], at: usize, first: u8, second: u8) -> usize
 {
     let b = put_if(row, at, second, DIV_3_1);
     let c = put_if(row, b, first, DIV_2_1);
-    let d = put(row, c, SWP_0_1);
-    put(row, d, DIV_0_1)
+    put_two(row, c, SWP_0_1, DIV_0_1)
 }
 
 // A place of the first loop of the hybrid program.
@@ -62,8 +67,7 @@ fn place_down(row: &mut [u32], at: usize, bit: u8) -> usize
     ensures { λ next. ⌜ Writes (now (row .entry)) at (downWords bit) next (now (row .exit)) ⌝ }
 {
     let b = put_if(row, at, bit, MUL_2_0);
-    let c = put(row, b, MUL_1_2);
-    put(row, c, SWP_1_2)
+    put_two(row, b, MUL_1_2, SWP_1_2)
 }
 
 // Two forms going up, of as many bits each.

@@ -1,6 +1,5 @@
 -- `accept_unnamed` meets its contract: each return is a case of check by the layout, the variant and, of a free program, the modulus.
-use mathlib.Core.Path.{_≡_, sym, ap, _∙_}
-use mathlib.Core.Bool.{true}
+use mathlib.Core.Path.{sym, ap, _∙_}
 use borrow.Author.Needs.{needs}
 use Rattle.refusal.specs.Outcomes.{answered}
 use Rattle.tape.specs.declared.Header.{Header}

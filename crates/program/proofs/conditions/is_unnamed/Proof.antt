@@ -1,5 +1,4 @@
 -- `conditions::is_unnamed` meets its contract: each return is a case of the test.
-use mathlib.Core.Path.{sym}
 use Rattle.named.specs.Parameters.{unnamed}
 use borrow.Author.Tests.{eq-eqb, ne-eqb}
 use Rattle.program.proofs.conditions.is_unnamed.Statement.{statement}

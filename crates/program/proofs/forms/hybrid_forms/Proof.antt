@@ -1,5 +1,4 @@
 -- `forms::hybrid_forms` meets its contract: its rows are the bit strings of v and K.
-use mathlib.Core.Path.{_∙_}
 use native.Mathlib.Omega.{arith}
 use borrow.Author.Needs.{needs}
 use Rattle.named.specs.declared.Figure.the-variants.{Six}

@@ -11,18 +11,15 @@ put-requires c κs = search needs
 descend-requires : tie.Need-descend-requires
 descend-requires c κs = search needs
 
-put-requires-2 : tie.Need-put-requires-2
-put-requires-2 c κs = search needs
-
-put-requires-3 : tie.Need-put-requires-3
-put-requires-3 c κs = search needs
+put-two-requires : tie.Need-put-two-requires
+put-two-requires c κs = search needs
 
 same-length : tie.Need-same-length
 same-length c = search needs
 
 returns : tie.Need-returns
 unfolding stepWord
-returns c = writes-more (c .before .before .before .before .before .before .before .before .before .before .before .before .before .before .put .ensures) (writes-more (c .before .before .before .before .before .before .before .before .before .before .descend .ensures) (writes-more (c .before .before .before .before .before .before .put2 .ensures) (c .before .before .put3 .ensures)))
+returns c = writes-more (c .before .before .before .before .before .before .before .before .before .before .put .ensures) (writes-more (c .before .before .before .before .before .before .descend .ensures) (c .before .before .put-two .ensures))
 
 pub front-6-spec : {M : Type 1} → statement M
 front-6-spec =
@@ -30,7 +27,6 @@ front-6-spec =
     (tie.spec
     put-requires
     descend-requires
-    put-requires-2
-    put-requires-3
+    put-two-requires
     same-length
     returns)

@@ -11,18 +11,15 @@ put-if-requires c κs = search needs
 put-if-requires-2 : tie.Need-put-if-requires-2
 put-if-requires-2 c κs = search needs
 
-put-requires : tie.Need-put-requires
-put-requires c κs = search needs
-
-put-requires-2 : tie.Need-put-requires-2
-put-requires-2 c κs = search needs
+put-two-requires : tie.Need-put-two-requires
+put-two-requires c κs = search needs
 
 same-length : tie.Need-same-length
 same-length c = search needs
 
 returns : tie.Need-returns
 unfolding stepWord
-returns c = rw (back-words _ _) (writes-more (c .before .before .before .before .before .before .before .before .before .before .before .before .before .before .put-if .ensures) (writes-more (c .before .before .before .before .before .before .before .before .before .before .put-if2 .ensures) (writes-more (c .before .before .before .before .before .before .put .ensures) (c .before .before .put2 .ensures))))
+returns c = rw (back-words _ _) (writes-more (c .before .before .before .before .before .before .before .before .before .before .put-if .ensures) (writes-more (c .before .before .before .before .before .before .put-if2 .ensures) (c .before .before .put-two .ensures)))
 
 pub place-back-spec : {M : Type 1} → statement M
 place-back-spec =
@@ -30,7 +27,6 @@ place-back-spec =
     (tie.spec
     put-if-requires
     put-if-requires-2
-    put-requires
-    put-requires-2
+    put-two-requires
     same-length
     returns)

@@ -8,25 +8,15 @@ use Rattle.program.proofs.writer.place_down.Tie as tie
 put-if-requires : tie.Need-put-if-requires
 put-if-requires c κs = search needs
 
-put-requires : tie.Need-put-requires
-put-requires c κs = search needs
-
-put-requires-2 : tie.Need-put-requires-2
-put-requires-2 c κs = search needs
+put-two-requires : tie.Need-put-two-requires
+put-two-requires c κs = search needs
 
 same-length : tie.Need-same-length
 same-length c = search needs
 
 returns : tie.Need-returns
 unfolding stepWord
-returns c = rw (down-words _) (writes-more (c .before .before .before .before .before .before .before .before .before .before .put-if .ensures) (writes-more (c .before .before .before .before .before .before .put .ensures) (c .before .before .put2 .ensures)))
+returns c = rw (down-words _) (writes-more (c .before .before .before .before .before .before .put-if .ensures) (c .before .before .put-two .ensures))
 
 pub place-down-spec : {M : Type 1} → statement M
-place-down-spec =
-    tie.close
-    (tie.spec
-    put-if-requires
-    put-requires
-    put-requires-2
-    same-length
-    returns)
+place-down-spec = tie.close (tie.spec put-if-requires put-two-requires same-length returns)

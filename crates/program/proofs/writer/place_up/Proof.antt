@@ -5,11 +5,8 @@ use Rattle.program.proofs.Laws.Writing.{up-words, writes-more}
 use Rattle.program.proofs.writer.place_up.Statement.{statement}
 use Rattle.program.proofs.writer.place_up.Tie as tie
 
-put-requires : tie.Need-put-requires
-put-requires c κs = search needs
-
-put-requires-2 : tie.Need-put-requires-2
-put-requires-2 c κs = search needs
+put-two-requires : tie.Need-put-two-requires
+put-two-requires c κs = search needs
 
 put-if-requires : tie.Need-put-if-requires
 put-if-requires c κs = search needs
@@ -22,14 +19,13 @@ same-length c = search needs
 
 returns : tie.Need-returns
 unfolding stepWord
-returns c = rw (up-words _ _) (writes-more (c .before .before .before .before .before .before .before .before .before .before .before .before .before .before .put .ensures) (writes-more (c .before .before .before .before .before .before .before .before .before .before .put2 .ensures) (writes-more (c .before .before .before .before .before .before .put-if .ensures) (c .before .before .put-if2 .ensures))))
+returns c = rw (up-words _ _) (writes-more (c .before .before .before .before .before .before .before .before .before .before .put-two .ensures) (writes-more (c .before .before .before .before .before .before .put-if .ensures) (c .before .before .put-if2 .ensures)))
 
 pub place-up-spec : {M : Type 1} → statement M
 place-up-spec =
     tie.close
     (tie.spec
-    put-requires
-    put-requires-2
+    put-two-requires
     put-if-requires
     put-if-requires-2
     same-length
