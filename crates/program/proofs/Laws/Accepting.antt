@@ -4,25 +4,23 @@
 use mathlib.Core.Path.{_≡_, sym, ap, _∙_}
 use mathlib.Core.Bool.{false, not}
 use mathlib.Core.List.{List}
-use Prim.Native.Nat.{ℕ, _<_}
+use Prim.Native.Nat.{ℕ}
 use native.Mathlib.Omega.{arith}
-use lib.ListN.{length}
 use Rattle.refusal.specs.Outcomes.{answered, passes, answers}
 use Rattle.modular.specs.Primes.{Prime}
-use Rattle.modular.specs.Inverses.{inverse, badExponent}
+use Rattle.modular.specs.Inverses.{badExponent}
 use Rattle.modular.proofs.Laws.Primes.{prime-test}
 use Rattle.tape.specs.declared.Step.{Step}
 use Rattle.tape.specs.Layout.{headerOf, stepsOf, headerFor}
 use Rattle.tape.proofs.Laws.Reading.{ReadAs, length-good}
 use Rattle.tape.proofs.Laws.Layout.{LawfulProgram, program-length, program-laid-out, program-header, program-steps}
-use Rattle.named.specs.Generators.{Raises, Lowers}
-use Rattle.named.specs.Named.{programsFor, namedSteps, namedProgram, namedWords}
+use Rattle.named.specs.Named.{programsFor, namedProgram, namedWords}
 use Rattle.named.specs.Members.{isOneOf}
 use Rattle.named.specs.Promises.{IsProgram}
 use Rattle.named.specs.Parameters.{badModulus, badOrder, unnamed}
 use Rattle.named.proofs.Laws.Parameters.{good-modulus, order-small}
 use Rattle.named.proofs.Laws.Members.{member-one-of}
-use Rattle.named.proofs.Laws.Table.{member-program, only-program, named-member}
+use Rattle.named.proofs.Laws.Table.{member-program, named-member}
 use Rattle.program.specs.Services.{checkOutcome}
 use Rattle.program.specs.Building.{Writable}
 use Rattle.program.proofs.Laws.Building.{named-lawful, named-short}
@@ -64,19 +62,3 @@ pub accepted-program : (tape : List ℕ) → AcceptedNamed tape → IsProgram (h
 accepted-program tape a =
     member-program (headerOf tape .variant) (headerOf tape .order) (headerOf tape .exponent) (a .exponent)
     (order-small (headerOf tape .modulus) (headerOf tape .order) (a .modulus) (a .order)) (stepsOf tape) (a .member)
-
-module _ (tape : List ℕ) (a : AcceptedNamed tape) where
-  pub steps-named : stepsOf tape ≡ namedSteps (headerOf tape .variant) (headerOf tape .order) (headerOf tape .exponent)
-  steps-named = only-program _ _ _ (stepsOf tape) (a .member)
-
-  prime : Prime (headerOf tape .modulus)
-  prime = prime-test _ (good-modulus _ (a .modulus) .prime)
-
-  pub accepted-some : 0 < length (stepsOf tape)
-  accepted-some = accepted-program tape a .some
-
-  pub accepted-raises : Raises (headerOf tape .modulus) (headerOf tape .order) (headerOf tape .exponent) (stepsOf tape)
-  accepted-raises = accepted-program tape a .raises (headerOf tape .modulus) prime
-
-  pub accepted-lowers : Lowers (headerOf tape .modulus) (headerOf tape .order) (inverse (headerOf tape .order) (headerOf tape .exponent)) (stepsOf tape)
-  accepted-lowers = accepted-program tape a .lowers (headerOf tape .modulus) prime
