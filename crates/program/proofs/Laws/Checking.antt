@@ -46,12 +46,9 @@ alike ((e given-if false) ∷ front) more more′ x y f = alike front more more�
 
 -- ---- build that answers
 
--- it has passed its tests
+-- it has passed its tests, and the words fit the row
 pub record Passed (p r k variant room n : ℕ) : Type 0 where
-  pub modulus : badModulus p ≡ false
-  pub order : badOrder p r ≡ false
-  pub exponent : badExponent k r ≡ false
-  pub named : unnamed variant ≡ false
+  pub writable : Writable p r k variant
   pub count : length (namedWords p r k variant) ≡ n
   pub fits : n ≤ room
 
@@ -65,23 +62,16 @@ module _ (p r k variant room n : ℕ) (built : buildOutcome p r k variant room �
       let c = passed _ _ _ _ _ (b .1) in
       let d = passed _ _ _ _ _ (c .1) in
       let e = passed _ _ _ _ _ (d .1) in
-      let some = answers (length words) in
-      let count : length words ≡ n = cc in
+      let count : length words ≡ n = sym (answer-is [] (length words) (e .1)) in
       record {
-        modulus = a .0;
-        order = b .0;
-        exponent = c .0;
-        named = d .0;
+        writable = writable p r k (a .0) (b .0) (c .0) variant (d .0);
         count = count;
         fits = omega (arith, ltb-false room (length words) (e .0));
       }
 
-  build-writable : Writable p r k variant
-  build-writable = let b = build-passed in writable p r k (b .modulus) (b .order) (b .exponent) variant (b .named)
-
-  -- the words fit the row, and the longest tape
+  -- and the longest tape
   pub build-count : (length (namedWords p r k variant) ≡ n) × (n ≤ room) × (n ≤ mostWords)
-  build-count = let b = build-passed in (b .count, b .fits, omega (arith, b .count, named-short p r k variant build-writable))
+  build-count = let b = build-passed in (b .count, b .fits, omega (arith, b .count, named-short p r k variant (b .writable)))
 
 -- and stand at its front
 pub build-words : (p r k variant n : ℕ) (row : List ℕ) → buildOutcome p r k variant (length row) ≡ answered n
@@ -175,7 +165,7 @@ module _ {A : Type 0} (x : A) (tape : List ℕ) (h : Header) (read : ReadAs tape
 
 module _ (tape : List ℕ) (h : Header) (n : ℕ) (built : buildFor h ≡ answered n) where
   lawful : LawfulProgram (namedProgram (h .modulus) (h .order) (h .exponent) (h .variant))
-  lawful = named-lawful _ _ _ _ (build-writable _ _ _ _ mostWords n built)
+  lawful = named-lawful _ _ _ _ (build-passed _ _ _ _ mostWords n built .writable)
 
   -- it is laid out where its words are those built for its header, and its steps are allowed
   same-laid : tape ≡ builtFor h → laidOut tape ≡ true
@@ -184,7 +174,7 @@ module _ (tape : List ℕ) (h : Header) (n : ℕ) (built : buildFor h ≡ answer
   same-allowed : tape ≡ builtFor h → allowed tape h ≡ true
   same-allowed e =
       ap (λ (xs : List Step). isOneOf xs (programsFor (h .variant) (h .order) (h .exponent))) (ap stepsOf e ∙ program-steps _ lawful)
-      ∙ member-one-of _ _ (named-member (h .variant) (h .order) (h .exponent) (build-passed _ _ _ _ mostWords n built .named))
+      ∙ member-one-of _ _ (named-member (h .variant) (h .order) (h .exponent) (build-passed _ _ _ _ mostWords n built .writable .named))
 
 -- and one that is laid out and has steps that are allowed has those words
 allowed-same : (tape : List ℕ) (h : Header) → h ≡ headerOf tape → laidOut tape ≡ true → allowed tape h ≡ true → tape ≡ builtFor h
