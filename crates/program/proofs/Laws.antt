@@ -1,4 +1,4 @@
--- Laws of the words that the builders write, and of build and check.
+-- Laws of the forms and words that build writes, and of build and check.
 pub mod Writing
 pub mod Building
 pub mod Forms
