@@ -24,7 +24,7 @@ use memory::store_exponents;
 use memory::store_registers;
 use memory::store_u32;
 use memory::store_u64;
-use refusal::Answer;
+use refusal::NumberAnswer;
 
 // A Fibonacci number by its index: 13.
 #[no_mangle]
@@ -102,8 +102,8 @@ pub extern "C" fn fibexp_check(tape: &[u32]) -> u32
     ensures { λ number. ⌜ number ≡ numberIn (checkOutcome (now (tape .entry))) ⌝ }
 {
     match program::check(tape) {
-        Answer::Value(accepted) => 0,
-        Answer::Refused(e) => refusal::number(e),
+        NumberAnswer::Answered(accepted) => 0,
+        NumberAnswer::Refused(e) => refusal::number(e),
     }
 }
 

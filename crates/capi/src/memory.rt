@@ -2,65 +2,65 @@
 // comes back.
 ghost use mathlib.Core.Path.{_≡_};
 ghost use Prim.Native.Nat.{ℕ, _^_, _<_};
-ghost use Rattle.refusal.specs.Outcomes.{answered, outcomeOf, numberIn, after};
+ghost use Rattle.refusal.specs.Outcomes.{answered, numberOutcomeOf, numberIn, after};
 ghost use Rattle.machine.specs.Machine.{valuesOf};
-ghost use Rattle.machine.specs.Exponents.{tracedOf};
-ghost use Rattle.sequencer.specs.Services.{standingOf};
+ghost use Rattle.machine.specs.Exponents.{exponentsOutcomeOf};
+ghost use Rattle.sequencer.specs.Services.{registersOutcomeOf};
 use machine::Registers;
-use machine::Trace;
-use refusal::Answer;
-use sequencer::Standing;
+use machine::ExponentsAnswer;
+use refusal::NumberAnswer;
+use sequencer::RegistersAnswer;
 
-pub(crate) fn store_u64(answer: Answer, place: &mut u64) -> u32
-    ensures { λ n. ⌜ n ≡ numberIn (outcomeOf answer) ⌝ }
-    ensures { λ _. ⌜ now (place .exit) ≡ after (outcomeOf answer) (now (place .entry)) ⌝ }
+pub(crate) fn store_u64(answer: NumberAnswer, place: &mut u64) -> u32
+    ensures { λ n. ⌜ n ≡ numberIn (numberOutcomeOf answer) ⌝ }
+    ensures { λ _. ⌜ now (place .exit) ≡ after (numberOutcomeOf answer) (now (place .entry)) ⌝ }
 {
     match answer {
-        Answer::Value(x) => {
+        NumberAnswer::Answered(x) => {
             *place = x;
             0
         }
-        Answer::Refused(e) => refusal::number(e),
+        NumberAnswer::Refused(e) => refusal::number(e),
     }
 }
 
-pub(crate) fn store_u32(answer: Answer, place: &mut u32) -> u32
-    requires { ⌜ ((x : ℕ) → outcomeOf answer ≡ answered x → x < 2 ^ 32) ⌝ }
-    ensures { λ n. ⌜ n ≡ numberIn (outcomeOf answer) ⌝ }
-    ensures { λ _. ⌜ now (place .exit) ≡ after (outcomeOf answer) (now (place .entry)) ⌝ }
+pub(crate) fn store_u32(answer: NumberAnswer, place: &mut u32) -> u32
+    requires { ⌜ ((x : ℕ) → numberOutcomeOf answer ≡ answered x → x < 2 ^ 32) ⌝ }
+    ensures { λ n. ⌜ n ≡ numberIn (numberOutcomeOf answer) ⌝ }
+    ensures { λ _. ⌜ now (place .exit) ≡ after (numberOutcomeOf answer) (now (place .entry)) ⌝ }
 {
     match answer {
-        Answer::Value(x) => {
+        NumberAnswer::Answered(x) => {
             *place = x as u32;
             0
         }
-        Answer::Refused(e) => refusal::number(e),
+        NumberAnswer::Refused(e) => refusal::number(e),
     }
 }
 
-pub(crate) fn store_registers(answer: Standing, row: &mut [u32; 4]) -> u32
-    ensures { λ n. ⌜ n ≡ numberIn (standingOf answer) ⌝ }
-    ensures { λ _. ⌜ now (row .exit) ≡ after (standingOf answer) (now (row .entry)) ⌝ }
+pub(crate) fn store_registers(answer: RegistersAnswer, row: &mut [u32; 4]) -> u32
+    ensures { λ n. ⌜ n ≡ numberIn (registersOutcomeOf answer) ⌝ }
+    ensures { λ _. ⌜ now (row .exit) ≡ after (registersOutcomeOf answer) (now (row .entry)) ⌝ }
 {
     match answer {
-        Standing::At(r) => {
+        RegistersAnswer::Answered(r) => {
             *row = [r.c, r.d, r.e, r.f];
             0
         }
-        Standing::Refused(e) => refusal::number(e),
+        RegistersAnswer::Refused(e) => refusal::number(e),
     }
 }
 
-pub(crate) fn store_exponents(answer: Trace, row: &mut [i64; 4]) -> u32
-    ensures { λ n. ⌜ n ≡ numberIn (tracedOf answer) ⌝ }
-    ensures { λ _. ⌜ now (row .exit) ≡ after (tracedOf answer) (now (row .entry)) ⌝ }
+pub(crate) fn store_exponents(answer: ExponentsAnswer, row: &mut [i64; 4]) -> u32
+    ensures { λ n. ⌜ n ≡ numberIn (exponentsOutcomeOf answer) ⌝ }
+    ensures { λ _. ⌜ now (row .exit) ≡ after (exponentsOutcomeOf answer) (now (row .entry)) ⌝ }
 {
     match answer {
-        Trace::At(x) => {
+        ExponentsAnswer::Answered(x) => {
             *row = [x.c, x.d, x.e, x.f];
             0
         }
-        Trace::Refused(e) => refusal::number(e),
+        ExponentsAnswer::Refused(e) => refusal::number(e),
     }
 }
 

@@ -15,7 +15,7 @@ use printing::answer;
 use printing::meaning;
 use printing::number;
 use printing::refuse;
-use refusal::Answer;
+use refusal::NumberAnswer;
 use tape::MOST_WORDS;
 use tool::ANSWERED;
 use tool::MOST_PARAMETERS;
@@ -76,14 +76,14 @@ pub(crate) fn build(own: u32, values: &[u64], text: &mut [u8]) -> Reply
     let k = small(values, 2);
     let answer = program::build(p, r, k, small(values, 3), &mut row);
     match answer {
-        Answer::Value(n) => {
+        NumberAnswer::Answered(n) => {
             let count = n as usize;
             Reply {
                 status: ANSWERED,
                 length: tape_bytes(text, 0, &row[..count]),
             }
         }
-        Answer::Refused(e) => refuse(text, own, refusal::number(e)),
+        NumberAnswer::Refused(e) => refuse(text, own, refusal::number(e)),
     }
 }
 

@@ -4,14 +4,14 @@ mod weights;
 
 ghost use mathlib.Core.Path.{_≡_};
 ghost use lib.ListN.{length};
-ghost use Rattle.refusal.specs.Outcomes.{outcomeOf};
+ghost use Rattle.refusal.specs.Outcomes.{numberOutcomeOf};
 ghost use Rattle.fibonacci.specs.Forms.{zeckendorf};
 ghost use Rattle.fibonacci.specs.Hofstadter.{G};
 ghost use Rattle.fibonacci.specs.Height.{height};
 ghost use Rattle.fibonacci.specs.Services.{fibonacciOrZero, fibonacciOutcome, placesOf, formRow, bitRow, placesOutcome, placesRow, numberOutcome};
 use list::are_places;
 use list::total;
-use refusal::Answer;
+use refusal::NumberAnswer;
 use refusal::Refusal;
 use weights::FOOT;
 use weights::climb;
@@ -33,13 +33,13 @@ pub struct BitString {
 }
 
 // A Fibonacci number by its index.
-pub fn fibonacci(index: u32) -> Answer
-    ensures { λ answer. ⌜ outcomeOf answer ≡ fibonacciOutcome index ⌝ }
+pub fn fibonacci(index: u32) -> NumberAnswer
+    ensures { λ answer. ⌜ numberOutcomeOf answer ≡ fibonacciOutcome index ⌝ }
 {
     if 93 < index {
-        return Answer::Refused(Refusal::Index);
+        return NumberAnswer::Refused(Refusal::Index);
     }
-    Answer::Value(fib_at(index as usize))
+    NumberAnswer::Answered(fib_at(index as usize))
 }
 
 // F_index, and 0 where it does not fit.
@@ -97,28 +97,28 @@ pub fn bit_string(n: u64) -> BitString
 }
 
 // Number to list: the places of n, highest first, into the row; the bytes past them stay.
-pub fn places(n: u64, row: &mut [u8]) -> Answer
-    ensures { λ answer. ⌜ outcomeOf answer ≡ placesOutcome n (length (now (row .entry))) ⌝ }
+pub fn places(n: u64, row: &mut [u8]) -> NumberAnswer
+    ensures { λ answer. ⌜ numberOutcomeOf answer ≡ placesOutcome n (length (now (row .entry))) ⌝ }
     ensures { λ _. ⌜ now (row .exit) ≡ placesRow n (now (row .entry)) ⌝ }
 {
     let form = zeckendorf(n);
     let list = form.places;
     let count = form.count;
     if row.len() < count {
-        return Answer::Refused(Refusal::Room);
+        return NumberAnswer::Refused(Refusal::Room);
     }
     bytes::copy(&list[..count], row);
-    Answer::Value(count as u64)
+    NumberAnswer::Answered(count as u64)
 }
 
 // List to number: the sum of the weights of its places.
-pub fn number(list: &[u8]) -> Answer
-    ensures { λ answer. ⌜ outcomeOf answer ≡ numberOutcome (now (list .entry)) ⌝ }
+pub fn number(list: &[u8]) -> NumberAnswer
+    ensures { λ answer. ⌜ numberOutcomeOf answer ≡ numberOutcome (now (list .entry)) ⌝ }
 {
     if are_places(list) {
         return total(list);
     }
-    Answer::Refused(Refusal::Index)
+    NumberAnswer::Refused(Refusal::Index)
 }
 
 // Hofstadter's G, by Lemma 3: each place of the form moved down by one, so that place i weighs F_i.

@@ -1,12 +1,12 @@
 // A list of places, highest first: whether it is one of a Zeckendorf form, and the number that it stands for.
 ghost use mathlib.Core.Path.{_≡_};
 ghost use mathlib.Core.Bool.{true};
-ghost use Rattle.refusal.specs.Outcomes.{outcomeOf};
+ghost use Rattle.refusal.specs.Outcomes.{numberOutcomeOf};
 ghost use Rattle.fibonacci.specs.Forms.{arePlaces};
 ghost use Rattle.fibonacci.specs.Services.{lastPlace, totalOutcome};
 use crate::weights::FOOT;
 use crate::weights::climb;
-use refusal::Answer;
+use refusal::NumberAnswer;
 use refusal::Refusal;
 
 // Whether the list is a Zeckendorf form of places 1 to 92.
@@ -30,9 +30,9 @@ pub(crate) fn are_places(list: &[u8]) -> bool
 }
 
 // The sum of the places' weights from the lowest up, refused where it exceeds 64 bits.
-pub(crate) fn total(list: &[u8]) -> Answer
+pub(crate) fn total(list: &[u8]) -> NumberAnswer
     requires { ⌜ arePlaces lastPlace (now list) ≡ true ⌝ }
-    ensures { λ answer. ⌜ outcomeOf answer ≡ totalOutcome (now (list .entry)) ⌝ }
+    ensures { λ answer. ⌜ numberOutcomeOf answer ≡ totalOutcome (now (list .entry)) ⌝ }
 {
     let mut sum: u64 = 0;
     let mut at = FOOT;
@@ -41,9 +41,9 @@ pub(crate) fn total(list: &[u8]) -> Answer
         i -= 1;
         at = climb(at, list[i] as usize);
         if 0xFFFF_FFFF_FFFF_FFFF - sum < at.weight {
-            return Answer::Refused(Refusal::Range);
+            return NumberAnswer::Refused(Refusal::Range);
         }
         sum += at.weight;
     }
-    Answer::Value(sum)
+    NumberAnswer::Answered(sum)
 }

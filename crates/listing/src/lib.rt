@@ -18,7 +18,7 @@ use refusal::Refusal;
 use tape::Header;
 use tape::MOST_STEPS;
 use tape::MOST_WORDS;
-use tape::Reading;
+use tape::HeaderAnswer;
 use text::put;
 
 // How many bytes were written, and the refusal's number, which is 0 where the tape is accepted.
@@ -55,8 +55,8 @@ pub fn list_tape(tape: &[u32], row: &mut [u8]) -> Listed
     ensures { λ r. ⌜ r .number ≡ numberIn (acceptOutcome (now (tape .entry))) ⌝ }
 {
     match program::accept(tape) {
-        Reading::Refused(e) => list_refusal(e, row),
-        Reading::Laid(header) => list_accepted(tape, header, row),
+        HeaderAnswer::Refused(e) => list_refusal(e, row),
+        HeaderAnswer::Answered(header) => list_accepted(tape, header, row),
     }
 }
 

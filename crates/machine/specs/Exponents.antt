@@ -11,8 +11,8 @@ use Rattle.modular.specs.Inverses.{inverse}
 use Rattle.tape.specs.declared.Step.{Step}
 use Rattle.tape.specs.declared.Step.the-variants.{Mul, Div, Swp}
 use Rattle.machine.specs.declared.Exponents.{Exponents}
-use Rattle.machine.specs.declared.Trace.{Trace}
-use Rattle.machine.specs.declared.Trace.the-variants.{At, Refused}
+use Rattle.machine.specs.declared.ExponentsAnswer.{ExponentsAnswer}
+use Rattle.machine.specs.declared.ExponentsAnswer.the-variants.{Answered, Refused}
 
 -- the four exponents of the code, by their registers' numbers
 abbrev pub exponentsOf : Exponents → List ℤ
@@ -68,10 +68,10 @@ makesInRange (Swp t s) z = true
 unfoldable pub shiftInRange : Step → List ℤ → List ℤ
 shiftInRange x z = cond (makesInRange x z) (shift x z) z
 
--- the outcome that a `Trace` of the code stands for
-abbrev pub tracedOf : Trace → Outcome (List ℤ)
-tracedOf (At exponents) = answered (exponentsOf exponents)
-tracedOf (Refused e) = refused (numberOf e)
+-- the outcome that a `ExponentsAnswer` of the code stands for
+abbrev pub exponentsOutcomeOf : ExponentsAnswer → Outcome (List ℤ)
+exponentsOutcomeOf (Answered exponents) = answered (exponentsOf exponents)
+exponentsOutcomeOf (Refused e) = refused (numberOf e)
 
 -- a^e modulo p: for a negative exponent the inverse of the power with its sign turned
 unfoldable pub powerOf : ℕ → ℕ → ℤ → ℕ

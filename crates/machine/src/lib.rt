@@ -34,8 +34,8 @@ pub struct Exponents {
 }
 
 // What a trace comes to: the four exponents, or a refusal.
-pub enum Trace {
-    At(Exponents),
+pub enum ExponentsAnswer {
+    Answered(Exponents),
     Refused(Refusal),
 }
 

@@ -1,11 +1,11 @@
 // Arithmetic modulo m on 32-bit numbers, for every m: products, powers, primes and inverses.
 ghost use mathlib.Core.Path.{_≡_};
 ghost use Prim.Native.Nat.{_*_, _^_};
-ghost use Rattle.refusal.specs.Outcomes.{outcomeOf};
+ghost use Rattle.refusal.specs.Outcomes.{numberOutcomeOf};
 ghost use Rattle.modular.specs.Residues.{remainder};
 ghost use Rattle.modular.specs.Primes.{isPrime};
 ghost use Rattle.modular.specs.Inverses.{inverse, inverseOutcome};
-use refusal::Answer;
+use refusal::NumberAnswer;
 use refusal::Refusal;
 
 // The product modulo m; modulo 0 it is 0.
@@ -107,21 +107,21 @@ pub fn inverse_or_zero(x: u32, m: u32) -> u32
 }
 
 // The inverse service.
-pub fn inverse(k: u32, r: u32) -> Answer
-    ensures { λ answer. ⌜ outcomeOf answer ≡ inverseOutcome k r ⌝ }
+pub fn inverse(k: u32, r: u32) -> NumberAnswer
+    ensures { λ answer. ⌜ numberOutcomeOf answer ≡ inverseOutcome k r ⌝ }
 {
     if r < 2 {
-        return Answer::Refused(Refusal::Order);
+        return NumberAnswer::Refused(Refusal::Order);
     }
     if k == 0 {
-        return Answer::Refused(Refusal::Exponent);
+        return NumberAnswer::Refused(Refusal::Exponent);
     }
     if r <= k {
-        return Answer::Refused(Refusal::Exponent);
+        return NumberAnswer::Refused(Refusal::Exponent);
     }
     let value = inverse_or_zero(k, r);
     if value == 0 {
-        return Answer::Refused(Refusal::Exponent);
+        return NumberAnswer::Refused(Refusal::Exponent);
     }
-    Answer::Value(value as u64)
+    NumberAnswer::Answered(value as u64)
 }

@@ -13,19 +13,19 @@ pub use results::number;
 pub use results::power;
 pub use results::registers;
 ghost use mathlib.Core.List.{[], _∷_, _++_};
-ghost use Rattle.refusal.specs.Outcomes.{outcomeOf};
+ghost use Rattle.refusal.specs.Outcomes.{numberOutcomeOf};
 ghost use Rattle.text.specs.Text.{newline, numberLine, numbersLine};
 ghost use Rattle.text.specs.Rows.{Put};
-ghost use Rattle.machine.specs.Exponents.{tracedOf};
-ghost use Rattle.sequencer.specs.Services.{standingOf};
+ghost use Rattle.machine.specs.Exponents.{exponentsOutcomeOf};
+ghost use Rattle.sequencer.specs.Services.{registersOutcomeOf};
 ghost use Rattle.tool.specs.Texts.{exponentsLine, powerLines, reasonFor};
 ghost use Rattle.tool.specs.Replies.{refuses, printed};
 ghost use Rattle.tool.specs.Rows.{Told};
-use machine::Trace;
-use refusal::Answer;
+use machine::ExponentsAnswer;
+use refusal::NumberAnswer;
 use refusal::OWN_REASONS;
 use refusal::REASONS;
-use sequencer::Standing;
+use sequencer::RegistersAnswer;
 use text::NEWLINE;
 use text::put;
 use text::put_number;
@@ -61,41 +61,41 @@ fn put_reason(row: &mut [u8], at: usize, own: u32, number: u32) -> usize
 }
 
 // One number, or the refusal.
-pub fn answer(row: &mut [u8], own: u32, answer: Answer) -> Reply
-    ensures { λ r. ⌜ Told (now (row .entry)) (printed own (outcomeOf answer) numberLine) r (now (row .exit)) ⌝ }
+pub fn answer(row: &mut [u8], own: u32, answer: NumberAnswer) -> Reply
+    ensures { λ r. ⌜ Told (now (row .entry)) (printed own (numberOutcomeOf answer) numberLine) r (now (row .exit)) ⌝ }
 {
     match answer {
-        Answer::Value(n) => number(row, n),
-        Answer::Refused(e) => refuse(row, own, refusal::number(e)),
+        NumberAnswer::Answered(n) => number(row, n),
+        NumberAnswer::Refused(e) => refuse(row, own, refusal::number(e)),
     }
 }
 
 // Four registers, or the refusal.
-pub fn standing(row: &mut [u8], own: u32, answer: Standing) -> Reply
-    ensures { λ r. ⌜ Told (now (row .entry)) (printed own (standingOf answer) numbersLine) r (now (row .exit)) ⌝ }
+pub fn standing(row: &mut [u8], own: u32, answer: RegistersAnswer) -> Reply
+    ensures { λ r. ⌜ Told (now (row .entry)) (printed own (registersOutcomeOf answer) numbersLine) r (now (row .exit)) ⌝ }
 {
     match answer {
-        Standing::At(values) => registers(row, values),
-        Standing::Refused(e) => refuse(row, own, refusal::number(e)),
+        RegistersAnswer::Answered(values) => registers(row, values),
+        RegistersAnswer::Refused(e) => refuse(row, own, refusal::number(e)),
     }
 }
 
 // The same, with register 1 on a line of its own before them.
-pub fn forward(row: &mut [u8], own: u32, answer: Standing) -> Reply
-    ensures { λ r. ⌜ Told (now (row .entry)) (printed own (standingOf answer) powerLines) r (now (row .exit)) ⌝ }
+pub fn forward(row: &mut [u8], own: u32, answer: RegistersAnswer) -> Reply
+    ensures { λ r. ⌜ Told (now (row .entry)) (printed own (registersOutcomeOf answer) powerLines) r (now (row .exit)) ⌝ }
 {
     match answer {
-        Standing::At(values) => power(row, values),
-        Standing::Refused(e) => refuse(row, own, refusal::number(e)),
+        RegistersAnswer::Answered(values) => power(row, values),
+        RegistersAnswer::Refused(e) => refuse(row, own, refusal::number(e)),
     }
 }
 
 // Four exponents, or the refusal.
-pub fn trace(row: &mut [u8], own: u32, answer: Trace) -> Reply
-    ensures { λ r. ⌜ Told (now (row .entry)) (printed own (tracedOf answer) exponentsLine) r (now (row .exit)) ⌝ }
+pub fn trace(row: &mut [u8], own: u32, answer: ExponentsAnswer) -> Reply
+    ensures { λ r. ⌜ Told (now (row .entry)) (printed own (exponentsOutcomeOf answer) exponentsLine) r (now (row .exit)) ⌝ }
 {
     match answer {
-        Trace::At(values) => exponents(row, values),
-        Trace::Refused(e) => refuse(row, own, refusal::number(e)),
+        ExponentsAnswer::Answered(values) => exponents(row, values),
+        ExponentsAnswer::Refused(e) => refuse(row, own, refusal::number(e)),
     }
 }

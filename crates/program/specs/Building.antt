@@ -6,8 +6,8 @@ use Prim.Native.Nat.{ℕ, _<_}
 use lib.ListN.{length}
 use Rattle.refusal.specs.declared.Refusal.{Refusal}
 use Rattle.refusal.specs.declared.Refusal.the-variants.{Length, Word}
-use Rattle.refusal.specs.declared.Answer.{Answer}
-use Rattle.refusal.specs.Outcomes.{Outcome, outcome, outcomeOf, _given-if_, rowAfter}
+use Rattle.refusal.specs.declared.NumberAnswer.{NumberAnswer}
+use Rattle.refusal.specs.Outcomes.{Outcome, outcome, numberOutcomeOf, _given-if_, rowAfter}
 use Rattle.modular.specs.Inverses.{badExponent}
 use Rattle.tape.specs.declared.Header.{Header}
 use Rattle.tape.specs.Words.{numberLimit}
@@ -23,8 +23,8 @@ pub record Writable (p r k variant : ℕ) : Type 0 where
   pub named : unnamed variant ≡ false
 
 -- the answer and the row at exit of a call whose result is these words
-pub record Built (words row : List ℕ) (answer : Answer) (after : List ℕ) : Type 0 where
-  pub outcome-is : outcomeOf answer ≡ roomOutcome words (length row)
+pub record Built (words row : List ℕ) (answer : NumberAnswer) (after : List ℕ) : Type 0 where
+  pub outcome-is : numberOutcomeOf answer ≡ roomOutcome words (length row)
   pub row-is : after ≡ rowAfter (roomOutcome words (length row)) words row
 
 -- a tape that is refused, unless the layout refuses it first

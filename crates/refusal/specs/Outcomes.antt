@@ -6,8 +6,8 @@ use mathlib.Core.List.{List, [], _∷_, _++_}
 use Prim.Native.Nat.{ℕ}
 use lib.ListN.{length, drop}
 use Rattle.refusal.specs.declared.Refusal.{Refusal}
-use Rattle.refusal.specs.declared.Answer.{Answer}
-use Rattle.refusal.specs.declared.Answer.the-variants.{Value, Refused}
+use Rattle.refusal.specs.declared.NumberAnswer.{NumberAnswer}
+use Rattle.refusal.specs.declared.NumberAnswer.the-variants.{Answered, Refused}
 use Rattle.refusal.specs.Refusals.{numberOf}
 
 infix 10 _given-if_
@@ -30,10 +30,10 @@ unfoldable pub applies : List Rule → Bool
 applies [] = false
 applies ((e given-if t) ∷ rules) = t || applies rules
 
--- the outcome that an `Answer` of the code stands for
-abbrev pub outcomeOf : Answer → Outcome ℕ
-outcomeOf (Value n) = answered n
-outcomeOf (Refused e) = refused (numberOf e)
+-- the outcome that an `NumberAnswer` of the code stands for
+abbrev pub numberOutcomeOf : NumberAnswer → Outcome ℕ
+numberOutcomeOf (Answered n) = answered n
+numberOutcomeOf (Refused e) = refused (numberOf e)
 
 -- the number that comes back: 0 where the call isn't refused
 abbrev pub numberIn : {A : Type 0} → Outcome A → ℕ

@@ -22,8 +22,8 @@ pub enum Refusal {
 }
 
 // What a service answers whose result is one number.
-pub enum Answer {
-    Value(u64),
+pub enum NumberAnswer {
+    Answered(u64),
     Refused(Refusal),
 }
 

@@ -3,7 +3,7 @@
 ghost use mathlib.Core.List.{[], _∷_, _++_};
 ghost use Prim.Native.Nat.{_+_, _≤_};
 ghost use lib.ListN.{length, take};
-ghost use Rattle.refusal.specs.Outcomes.{outcomeOf};
+ghost use Rattle.refusal.specs.Outcomes.{numberOutcomeOf};
 ghost use Rattle.refusal.specs.Rows.{Wrote};
 ghost use Rattle.text.specs.Text.{numberLine, numbersLine};
 ghost use Rattle.text.specs.Rows.{Put};
@@ -23,7 +23,7 @@ use lines::number_line;
 use lines::numbers_line;
 use printing::answer;
 use printing::refuse;
-use refusal::Answer;
+use refusal::NumberAnswer;
 use scripting::MOST_ROOM;
 use scripting::MOST_TAPES;
 use scripting::Marks;
@@ -59,7 +59,7 @@ pub(crate) fn build_line(
 // What build answered: the words that it counts, or the refusal.
 fn built(
     own: u32,
-    answer: Answer,
+    answer: NumberAnswer,
     row: &[u32],
     tapes: &mut [u32],
     marks: Marks,
@@ -67,14 +67,14 @@ fn built(
 ) -> Printed
     requires { ⌜ Inside marks (now tapes) ⌝ }
     requires { ⌜ (length (now row) ≤ mostWords) × (countIn answer ≤ length (now row)) ⌝ }
-    ensures { λ r. ⌜ Did (builtAs (length (now (tapes .entry))) (stateIn marks (now (tapes .entry))) (outcomeOf answer) (take (countIn answer) (now (row .entry))) (printed own (outcomeOf answer) numberLine .text) (numbersLine (take (countIn answer) (now (row .entry))))) (now (text .entry)) r (now (tapes .exit)) (now (text .exit)) ⌝ }
+    ensures { λ r. ⌜ Did (builtAs (length (now (tapes .entry))) (stateIn marks (now (tapes .entry))) (numberOutcomeOf answer) (take (countIn answer) (now (row .entry))) (printed own (numberOutcomeOf answer) numberLine .text) (numbersLine (take (countIn answer) (now (row .entry))))) (now (text .entry)) r (now (tapes .exit)) (now (text .exit)) ⌝ }
 {
     match answer {
-        Answer::Value(n) => {
+        NumberAnswer::Answered(n) => {
             let count = n as usize;
             leave(&row[..count], tapes, marks, text)
         }
-        Answer::Refused(e) => Printed {
+        NumberAnswer::Refused(e) => Printed {
             marks,
             length: refuse(text, own, refusal::number(e)).length,
         },
@@ -149,7 +149,7 @@ fn build_into(
 // What build answered, and its buffer, whose words are the tape at hand where it answered.
 fn show(
     own: u32,
-    answer: Answer,
+    answer: NumberAnswer,
     row: &[u32],
     tapes: &mut [u32],
     marks: Marks,
@@ -157,10 +157,10 @@ fn show(
 ) -> Printed
     requires { ⌜ Inside marks (now tapes) ⌝ }
     requires { ⌜ (length (now row) ≤ mostRoom) × (countIn answer ≤ length (now row)) ⌝ }
-    ensures { λ r. ⌜ Did (builtAs (length (now (tapes .entry))) (stateIn marks (now (tapes .entry))) (outcomeOf answer) (take (countIn answer) (now (row .entry))) (printed own (outcomeOf answer) numberLine .text ++ numbersLine (now (row .entry))) (printed own (outcomeOf answer) numberLine .text ++ numbersLine (now (row .entry)))) (now (text .entry)) r (now (tapes .exit)) (now (text .exit)) ⌝ }
+    ensures { λ r. ⌜ Did (builtAs (length (now (tapes .entry))) (stateIn marks (now (tapes .entry))) (numberOutcomeOf answer) (take (countIn answer) (now (row .entry))) (printed own (numberOutcomeOf answer) numberLine .text ++ numbersLine (now (row .entry))) (printed own (numberOutcomeOf answer) numberLine .text ++ numbersLine (now (row .entry)))) (now (text .entry)) r (now (tapes .exit)) (now (text .exit)) ⌝ }
 {
     match answer {
-        Answer::Value(n) => {
+        NumberAnswer::Answered(n) => {
             let count = n as usize;
             let begin = marks.begin;
             if tapes.len() - begin < count {
@@ -173,7 +173,7 @@ fn show(
                 length: numbers_line(text, next, row),
             }
         }
-        Answer::Refused(e) => {
+        NumberAnswer::Refused(e) => {
             let next = refuse(text, own, refusal::number(e)).length;
             Printed {
                 marks,

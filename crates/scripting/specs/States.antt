@@ -4,8 +4,8 @@ use mathlib.Core.Bool.{cond}
 use mathlib.Core.List.{List, [], _∷_, _++_}
 use Prim.Native.Nat.{ℕ, min, _≤_}
 use lib.ListN.{length, take}
-use Rattle.refusal.specs.declared.Answer.{Answer}
-use Rattle.refusal.specs.declared.Answer.the-variants.{Value, Refused}
+use Rattle.refusal.specs.declared.NumberAnswer.{NumberAnswer}
+use Rattle.refusal.specs.declared.NumberAnswer.the-variants.{Answered, Refused}
 use Rattle.text.specs.Rows.{Put}
 use Rattle.tool.specs.Verbs.{mostRoom}
 use Rattle.scripting.specs.declared.Marks.{Marks}
@@ -36,8 +36,8 @@ insideOf m capacity =
     record { begin = min (m .begin) end; end = end; room = min (m .room) mostRoom; roomed = m .roomed }
 
 -- the words that an answer counts
-abbrev pub countIn : Answer → ℕ
-countIn (Value n) = n
+abbrev pub countIn : NumberAnswer → ℕ
+countIn (Answered n) = n
 countIn (Refused e) = 0
 
 -- what a line did: the state that the code left, and what it printed, which is never too long. Where the row of the text is shorter, what

@@ -15,8 +15,8 @@ use Rattle.machine.specs.Machine.{valuesOf, run, start}
 use Rattle.machine.specs.Exponents.{startExponents, exponentsAt, staysInRange}
 use Rattle.program.specs.Services.{isNamed, checkRules}
 use Rattle.program.specs.Door.{onTape}
-use Rattle.sequencer.specs.declared.Standing.{Standing}
-use Rattle.sequencer.specs.declared.Standing.the-variants.{At, Refused}
+use Rattle.sequencer.specs.declared.RegistersAnswer.{RegistersAnswer}
+use Rattle.sequencer.specs.declared.RegistersAnswer.the-variants.{Answered, Refused}
 
 -- refusal 9: a register or base is 0 or at least p
 unfoldable pub badRegister : ℕ → ℕ → Bool
@@ -107,7 +107,7 @@ cutStart tape first last = onTape tape (cutRules (headerOf tape) first last) (st
 unfoldable pub cutCount : List ℕ → ℕ → ℕ → Outcome ℕ
 cutCount tape first last = onTape tape (cutRules (headerOf tape) first last) (length (stepWords tape first last))
 
--- the outcome that a `Standing` of the code stands for
-abbrev pub standingOf : Standing → Outcome (List ℕ)
-standingOf (At registers) = answered (valuesOf registers)
-standingOf (Refused e) = refused (numberOf e)
+-- the outcome that a `RegistersAnswer` of the code stands for
+abbrev pub registersOutcomeOf : RegistersAnswer → Outcome (List ℕ)
+registersOutcomeOf (Answered registers) = answered (valuesOf registers)
+registersOutcomeOf (Refused e) = refused (numberOf e)

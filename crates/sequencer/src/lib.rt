@@ -7,9 +7,9 @@ ghost use mathlib.Core.Path.{_≡_};
 ghost use lib.Seq.{sets};
 ghost use Rattle.refusal.specs.Outcomes.{answered, numberIn};
 ghost use Rattle.machine.specs.Machine.{valuesOf};
-ghost use Rattle.machine.specs.Exponents.{tracedOf};
+ghost use Rattle.machine.specs.Exponents.{exponentsOutcomeOf};
 ghost use Rattle.program.specs.Services.{acceptOutcome};
-ghost use Rattle.sequencer.specs.Services.{standingOf, loadOutcome, runOutcome, forwardOutcome, traceOutcome, cutOutcome, cutPart};
+ghost use Rattle.sequencer.specs.Services.{registersOutcomeOf, loadOutcome, runOutcome, forwardOutcome, traceOutcome, cutOutcome, cutPart};
 ghost use Rattle.sequencer.specs.Lists.{afterAll, numbersAll, requestsOf};
 ghost use Rattle.sequencer.specs.Demand.{ChainEnds, RewindEnds};
 ghost use Rattle.sequencer.specs.Tracing.{NeverOutside, MeansPowers};
@@ -18,13 +18,13 @@ use conditions::is_bad_cut;
 use conditions::is_bad_register;
 use conditions::is_some_bad;
 use machine::Registers;
-use machine::Trace;
+use machine::ExponentsAnswer;
 use machine::exponents_of;
 use refusal::Refusal;
 use requests::after_run;
 use requests::note;
 use tape::Header;
-use tape::Reading;
+use tape::HeaderAnswer;
 use tape::part;
 use tape::step_words;
 use tape::steps;
@@ -32,8 +32,8 @@ use travel::shift_all;
 use travel::travel;
 
 // What load and run answer: the four registers, or a refusal.
-pub enum Standing {
-    At(Registers),
+pub enum RegistersAnswer {
+    Answered(Registers),
     Refused(Refusal),
 }
 
@@ -41,32 +41,32 @@ pub enum Standing {
 const REQUEST_WORDS: usize = 4;
 
 // The registers (1, a, 1, 1) for a base a: check's refusals, 9, and for named programs 11.
-pub fn load(tape: &[u32], base: u32) -> Standing
-    ensures { λ answer. ⌜ standingOf answer ≡ loadOutcome (now (tape .entry)) base ⌝ }
+pub fn load(tape: &[u32], base: u32) -> RegistersAnswer
+    ensures { λ answer. ⌜ registersOutcomeOf answer ≡ loadOutcome (now (tape .entry)) base ⌝ }
 {
     match program::accept(tape) {
-        Reading::Refused(e) => Standing::Refused(e),
-        Reading::Laid(header) => load_accepted(tape, header, base),
+        HeaderAnswer::Refused(e) => RegistersAnswer::Refused(e),
+        HeaderAnswer::Answered(header) => load_accepted(tape, header, base),
     }
 }
 
 // The registers at position `to`, from those at position `from`: check's refusals, 9, 10.
-pub fn run(tape: &[u32], registers: Registers, from: u32, to: u32) -> Standing
-    ensures { λ answer. ⌜ standingOf answer ≡ runOutcome (now (tape .entry)) (valuesOf registers) from to ⌝ }
+pub fn run(tape: &[u32], registers: Registers, from: u32, to: u32) -> RegistersAnswer
+    ensures { λ answer. ⌜ registersOutcomeOf answer ≡ runOutcome (now (tape .entry)) (valuesOf registers) from to ⌝ }
 {
     match program::accept(tape) {
-        Reading::Refused(e) => Standing::Refused(e),
-        Reading::Laid(header) => run_accepted(tape, header, registers, from, to),
+        HeaderAnswer::Refused(e) => RegistersAnswer::Refused(e),
+        HeaderAnswer::Answered(header) => run_accepted(tape, header, registers, from, to),
     }
 }
 
 // Load, then run from 0 to the step count: load's refusals. Of a named program, register 1 is then the power.
-pub fn forward(tape: &[u32], base: u32) -> Standing
-    ensures { λ answer. ⌜ standingOf answer ≡ forwardOutcome (now (tape .entry)) base ⌝ }
+pub fn forward(tape: &[u32], base: u32) -> RegistersAnswer
+    ensures { λ answer. ⌜ registersOutcomeOf answer ≡ forwardOutcome (now (tape .entry)) base ⌝ }
 {
     match program::accept(tape) {
-        Reading::Refused(e) => Standing::Refused(e),
-        Reading::Laid(header) => forward_accepted(tape, header, base),
+        HeaderAnswer::Refused(e) => RegistersAnswer::Refused(e),
+        HeaderAnswer::Answered(header) => forward_accepted(tape, header, base),
     }
 }
 
@@ -77,11 +77,11 @@ pub fn cut<'a>(tape: &'a [u32], first: u32, last: u32, number: &mut u32) -> &'a 
     ensures { λ _. ⌜ now (number .exit) ≡ numberIn (cutOutcome (now (tape .entry)) first last) ⌝ }
 {
     match program::accept(tape) {
-        Reading::Refused(e) => {
+        HeaderAnswer::Refused(e) => {
             *number = refusal::number(e);
             &tape[..0]
         }
-        Reading::Laid(header) => cut_accepted(tape, header, first, last, number),
+        HeaderAnswer::Answered(header) => cut_accepted(tape, header, first, last, number),
     }
 }
 
@@ -110,29 +110,29 @@ pub fn play(tapes: &[u32], requests: &[u32], registers: Registers, numbers: &mut
 }
 
 // Each register's whole exponent at a position: check's refusals, 10, 12; no named program gets 12.
-pub fn trace(tape: &[u32], position: u32) -> Trace
-    ensures { λ answer. ⌜ tracedOf answer ≡ traceOutcome (now (tape .entry)) position ⌝ }
-    ensures { λ answer. ⌜ NeverOutside (now (tape .entry)) (tracedOf answer) ⌝ }
-    ensures { λ answer. ⌜ MeansPowers (now (tape .entry)) position (tracedOf answer) ⌝ }
+pub fn trace(tape: &[u32], position: u32) -> ExponentsAnswer
+    ensures { λ answer. ⌜ exponentsOutcomeOf answer ≡ traceOutcome (now (tape .entry)) position ⌝ }
+    ensures { λ answer. ⌜ NeverOutside (now (tape .entry)) (exponentsOutcomeOf answer) ⌝ }
+    ensures { λ answer. ⌜ MeansPowers (now (tape .entry)) position (exponentsOutcomeOf answer) ⌝ }
 {
     match program::accept(tape) {
-        Reading::Refused(e) => Trace::Refused(e),
-        Reading::Laid(header) => trace_accepted(tape, header, position),
+        HeaderAnswer::Refused(e) => ExponentsAnswer::Refused(e),
+        HeaderAnswer::Answered(header) => trace_accepted(tape, header, position),
     }
 }
 
 // Load on a program that is accepted: 9, 11.
-fn load_accepted(tape: &[u32], header: Header, base: u32) -> Standing
+fn load_accepted(tape: &[u32], header: Header, base: u32) -> RegistersAnswer
     requires { ⌜ acceptOutcome (now tape) ≡ answered header ⌝ }
-    ensures { λ answer. ⌜ standingOf answer ≡ loadOutcome (now (tape .entry)) base ⌝ }
+    ensures { λ answer. ⌜ registersOutcomeOf answer ≡ loadOutcome (now (tape .entry)) base ⌝ }
 {
     if is_bad_register(header.modulus, base) {
-        return Standing::Refused(Refusal::Register);
+        return RegistersAnswer::Refused(Refusal::Register);
     }
     if is_bad_base(header, base) {
-        return Standing::Refused(Refusal::Base);
+        return RegistersAnswer::Refused(Refusal::Base);
     }
-    Standing::At(Registers {
+    RegistersAnswer::Answered(Registers {
         c: 1,
         d: base,
         e: 1,
@@ -141,46 +141,46 @@ fn load_accepted(tape: &[u32], header: Header, base: u32) -> Standing
 }
 
 // Run of a program that is accepted: 9, 10.
-fn run_accepted(tape: &[u32], header: Header, registers: Registers, from: u32, to: u32) -> Standing
+fn run_accepted(tape: &[u32], header: Header, registers: Registers, from: u32, to: u32) -> RegistersAnswer
     requires { ⌜ acceptOutcome (now tape) ≡ answered header ⌝ }
-    ensures { λ answer. ⌜ standingOf answer ≡ runOutcome (now (tape .entry)) (valuesOf registers) from to ⌝ }
+    ensures { λ answer. ⌜ registersOutcomeOf answer ≡ runOutcome (now (tape .entry)) (valuesOf registers) from to ⌝ }
 {
     if is_some_bad(header.modulus, registers) {
-        return Standing::Refused(Refusal::Register);
+        return RegistersAnswer::Refused(Refusal::Register);
     }
     if header.steps < from {
-        return Standing::Refused(Refusal::Position);
+        return RegistersAnswer::Refused(Refusal::Position);
     }
     if header.steps < to {
-        return Standing::Refused(Refusal::Position);
+        return RegistersAnswer::Refused(Refusal::Position);
     }
-    Standing::At(travel(steps(tape), header.modulus, registers, from, to))
+    RegistersAnswer::Answered(travel(steps(tape), header.modulus, registers, from, to))
 }
 
 // Forward through a program that is accepted: load's refusals, and run has none left.
-fn forward_accepted(tape: &[u32], header: Header, base: u32) -> Standing
+fn forward_accepted(tape: &[u32], header: Header, base: u32) -> RegistersAnswer
     requires { ⌜ acceptOutcome (now tape) ≡ answered header ⌝ }
-    ensures { λ answer. ⌜ standingOf answer ≡ forwardOutcome (now (tape .entry)) base ⌝ }
+    ensures { λ answer. ⌜ registersOutcomeOf answer ≡ forwardOutcome (now (tape .entry)) base ⌝ }
 {
     match load_accepted(tape, header, base) {
-        Standing::Refused(e) => Standing::Refused(e),
-        Standing::At(registers) => run_accepted(tape, header, registers, 0, header.steps),
+        RegistersAnswer::Refused(e) => RegistersAnswer::Refused(e),
+        RegistersAnswer::Answered(registers) => run_accepted(tape, header, registers, 0, header.steps),
     }
 }
 
 // Trace of a program that is accepted: 10, 12.
-fn trace_accepted(tape: &[u32], header: Header, position: u32) -> Trace
+fn trace_accepted(tape: &[u32], header: Header, position: u32) -> ExponentsAnswer
     requires { ⌜ acceptOutcome (now tape) ≡ answered header ⌝ }
-    ensures { λ answer. ⌜ tracedOf answer ≡ traceOutcome (now (tape .entry)) position ⌝ }
+    ensures { λ answer. ⌜ exponentsOutcomeOf answer ≡ traceOutcome (now (tape .entry)) position ⌝ }
 {
     if header.steps < position {
-        return Trace::Refused(Refusal::Position);
+        return ExponentsAnswer::Refused(Refusal::Position);
     }
     let mut exponents: [i64; 4] = [0, 1, 0, 0];
     if !shift_all(part(steps(tape), 0, position), &mut exponents) {
-        return Trace::Refused(Refusal::Range);
+        return ExponentsAnswer::Refused(Refusal::Range);
     }
-    Trace::At(exponents_of(&exponents))
+    ExponentsAnswer::Answered(exponents_of(&exponents))
 }
 
 // Cut of a program that is accepted: 10.

@@ -14,8 +14,8 @@ use Rattle.tape.specs.declared.Step.the-variants.{Mul}
 use Rattle.tape.specs.declared.Decoded.{Decoded}
 use Rattle.tape.specs.declared.Decoded.the-variants.{Heading, P, R, K, Action, End, Bad}
 use Rattle.tape.specs.declared.Header.{Header}
-use Rattle.tape.specs.declared.Reading.{Reading}
-use Rattle.tape.specs.declared.Reading.the-variants.{Laid, Refused}
+use Rattle.tape.specs.declared.HeaderAnswer.{HeaderAnswer}
+use Rattle.tape.specs.declared.HeaderAnswer.the-variants.{Answered, Refused}
 use Rattle.tape.specs.Words.{numberLimit, variantLimit, decoded, encoded, stepWord}
 
 -- ---- where things stand
@@ -154,10 +154,10 @@ readOutcome tape =
     ∷ [])
     (headerOf tape)
 
--- the outcome that a `Reading` of the code stands for
-abbrev pub readingOf : Reading → Outcome Header
-readingOf (Laid header) = answered header
-readingOf (Refused e) = refused (numberOf e)
+-- the outcome that a `HeaderAnswer` of the code stands for
+abbrev pub headerOutcomeOf : HeaderAnswer → Outcome Header
+headerOutcomeOf (Answered header) = answered header
+headerOutcomeOf (Refused e) = refused (numberOf e)
 
 -- ---- the words of a program
 

@@ -5,7 +5,7 @@ mod words;
 ghost use mathlib.Core.Path.{_≡_};
 ghost use lib.ListN.{length, getD};
 ghost use Rattle.tape.specs.Words.{decoded};
-ghost use Rattle.tape.specs.Layout.{headerOutcome, readOutcome, readingOf, stepOf, stepIndex, stepWordsOf, part, wordCount, layBegin, laidRow};
+ghost use Rattle.tape.specs.Layout.{headerOutcome, readOutcome, headerOutcomeOf, stepOf, stepIndex, stepWordsOf, part, wordCount, layBegin, laidRow};
 use layout::HEADER_WORDS;
 use layout::OTHER_WORDS;
 use layout::are_steps;
@@ -53,8 +53,8 @@ pub struct Header {
 }
 
 // The answer to reading a tape.
-pub enum Reading {
-    Laid(Header),
+pub enum HeaderAnswer {
+    Answered(Header),
     Refused(Refusal),
 }
 
@@ -144,36 +144,36 @@ fn between(row: &[u32], begin: usize, end: usize) -> &[u32]
 }
 
 // Reads what a tape's header holds, without a test of the layout: 6.
-pub fn read_header(tape: &[u32]) -> Reading
-    ensures { λ r. ⌜ readingOf r ≡ headerOutcome (now (tape .entry)) ⌝ }
+pub fn read_header(tape: &[u32]) -> HeaderAnswer
+    ensures { λ r. ⌜ headerOutcomeOf r ≡ headerOutcome (now (tape .entry)) ⌝ }
 {
     if !is_length(tape) {
-        return Reading::Refused(Refusal::Length);
+        return HeaderAnswer::Refused(Refusal::Length);
     }
-    Reading::Laid(header_of(tape))
+    HeaderAnswer::Answered(header_of(tape))
 }
 
 // Reads a tape's header and tests its layout: 6, 7.
-pub fn read(tape: &[u32]) -> Reading
-    ensures { λ r. ⌜ readingOf r ≡ readOutcome (now (tape .entry)) ⌝ }
+pub fn read(tape: &[u32]) -> HeaderAnswer
+    ensures { λ r. ⌜ headerOutcomeOf r ≡ readOutcome (now (tape .entry)) ⌝ }
 {
     if !is_length(tape) {
-        return Reading::Refused(Refusal::Length);
+        return HeaderAnswer::Refused(Refusal::Length);
     }
     if !is_header(tape) {
-        return Reading::Refused(Refusal::Word);
+        return HeaderAnswer::Refused(Refusal::Word);
     }
     let header = header_of(tape);
     if !is_free_or_named(header) {
-        return Reading::Refused(Refusal::Word);
+        return HeaderAnswer::Refused(Refusal::Word);
     }
     if !are_steps(steps(tape)) {
-        return Reading::Refused(Refusal::Word);
+        return HeaderAnswer::Refused(Refusal::Word);
     }
     if !is_end(tape) {
-        return Reading::Refused(Refusal::Word);
+        return HeaderAnswer::Refused(Refusal::Word);
     }
-    Reading::Laid(header)
+    HeaderAnswer::Answered(header)
 }
 
 // How many words the tape of a header has.

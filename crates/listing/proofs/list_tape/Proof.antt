@@ -3,7 +3,7 @@ use mathlib.Core.Path.{_≡_, sym, ap, _∙_}
 use borrow.Author.Needs.{needs}
 use Rattle.refusal.specs.Refusals.{numberOf}
 use Rattle.refusal.specs.Outcomes.{refused, answered}
-use Rattle.tape.specs.Layout.{readingOf}
+use Rattle.tape.specs.Layout.{headerOutcomeOf}
 use Rattle.program.specs.Services.{acceptOutcome}
 use Rattle.listing.proofs.list_tape.Statement.{statement}
 use Rattle.listing.proofs.list_tape.Tie as tie
@@ -16,10 +16,10 @@ enum-known-e c = search needs
 
 -- what check answered, for a refusal and for an accepted tape
 not-accepted : (c : tie.After-e) → acceptOutcome (c .before .before .before .before .before .args .tape .now) ≡ refused (numberOf (c .e .given .0 .0))
-not-accepted c = sym (c .before .before .accept .ensures) ∙ ap readingOf (c .e .given .1)
+not-accepted c = sym (c .before .before .accept .ensures) ∙ ap headerOutcomeOf (c .e .given .1)
 
 accepted : (c : tie.After-header) → acceptOutcome (c .before .before .before .before .before .args .tape .now) ≡ answered (c .header .given .0 .0)
-accepted c = sym (c .before .before .accept .ensures) ∙ ap readingOf (c .header .given .1)
+accepted c = sym (c .before .before .accept .ensures) ∙ ap headerOutcomeOf (c .header .given .1)
 
 list-refusal-requires : tie.Need-list-refusal-requires
 list-refusal-requires c κs = search needs

@@ -6,8 +6,8 @@ use mathlib.Core.List.{List}
 use Prim.Native.Nat.{ℕ}
 use native.Mathlib.Omega.{arith}
 use lib.ListN.{length}
-use Rattle.refusal.specs.declared.Answer.{Answer}
-use Rattle.refusal.specs.Outcomes.{Outcome, refused, outcomeOf, gives, passes, rowAfter, row-kept}
+use Rattle.refusal.specs.declared.NumberAnswer.{NumberAnswer}
+use Rattle.refusal.specs.Outcomes.{Outcome, refused, numberOutcomeOf, gives, passes, rowAfter, row-kept}
 use Rattle.modular.specs.Inverses.{badExponent}
 use Rattle.refusal.proofs.Laws.Tests.{by-test}
 use Rattle.modular.proofs.Laws.Inverses.{inverse-order}
@@ -46,8 +46,8 @@ module _ (p r k variant : ℕ) (row : List ℕ) where
         unfolding buildOutcome
         variant-refused bad = kept (passes _ _ _ modulus ∙ passes _ _ _ order ∙ passes _ _ _ exponent ∙ gives _ _ _ bad)
 
-        pub left-to-room : unnamed variant ≡ false → {answer : Answer} {after : List ℕ} → Built (namedWords p r k variant) row answer after
-            → Promised (outcomeOf answer) after
+        pub left-to-room : unnamed variant ≡ false → {answer : NumberAnswer} {after : List ℕ} → Built (namedWords p r k variant) row answer after
+            → Promised (numberOutcomeOf answer) after
         unfolding buildOutcome buildRow roomOutcome
         left-to-room is-named b =
             let words : List ℕ = namedWords p r k variant in

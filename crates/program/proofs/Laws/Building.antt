@@ -8,7 +8,7 @@ use native.Mathlib.Omega.{arith}
 use borrow.Author.Tests.{lt-ltb, le-ltb}
 use lib.ListN.{length, getD, length-map}
 use Rattle.refusal.specs.declared.Refusal.the-variants.{Room}
-use Rattle.refusal.specs.declared.Answer.the-variants.{Value, Refused}
+use Rattle.refusal.specs.declared.NumberAnswer.the-variants.{Answered, Refused}
 use Rattle.refusal.specs.Outcomes.{refused, answered, gives, passes, answers, row-kept, row-written}
 use Rattle.modular.proofs.Laws.Inverses.{good-exponent}
 use Rattle.tape.specs.declared.Header.{Header}
@@ -107,7 +107,7 @@ module _ {p r k variant : ℕ} {rows : FormRows} (w : Writable p r k variant) (g
           rw (header-is, words-are, length-map (namedSteps variant r k) stepWord) (steps-fit q (named-lawful p r k variant w) row long)
 
       pub built-written : {laid after : List ℕ} {at next n : ℕ} → at ≡ layBegin h (length row) → laid ≡ laidRow h row
-          → Writes laid at (drawnWords rows) next after → n ≡ wordCount h → Built (wordsOf q) row (Value n) after
+          → Writes laid at (drawnWords rows) next after → n ≡ wordCount h → Built (wordsOf q) row (Answered n) after
       built-written begin is v e =
           let done = enough (wordsOf q) (length row) long in
           let wrote = v .wrote (rw (begin, is) steps-room) in

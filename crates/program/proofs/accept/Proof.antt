@@ -1,7 +1,7 @@
 -- `accept` meets its contract: a tape of a wrong length is refused, and the other rules are `accept_measured`'s.
 use mathlib.Core.Path.{sym, ap, _∙_}
 use borrow.Author.Needs.{needs}
-use Rattle.tape.specs.Layout.{readingOf}
+use Rattle.tape.specs.Layout.{headerOutcomeOf}
 use Rattle.program.proofs.Laws.Checking.{check-unmeasured}
 use Rattle.program.proofs.accept.Statement.{statement}
 use Rattle.program.proofs.accept.Tie as tie
@@ -16,10 +16,10 @@ enum-known-header : tie.Need-enum-known-header
 enum-known-header c = search needs
 
 accept-measured-requires : tie.Need-accept-measured-requires
-accept-measured-requires c κs = sym (c .before .before .before .read-header .ensures) ∙ ap readingOf (c .before .header .given .1)
+accept-measured-requires c κs = sym (c .before .before .before .read-header .ensures) ∙ ap headerOutcomeOf (c .before .header .given .1)
 
 returns : tie.Need-returns
-returns c = sym (check-unmeasured _ _ _ (sym (c .before .before .before .read-header .ensures) ∙ ap readingOf (c .before .e .given .1)))
+returns c = sym (check-unmeasured _ _ _ (sym (c .before .before .before .read-header .ensures) ∙ ap headerOutcomeOf (c .before .e .given .1)))
 
 returns-2 : tie.Need-returns-2
 returns-2 c = search needs

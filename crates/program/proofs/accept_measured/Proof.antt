@@ -9,7 +9,7 @@ use borrow.Author.Needs.{needs}
 use lib.ListN.{length, take}
 use lib.Seq.{length-take-le}
 use Rattle.refusal.specs.Refusals.{numberOf}
-use Rattle.refusal.specs.Outcomes.{refused, answered, outcomeOf}
+use Rattle.refusal.specs.Outcomes.{refused, answered, numberOutcomeOf}
 use Rattle.tape.specs.declared.Header.{Header}
 use Rattle.named.specs.Parameters.{unnamed}
 use Rattle.program.specs.Same.{sameWords}
@@ -29,10 +29,10 @@ row c = c .build .last .1 .1 .1 .1 .0
 
 -- what build answered, for a refusal and for a count of words
 not-built : (c : tie.After-e) → buildFor (header (c .before .before .before)) ≡ refused (numberOf (c .e .given .0 .0))
-not-built c = sym (c .before .before .before .build .ensures .0) ∙ ap outcomeOf (c .e .given .1)
+not-built c = sym (c .before .before .before .build .ensures .0) ∙ ap numberOutcomeOf (c .e .given .1)
 
 built : (c : tie.After-words) → buildFor (header (c .before .before .before)) ≡ answered (c .words .given .0 .0)
-built c = sym (c .before .before .before .build .ensures .0) ∙ ap outcomeOf (c .words .given .1)
+built c = sym (c .before .before .before .build .ensures .0) ∙ ap numberOutcomeOf (c .words .given .1)
 
 fits : (c : tie.After-words) → c .words .given .0 .0 ≤ length (row (c .before .before .before))
 fits c = omega (arith, build-count _ _ _ _ _ _ (built c) .1, c .before .before .before .build .kept .1 .1 .1 .1 .0)

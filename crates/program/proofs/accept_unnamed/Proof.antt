@@ -3,7 +3,7 @@ use mathlib.Core.Path.{sym, ap, _∙_}
 use borrow.Author.Needs.{needs}
 use Rattle.refusal.specs.Outcomes.{answered}
 use Rattle.tape.specs.declared.Header.{Header}
-use Rattle.tape.specs.Layout.{readingOf}
+use Rattle.tape.specs.Layout.{headerOutcomeOf}
 use Rattle.tape.proofs.Laws.Reading.{ReadAs, read-answered}
 use Rattle.named.specs.Parameters.{unnamed}
 use Rattle.program.proofs.Laws.Checking.{check-unread, check-variant, check-free-modulus, check-free}
@@ -11,7 +11,7 @@ use Rattle.program.proofs.accept_unnamed.Statement.{statement}
 use Rattle.program.proofs.accept_unnamed.Tie as tie
 
 read-as : (c : tie.After-header) → ReadAs (c .before .before .before .before .args .tape .now) (c .header .given .0 .0)
-read-as c = read-answered _ _ (sym (c .before .before .read .ensures) ∙ ap readingOf (c .header .given .1))
+read-as c = read-answered _ _ (sym (c .before .before .read .ensures) ∙ ap headerOutcomeOf (c .header .given .1))
 
 read-requires : tie.Need-read-requires
 read-requires c κs = search needs
@@ -34,7 +34,7 @@ returns-2 : tie.Need-returns-2
 returns-2 c = sym (check-free-modulus _ _ _ (read-as (c .before .before .before .before .before)) (c .before .before .if1 .left) (sym (c .before .is-bad-modulus .ensures) ∙ c .if2 .taken))
 
 returns-3 : tie.Need-returns-3
-returns-3 c = sym (check-unread _ _ _ (sym (c .before .before .before .read .ensures) ∙ ap readingOf (c .before .e .given .1)))
+returns-3 c = sym (check-unread _ _ _ (sym (c .before .before .before .read .ensures) ∙ ap headerOutcomeOf (c .before .e .given .1)))
 
 returns-4 : tie.Need-returns-4
 returns-4 c =

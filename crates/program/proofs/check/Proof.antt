@@ -2,7 +2,7 @@
 use mathlib.Core.Path.{sym, ap, _∙_}
 use borrow.Author.Needs.{needs}
 use Rattle.refusal.proofs.Laws.Rules.{still-refused, still-answered}
-use Rattle.tape.specs.Layout.{readingOf}
+use Rattle.tape.specs.Layout.{headerOutcomeOf}
 use Rattle.program.proofs.check.Statement.{statement}
 use Rattle.program.proofs.check.Tie as tie
 
@@ -16,10 +16,10 @@ enum-known-header : tie.Need-enum-known-header
 enum-known-header c = search needs
 
 returns : tie.Need-returns
-returns c = sym (still-refused _ 0 _ (sym (c .before .before .before .accept .ensures) ∙ ap readingOf (c .before .e .given .1)))
+returns c = sym (still-refused _ 0 _ (sym (c .before .before .before .accept .ensures) ∙ ap headerOutcomeOf (c .before .e .given .1)))
 
 returns-2 : tie.Need-returns-2
-returns-2 c = sym (still-answered _ 0 _ (sym (c .before .before .before .accept .ensures) ∙ ap readingOf (c .before .header .given .1)))
+returns-2 c = sym (still-answered _ 0 _ (sym (c .before .before .before .accept .ensures) ∙ ap headerOutcomeOf (c .before .header .given .1)))
 
 pub check-spec : {M : Type 1} → statement M
 check-spec = tie.close (tie.spec accept-requires enum-known-e enum-known-header returns returns-2)

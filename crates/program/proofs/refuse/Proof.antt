@@ -2,7 +2,7 @@
 use mathlib.Core.Path.{refl, sym, ap, _∙_}
 use borrow.Author.Needs.{needs}
 use Rattle.refusal.specs.Outcomes.{gives}
-use Rattle.tape.specs.Layout.{readingOf}
+use Rattle.tape.specs.Layout.{headerOutcomeOf}
 use Rattle.tape.proofs.Laws.Reading.{read-answered, reading-refused, reading-passed}
 use Rattle.program.proofs.refuse.Statement.{statement}
 use Rattle.program.proofs.refuse.Tie as tie
@@ -17,11 +17,11 @@ enum-told : tie.Need-enum-told
 enum-told c = search needs
 
 returns : tie.Need-returns
-returns c = sym (reading-refused _ _ _ _ (sym (c .before .before .before .read .ensures) ∙ ap readingOf (c .before .first .given .1)))
+returns c = sym (reading-refused _ _ _ _ (sym (c .before .before .before .read .ensures) ∙ ap headerOutcomeOf (c .before .first .given .1)))
 
 returns-2 : tie.Need-returns-2
 returns-2 c =
-    let read = read-answered _ _ (sym (c .before .before .read .ensures) ∙ ap readingOf (c .enum-told .given .1)) in
+    let read = read-answered _ _ (sym (c .before .before .read .ensures) ∙ ap headerOutcomeOf (c .enum-told .given .1)) in
     sym (reading-passed _ _ _ _ read ∙ gives _ _ _ refl)
 
 pub refuse-spec : {M : Type 1} → statement M

@@ -6,9 +6,9 @@ use Prim.Native.Nat.{ℕ, _+_, _-_, _*_, _≤_}
 use native.Mathlib.Omega.{arith}
 use lib.ListN.{length, take, length-append, length-replicate, replicate-append-replicate}
 use lib.Seq.{take-at}
-use Rattle.refusal.specs.declared.Answer.{Answer}
-use Rattle.refusal.specs.declared.Answer.the-variants.{Value, Refused}
-use Rattle.refusal.specs.Outcomes.{outcomeOf}
+use Rattle.refusal.specs.declared.NumberAnswer.{NumberAnswer}
+use Rattle.refusal.specs.declared.NumberAnswer.the-variants.{Answered, Refused}
+use Rattle.refusal.specs.Outcomes.{numberOutcomeOf}
 use Rattle.refusal.specs.Rows.{Wrote}
 use Rattle.refusal.proofs.Laws.Rows.{wrote-length}
 use Rattle.text.specs.Text.{numberLine, numbersLine}
@@ -50,38 +50,38 @@ filled-part n room h =
 -- ---- build
 
 module _ (p r k variant : ℕ) (row : List ℕ) where
-  pub built-count : (answer : Answer) → outcomeOf answer ≡ buildOutcome p r k variant (length row) → countIn answer ≤ length row
-  built-count (Value n) e = omega (arith, build-count p r k variant (length row) n (sym e))
+  pub built-count : (answer : NumberAnswer) → numberOutcomeOf answer ≡ buildOutcome p r k variant (length row) → countIn answer ≤ length row
+  built-count (Answered n) e = omega (arith, build-count p r k variant (length row) n (sym e))
   built-count (Refused x) e = omega arith
 
-  pub built-as : (capacity : ℕ) (s : State) (answer : Answer) (refusal text : List ℕ) → outcomeOf answer ≡ buildOutcome p r k variant (length row)
-      → builtAs capacity s (outcomeOf answer) (take (countIn answer) (buildRow p r k variant row)) refusal text
+  pub built-as : (capacity : ℕ) (s : State) (answer : NumberAnswer) (refusal text : List ℕ) → numberOutcomeOf answer ≡ buildOutcome p r k variant (length row)
+      → builtAs capacity s (numberOutcomeOf answer) (take (countIn answer) (buildRow p r k variant row)) refusal text
       ≡ builtAs capacity s (buildOutcome p r k variant (length row)) (namedWords p r k variant) refusal text
-  built-as capacity s (Value n) refusal text e =
+  built-as capacity s (Answered n) refusal text e =
       rw (← e) (ap (λ (words : List ℕ). withTape capacity s words text) (build-words p r k variant n row (sym e)))
   built-as capacity s (Refused x) refusal text e = rw (← e)
 
-  pub did-built-into : {before after row′ : List ℕ} {x : Printed} (capacity own : ℕ) (v : List ℕ) (s : State) (answer : Answer)
-      → p ≡ at v 0 → r ≡ at v 1 → k ≡ at v 2 → variant ≡ at v 3 → outcomeOf answer ≡ buildOutcome p r k variant (length row)
+  pub did-built-into : {before after row′ : List ℕ} {x : Printed} (capacity own : ℕ) (v : List ℕ) (s : State) (answer : NumberAnswer)
+      → p ≡ at v 0 → r ≡ at v 1 → k ≡ at v 2 → variant ≡ at v 3 → numberOutcomeOf answer ≡ buildOutcome p r k variant (length row)
       → Did
-      (builtAs capacity s (outcomeOf answer) (take (countIn answer) (buildRow p r k variant row))
-      (printed own (outcomeOf answer) numberLine .text ++ numbersLine (buildRow p r k variant row))
-      (printed own (outcomeOf answer) numberLine .text ++ numbersLine (buildRow p r k variant row)))
+      (builtAs capacity s (numberOutcomeOf answer) (take (countIn answer) (buildRow p r k variant row))
+      (printed own (numberOutcomeOf answer) numberLine .text ++ numbersLine (buildRow p r k variant row))
+      (printed own (numberOutcomeOf answer) numberLine .text ++ numbersLine (buildRow p r k variant row)))
       before x row′ after
       → Did (buildInto capacity row own v s) before x row′ after
   unfolding buildInto
   did-built-into capacity own v s answer a b c d e did =
-      rw (← a, ← b, ← c, ← d) (rw e at (rw (built-as capacity s answer (printed own (outcomeOf answer) numberLine .text ++ numbersLine (buildRow p r k variant row)) (printed own (outcomeOf answer) numberLine .text ++ numbersLine (buildRow p r k variant row)) e) at did))
+      rw (← a, ← b, ← c, ← d) (rw e at (rw (built-as capacity s answer (printed own (numberOutcomeOf answer) numberLine .text ++ numbersLine (buildRow p r k variant row)) (printed own (numberOutcomeOf answer) numberLine .text ++ numbersLine (buildRow p r k variant row)) e) at did))
 
-  pub did-built-line : {before after row′ : List ℕ} {x : Printed} (capacity own : ℕ) (v : List ℕ) (s : State) (answer : Answer) → length row ≡ mostWords
-      → p ≡ at v 0 → r ≡ at v 1 → k ≡ at v 2 → variant ≡ at v 3 → outcomeOf answer ≡ buildOutcome p r k variant (length row)
+  pub did-built-line : {before after row′ : List ℕ} {x : Printed} (capacity own : ℕ) (v : List ℕ) (s : State) (answer : NumberAnswer) → length row ≡ mostWords
+      → p ≡ at v 0 → r ≡ at v 1 → k ≡ at v 2 → variant ≡ at v 3 → numberOutcomeOf answer ≡ buildOutcome p r k variant (length row)
       → Did
-      (builtAs capacity s (outcomeOf answer) (take (countIn answer) (buildRow p r k variant row)) (printed own (outcomeOf answer) numberLine .text)
+      (builtAs capacity s (numberOutcomeOf answer) (take (countIn answer) (buildRow p r k variant row)) (printed own (numberOutcomeOf answer) numberLine .text)
       (numbersLine (take (countIn answer) (buildRow p r k variant row))))
       before x row′ after
       → Did (buildLine capacity own v s) before x row′ after
   unfolding buildLine
-  did-built-line capacity own v s (Value n) size a b c d e did =
+  did-built-line capacity own v s (Answered n) size a b c d e did =
       rw (← a, ← b, ← c, ← d, ← size, ← e) (rw (build-words p r k variant n row (sym e)) at did)
   did-built-line capacity own v s (Refused x) size a b c d e did = rw (← a, ← b, ← c, ← d, ← size, ← e) did
 
@@ -106,14 +106,14 @@ pub put-list-in : {before after : List ℕ} {next : ℕ} (room : ℕ) (tape row 
 unfolding listIn
 put-list-in room tape row bytes e f p = rw f at (rw e at p)
 
-pub put-places-into : {before mid after : List ℕ} {told : Reply} {next : ℕ} (row : List ℕ) (n own : ℕ) (found : Answer)
+pub put-places-into : {before mid after : List ℕ} {told : Reply} {next : ℕ} (row : List ℕ) (n own : ℕ) (found : NumberAnswer)
     → length (placesRow n row) ≤ mostRoom
-    → outcomeOf found ≡ placesOutcome n (length row) → Told before (printed own (outcomeOf found) numberLine) told mid
+    → numberOutcomeOf found ≡ placesOutcome n (length row) → Told before (printed own (numberOutcomeOf found) numberLine) told mid
     → Put mid (told .length) (numbersLine (placesRow n row)) next after → length (numbersLine (placesRow n row)) ≤ 4 * length (placesRow n row) + 1
     → Prints before (placesInto row own (n ∷ [])) next after
 unfolding placesInto
 put-places-into row n own found size e told w few =
-    let text = printed own (outcomeOf found) numberLine .text in
+    let text = printed own (numberOutcomeOf found) numberLine .text in
     rw (← e)
     (puts-join (told .text) w, omega (arith, length-append text (numbersLine (placesRow n row)), told .short))
 

@@ -1,6 +1,6 @@
 -- `cut` meets its contract: what check refuses, cut refuses, and the rule past it is `cut_accepted`'s.
 use mathlib.Core.Path.{sym, ap, _∙_}
-use Rattle.tape.specs.Layout.{readingOf}
+use Rattle.tape.specs.Layout.{headerOutcomeOf}
 use Rattle.program.proofs.Laws.Door.{tape-refused}
 use Rattle.sequencer.specs.Services.{cutOutcome}
 use Rattle.sequencer.proofs.Laws.Cases.{cut-refused}
@@ -24,13 +24,13 @@ enum-known-header : tie.Need-enum-known-header
 enum-known-header c = search needs
 
 cut-accepted-requires : tie.Need-cut-accepted-requires
-cut-accepted-requires c κs = sym (c .before .before .before .before .accept .ensures) ∙ ap readingOf (c .before .before .header .given .1)
+cut-accepted-requires c κs = sym (c .before .before .before .before .accept .ensures) ∙ ap headerOutcomeOf (c .before .before .header .given .1)
 
 returns : tie.Need-returns
 unfolding cutOutcome
 returns c =
     let refusal = c .before .before .before in
-    cut-refused (tape-refused _ _ _ (sym (refusal .before .before .accept .ensures) ∙ ap readingOf (refusal .e .given .1))) (c .before .number .ensures)
+    cut-refused (tape-refused _ _ _ (sym (refusal .before .before .accept .ensures) ∙ ap headerOutcomeOf (refusal .e .given .1))) (c .before .number .ensures)
 
 returns-2 : tie.Need-returns-2
 returns-2 c = search needs

@@ -1,6 +1,6 @@
 -- `forward` meets its contract: what check refuses, load refuses, and an accepted tape is `forward_accepted`'s.
 use mathlib.Core.Path.{sym, ap, _∙_}
-use Rattle.tape.specs.Layout.{readingOf}
+use Rattle.tape.specs.Layout.{headerOutcomeOf}
 use Rattle.program.proofs.Laws.Door.{tape-refused}
 use Rattle.sequencer.specs.Services.{loadOutcome}
 use Rattle.sequencer.proofs.Laws.Forward.{forward-refused}
@@ -18,11 +18,11 @@ enum-known-header : tie.Need-enum-known-header
 enum-known-header c = search needs
 
 forward-accepted-requires : tie.Need-forward-accepted-requires
-forward-accepted-requires c κs = sym (c .before .before .before .accept .ensures) ∙ ap readingOf (c .before .header .given .1)
+forward-accepted-requires c κs = sym (c .before .before .before .accept .ensures) ∙ ap headerOutcomeOf (c .before .header .given .1)
 
 returns : tie.Need-returns
 unfolding loadOutcome
-returns c = sym (forward-refused _ _ (tape-refused _ _ _ (sym (c .before .before .before .accept .ensures) ∙ ap readingOf (c .before .e .given .1))))
+returns c = sym (forward-refused _ _ (tape-refused _ _ _ (sym (c .before .before .before .accept .ensures) ∙ ap headerOutcomeOf (c .before .e .given .1))))
 
 returns-2 : tie.Need-returns-2
 returns-2 c = search needs

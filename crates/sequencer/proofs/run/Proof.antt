@@ -1,6 +1,6 @@
 -- `run` meets its contract: what check refuses, run refuses, and the rules past it are `run_accepted`'s.
 use mathlib.Core.Path.{sym, ap, _∙_}
-use Rattle.tape.specs.Layout.{readingOf}
+use Rattle.tape.specs.Layout.{headerOutcomeOf}
 use Rattle.program.proofs.Laws.Door.{tape-refused}
 use Rattle.sequencer.specs.Services.{runOutcome}
 use borrow.Author.Needs.{needs}
@@ -17,11 +17,11 @@ enum-known-header : tie.Need-enum-known-header
 enum-known-header c = search needs
 
 run-accepted-requires : tie.Need-run-accepted-requires
-run-accepted-requires c κs = sym (c .before .before .before .accept .ensures) ∙ ap readingOf (c .before .header .given .1)
+run-accepted-requires c κs = sym (c .before .before .before .accept .ensures) ∙ ap headerOutcomeOf (c .before .header .given .1)
 
 returns : tie.Need-returns
 unfolding runOutcome
-returns c = sym (tape-refused _ _ _ (sym (c .before .before .before .accept .ensures) ∙ ap readingOf (c .before .e .given .1)))
+returns c = sym (tape-refused _ _ _ (sym (c .before .before .before .accept .ensures) ∙ ap headerOutcomeOf (c .before .e .given .1)))
 
 returns-2 : tie.Need-returns-2
 returns-2 c = search needs

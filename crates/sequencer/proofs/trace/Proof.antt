@@ -5,7 +5,7 @@ use mathlib.Core.List.{List}
 use Prim.Native.Nat.{ℕ}
 use lib.IntN.{ℤ}
 use Rattle.refusal.specs.Outcomes.{Outcome}
-use Rattle.tape.specs.Layout.{readingOf}
+use Rattle.tape.specs.Layout.{headerOutcomeOf}
 use Rattle.program.proofs.Laws.Door.{tape-refused}
 use Rattle.sequencer.specs.Services.{traceOutcome}
 use Rattle.sequencer.specs.Tracing.{NeverOutside, MeansPowers}
@@ -29,13 +29,13 @@ enum-known-header : tie.Need-enum-known-header
 enum-known-header c = search needs
 
 trace-accepted-requires : tie.Need-trace-accepted-requires
-trace-accepted-requires c κs = sym (c .before .before .before .accept .ensures) ∙ ap readingOf (c .before .header .given .1)
+trace-accepted-requires c κs = sym (c .before .before .before .accept .ensures) ∙ ap headerOutcomeOf (c .before .header .given .1)
 
 returns : tie.Need-returns
 unfolding traceOutcome
 returns c =
     let start = c .before .before .before .before .before in
-    said _ (start .args .position) _ (sym (tape-refused _ _ _ (sym (c .before .before .before .accept .ensures) ∙ ap readingOf (c .before .e .given .1))))
+    said _ (start .args .position) _ (sym (tape-refused _ _ _ (sym (c .before .before .before .accept .ensures) ∙ ap headerOutcomeOf (c .before .e .given .1))))
 
 returns-2 : tie.Need-returns-2
 returns-2 c = said _ _ _ (c .trace-accepted .ensures)

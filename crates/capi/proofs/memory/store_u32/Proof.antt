@@ -1,7 +1,7 @@
 -- `memory::store_u32` meets its contract: an arm for an answer, which fits, and one for a refusal.
 use mathlib.Core.Path.{ap}
 use borrow.Author.Needs.{needs}
-use Rattle.refusal.specs.Outcomes.{outcomeOf}
+use Rattle.refusal.specs.Outcomes.{numberOutcomeOf}
 use Rattle.capi.proofs.memory.store_u32.Statement.{statement}
 use Rattle.capi.proofs.memory.store_u32.Tie as tie
 
@@ -9,7 +9,7 @@ enum-known-answer : tie.Need-enum-known-answer
 enum-known-answer c = search needs
 
 cast-place : tie.Need-cast-place
-cast-place c = record { fits = c .before .before .before .pre _ (ap outcomeOf (c .before .answer .given .1)) }
+cast-place c = record { fits = c .before .before .before .pre _ (ap numberOutcomeOf (c .before .answer .given .1)) }
 
 enum-known-answer-2 : tie.Need-enum-known-answer-2
 enum-known-answer-2 c = search needs

@@ -4,7 +4,7 @@ use Prim.Native.Nat.{_≤_}
 use native.Mathlib.Omega.{arith}
 use lib.ListN.{length, take}
 use lib.Seq.{length-take-le}
-use Rattle.refusal.specs.Outcomes.{answered, outcomeOf}
+use Rattle.refusal.specs.Outcomes.{answered, numberOutcomeOf}
 use Rattle.tape.specs.Layout.{mostWords}
 use Rattle.encoding.specs.Encoding.{bytesOf}
 use Rattle.encoding.proofs.Laws.Bytes.{bytes-length}
@@ -18,7 +18,7 @@ use Rattle.command.proofs.numbers.build.Statement.{statement}
 use Rattle.command.proofs.numbers.build.Tie as tie
 
 made : (c : tie.After-answer) → buildOutcome (c .before .before .before .before .before .before .before .before .small .result) (c .before .before .before .before .before .before .before .small2 .result) (c .before .before .before .before .before .before .small3 .result) (c .before .before .before .before .before .small4 .result) mostWords ≡ answered (c .answer .given .0 .0)
-made c = sym (c .before .before .before .build .ensures .0) ∙ ap outcomeOf (c .answer .given .1)
+made c = sym (c .before .before .before .build .ensures .0) ∙ ap numberOutcomeOf (c .answer .given .1)
 
 words : (c : tie.After-answer)
     → take (c .answer .given .0 .0) (c .before .before .before .build .last .1 .1 .1 .1 .0) ≡ namedWords (c .before .before .before .before .before .before .before .before .small .result) (c .before .before .before .before .before .before .before .small2 .result) (c .before .before .before .before .before .before .small3 .result) (c .before .before .before .before .before .small4 .result)
@@ -85,7 +85,7 @@ same-length-2 c = search needs
 returns-2 : tie.Need-returns-2
 unfolding built
 returns-2 c =
-    rw (← c .before .before .before .before .before .before .before .before .before .before .before .before .before .before .small .ensures, ← c .before .before .before .before .before .before .before .before .before .before .before .before .before .small2 .ensures, ← c .before .before .before .before .before .before .before .before .before .before .before .before .small3 .ensures, ← c .before .before .before .before .before .before .before .before .before .before .before .small4 .ensures, sym (c .before .before .before .before .before .before .before .before .before .build .ensures .0) ∙ ap outcomeOf (c .before .before .before .before .before .before .answer2 .given .1), ← c .before .before .before .number .ensures)
+    rw (← c .before .before .before .before .before .before .before .before .before .before .before .before .before .before .small .ensures, ← c .before .before .before .before .before .before .before .before .before .before .before .before .before .small2 .ensures, ← c .before .before .before .before .before .before .before .before .before .before .before .before .small3 .ensures, ← c .before .before .before .before .before .before .before .before .before .before .before .small4 .ensures, sym (c .before .before .before .before .before .before .before .before .before .build .ensures .0) ∙ ap numberOutcomeOf (c .before .before .before .before .before .before .answer2 .given .1), ← c .before .before .before .number .ensures)
     (c .before .before .refuse .ensures)
 
 pub build-spec : {M : Type 1} → statement M

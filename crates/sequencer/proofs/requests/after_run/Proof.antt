@@ -3,8 +3,8 @@ use mathlib.Core.Path.{sym, ap}
 use borrow.Author.Needs.{needs}
 use Rattle.refusal.specs.Outcomes.{after}
 use Rattle.machine.specs.Machine.{valuesOf}
-use Rattle.sequencer.specs.declared.Standing.{Standing}
-use Rattle.sequencer.specs.Services.{standingOf}
+use Rattle.sequencer.specs.declared.RegistersAnswer.{RegistersAnswer}
+use Rattle.sequencer.specs.Services.{registersOutcomeOf}
 use Rattle.sequencer.proofs.requests.after_run.Statement.{statement}
 use Rattle.sequencer.proofs.requests.after_run.Tie as tie
 
@@ -15,10 +15,10 @@ enum-known-answer-2 : tie.Need-enum-known-answer-2
 enum-known-answer-2 c = search needs
 
 returns : tie.Need-returns
-returns c = sym (ap (λ (s : Standing). after (standingOf s) (valuesOf (c .before .before .before .args .registers))) (c .before .answer .given .1))
+returns c = sym (ap (λ (s : RegistersAnswer). after (registersOutcomeOf s) (valuesOf (c .before .before .before .args .registers))) (c .before .answer .given .1))
 
 returns-2 : tie.Need-returns-2
-returns-2 c = sym (ap (λ (s : Standing). after (standingOf s) (valuesOf (c .before .before .before .args .registers))) (c .before .answer2 .given .1))
+returns-2 c = sym (ap (λ (s : RegistersAnswer). after (registersOutcomeOf s) (valuesOf (c .before .before .before .args .registers))) (c .before .answer2 .given .1))
 
 pub after-run-spec : {M : Type 1} → statement M
 after-run-spec = tie.close (tie.spec enum-known-answer enum-known-answer-2 returns returns-2)
