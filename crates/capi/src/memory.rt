@@ -6,8 +6,8 @@ ghost use Rattle.refusal.specs.Outcomes.{answered, numberOutcomeOf, numberIn, a
 ghost use Rattle.machine.specs.Machine.{valuesOf};
 ghost use Rattle.machine.specs.Exponents.{exponentsOutcomeOf};
 ghost use Rattle.sequencer.specs.Services.{registersOutcomeOf};
-use machine::Registers;
 use machine::ExponentsAnswer;
+use machine::Registers;
 use refusal::NumberAnswer;
 use sequencer::RegistersAnswer;
 

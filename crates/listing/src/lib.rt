@@ -16,9 +16,9 @@ use lines::step_lines;
 use named::LONGEST_NAME;
 use refusal::Refusal;
 use tape::Header;
+use tape::HeaderAnswer;
 use tape::MOST_STEPS;
 use tape::MOST_WORDS;
-use tape::HeaderAnswer;
 use text::put;
 
 // How many bytes were written, and the refusal's number, which is 0 where the tape is accepted.

@@ -27,8 +27,8 @@ use parts::draw;
 use refusal::NumberAnswer;
 use refusal::Refusal;
 use tape::Header;
-use tape::MOST_WORDS;
 use tape::HeaderAnswer;
+use tape::MOST_WORDS;
 
 // Writes the named program for p, r, k and the variant into the row: 1, 2, 3, 4, 5, else the word count.
 pub fn build(p: u32, r: u32, k: u32, variant: u32, row: &mut [u32]) -> NumberAnswer

@@ -17,8 +17,8 @@ use conditions::is_bad_base;
 use conditions::is_bad_cut;
 use conditions::is_bad_register;
 use conditions::is_some_bad;
-use machine::Registers;
 use machine::ExponentsAnswer;
+use machine::Registers;
 use machine::exponents_of;
 use refusal::Refusal;
 use requests::after_run;
@@ -141,7 +141,13 @@ fn load_accepted(tape: &[u32], header: Header, base: u32) -> RegistersAnswer
 }
 
 // Run of a program that is accepted: 9, 10.
-fn run_accepted(tape: &[u32], header: Header, registers: Registers, from: u32, to: u32) -> RegistersAnswer
+fn run_accepted(
+    tape: &[u32],
+    header: Header,
+    registers: Registers,
+    from: u32,
+    to: u32,
+) -> RegistersAnswer
     requires { ⌜ acceptOutcome (now tape) ≡ answered header ⌝ }
     ensures { λ answer. ⌜ registersOutcomeOf answer ≡ runOutcome (now (tape .entry)) (valuesOf registers) from to ⌝ }
 {
@@ -164,7 +170,13 @@ fn forward_accepted(tape: &[u32], header: Header, base: u32) -> RegistersAnswer
 {
     match load_accepted(tape, header, base) {
         RegistersAnswer::Refused(e) => RegistersAnswer::Refused(e),
-        RegistersAnswer::Answered(registers) => run_accepted(tape, header, registers, 0, header.steps),
+        RegistersAnswer::Answered(registers) => run_accepted(
+            tape,
+            header,
+            registers,
+            0,
+            header.steps,
+        ),
     }
 }
 

@@ -5,18 +5,9 @@ use borrow.Author.Needs.{needs}
 use Rattle.arguments.proofs.parameter.Statement.{statement}
 use Rattle.arguments.proofs.parameter.Tie as tie
 
-is-variant-requires : tie.Need-is-variant-requires
-is-variant-requires c κs = search needs
-
-variant-requires : tie.Need-variant-requires
-variant-requires c κs = search needs
-
 returns : tie.Need-returns
 unfolding parameterIn
 returns c = rw (sym (c .before .before .is-variant .ensures) ∙ c .before .if1 .taken) (c .variant .ensures)
-
-number-requires : tie.Need-number-requires
-number-requires c κs = search needs
 
 returns-2 : tie.Need-returns-2
 unfolding parameterIn
@@ -24,4 +15,4 @@ returns-2 c = rw (sym (c .before .before .is-variant .ensures) ∙ c .before .if
 
 pub parameter-spec : {M : Type 1} → statement M
 parameter-spec =
-    tie.close (tie.spec is-variant-requires variant-requires returns number-requires returns-2)
+    tie.close (tie.spec (λ c κs. search needs) (λ c κs. search needs) returns (λ c κs. search needs) returns-2)

@@ -13,12 +13,6 @@ index : (c : tie.After-find) → c .find .result ≡ indexIn (c .before .before 
 unfolding names entries wordsOf
 index c = c .find .ensures
 
-slice-aggregate-find : tie.Need-slice-aggregate-find
-slice-aggregate-find c = search needs
-
-find-requires : tie.Need-find-requires
-find-requires c κs = search needs
-
 -- past the last name
 past : (c : tie.Then1) → length names ≤ indexIn (c .before .before .before .before .args .name .now) names
 unfolding names entries
@@ -26,12 +20,6 @@ past c = rw (← index (c .before)) (c .if1 .taken)
 
 returns : tie.Need-returns
 returns c = sym (row-nowhere (c .before .before .before .before .args .name .now) (past c))
-
-mul-result : tie.Need-mul-result
-mul-result c = search needs
-
-array-copy-out-result : tie.Need-array-copy-out-result
-array-copy-out-result c = search needs
 
 returns-2 : tie.Need-returns-2
 unfolding rowNamed rows entries
@@ -41,9 +29,9 @@ pub row-named-spec : {M : Type 1} → statement M
 row-named-spec =
     tie.close
     (tie.spec
-    slice-aggregate-find
-    find-requires
+    (λ c. search needs)
+    (λ c κs. search needs)
     returns
-    mul-result
-    array-copy-out-result
+    (λ c. search needs)
+    (λ c. search needs)
     returns-2)

@@ -47,28 +47,10 @@ module _ (c : tie.Else2) where
   short : length (getD (wordsAt (c .before)) 0 []) ≤ longestName
   short = name-short _ (getD (wordsAt (c .before)) 0 []) (rw (row (c .before)) at seen)
 
-word-count-requires : tie.Need-word-count-requires
-word-count-requires c κs = search needs
-
-without-parameters-requires : tie.Need-without-parameters-requires
-without-parameters-requires c κs = search needs
-
 returns : tie.Need-returns
 returns c =
     let none = sym (c .before .before .word-count .ensures) ∙ c .before .if1 .taken in
     rw (c .without-parameters .ensures .0) (record { asked = sym (asked-none _ _ none); inRange = omega arith; size = c .without-parameters .ensures .1 })
-
-word-requires : tie.Need-word-requires
-word-requires c κs = search needs
-
-row-named-requires : tie.Need-row-named-requires
-row-named-requires c κs = search needs
-
-is-hidden-requires : tie.Need-is-hidden-requires
-is-hidden-requires c κs = search needs
-
-without-parameters-requires-2 : tie.Need-without-parameters-requires-2
-without-parameters-requires-2 c κs = search needs
 
 returns-2 : tie.Need-returns-2
 returns-2 c =
@@ -76,21 +58,12 @@ returns-2 c =
     let hidden = sym (h .is-hidden .ensures) ∙ c .before .if2 .taken in
     rw (c .without-parameters2 .ensures .0) (record { asked = sym (asked-hidden _ (wordsAt h) (some h) _ (row h) hidden); inRange = omega arith; size = c .without-parameters2 .ensures .1 })
 
-sub-given : tie.Need-sub-given
-sub-given c = search needs
-
-without-parameters-requires-3 : tie.Need-without-parameters-requires-3
-without-parameters-requires-3 c κs = search needs
-
 returns-3 : tie.Need-returns-3
 returns-3 c =
     let e = c .before .before .before in
     let h = e .before in
     let few = asked-few _ (wordsAt h) (some h) _ (row h) (seen e) (rw (← count h) (c .before .if3 .taken)) in
     rw (c .without-parameters3 .ensures .0) (record { asked = rw (count h) (sym few); inRange = (short e, least h, most h, given h); size = c .without-parameters3 .ensures .1 })
-
-without-parameters-requires-4 : tie.Need-without-parameters-requires-4
-without-parameters-requires-4 c κs = search needs
 
 returns-4 : tie.Need-returns-4
 returns-4 c =
@@ -115,18 +88,18 @@ pub understand-spec : {M : Type 1} → statement M
 understand-spec =
     tie.close
     (tie.spec
-    word-count-requires
-    without-parameters-requires
+    (λ c κs. search needs)
+    (λ c κs. search needs)
     returns
-    word-requires
-    row-named-requires
-    is-hidden-requires
-    without-parameters-requires-2
+    (λ c κs. search needs)
+    (λ c κs. search needs)
+    (λ c κs. search needs)
+    (λ c κs. search needs)
     returns-2
-    sub-given
-    without-parameters-requires-3
+    (λ c. search needs)
+    (λ c κs. search needs)
     returns-3
-    without-parameters-requires-4
+    (λ c κs. search needs)
     returns-4
     parameters-requires
     returns-5)

@@ -19,26 +19,11 @@ count : (c : tie.After-word-count) → c .word-count .result ≡ length variantN
 unfolding wordsOf
 count c = c .word-count .ensures
 
-slice-aggregate-find : tie.Need-slice-aggregate-find
-slice-aggregate-find c = search needs
-
-find-requires : tie.Need-find-requires
-find-requires c κs = search needs
-
-slice-aggregate-word-count : tie.Need-slice-aggregate-word-count
-slice-aggregate-word-count c = search needs
-
-word-count-requires : tie.Need-word-count-requires
-word-count-requires c κs = search needs
-
 returns : tie.Need-returns
 unfolding variantIn
 returns c =
     let found = c .before .before .before in
     rw (← index found, lt-ltb (found .find .result) (length variantNames) (omega (arith, count (c .before))))
-
-number-requires : tie.Need-number-requires
-number-requires c κs = search needs
 
 returns-2 : tie.Need-returns-2
 unfolding variantIn
@@ -50,10 +35,10 @@ pub variant-spec : {M : Type 1} → statement M
 variant-spec =
     tie.close
     (tie.spec
-    slice-aggregate-find
-    find-requires
-    slice-aggregate-word-count
-    word-count-requires
+    (λ c. search needs)
+    (λ c κs. search needs)
+    (λ c. search needs)
+    (λ c κs. search needs)
     returns
-    number-requires
+    (λ c κs. search needs)
     returns-2)

@@ -9,17 +9,11 @@ use Rattle.sequencer.proofs.Laws.Answers.{Stands, cut-stands, cut-not}
 use Rattle.capi.proofs.fibexp_cut.Statement.{statement}
 use Rattle.capi.proofs.fibexp_cut.Tie as tie
 
-cut-requires : tie.Need-cut-requires
-cut-requires c κs = search needs
-
 returns : tie.Need-returns
 returns c =
     let number = c .before .cut .ensures .1 in
     let not = cut-not _ _ _ (λ zero. c .if1 .taken (number ∙ zero)) in
     (number, (sym (not _ .0), (sym (not _ .1), λ zero. absurd (c .if1 .taken zero))))
-
-step-index-requires : tie.Need-step-index-requires
-step-index-requires c κs = search needs
 
 -- where the number is 0
 stands : (c : tie.Else1) → let args = c .before .before .before .before .args in Stands (args .tape .now) (args .first) (args .last)
@@ -44,4 +38,4 @@ returns-2 c =
     )
 
 pub fibexp-cut-spec : {M : Type 1} → statement M
-fibexp-cut-spec = tie.close (tie.spec cut-requires returns step-index-requires cast-start cast-count returns-2)
+fibexp-cut-spec = tie.close (tie.spec (λ c κs. search needs) returns (λ c κs. search needs) cast-start cast-count returns-2)

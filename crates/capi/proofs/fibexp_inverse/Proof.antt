@@ -7,9 +7,6 @@ use Rattle.capi.proofs.Laws.Storing.{stored}
 use Rattle.capi.proofs.fibexp_inverse.Statement.{statement}
 use Rattle.capi.proofs.fibexp_inverse.Tie as tie
 
-inverse-requires : tie.Need-inverse-requires
-inverse-requires c κs = search needs
-
 store-u32-requires : tie.Need-store-u32-requires
 store-u32-requires c κs = λ x e. omega (arith, inverse-below _ _ (sym (c .before .inverse .ensures) ∙ e))
 
@@ -17,4 +14,4 @@ returns : tie.Need-returns
 returns c = stored _ (c .before .before .inverse .ensures) (c .store-u32 .ensures)
 
 pub fibexp-inverse-spec : {M : Type 1} → statement M
-fibexp-inverse-spec = tie.close (tie.spec inverse-requires store-u32-requires returns)
+fibexp-inverse-spec = tie.close (tie.spec (λ c κs. search needs) store-u32-requires returns)

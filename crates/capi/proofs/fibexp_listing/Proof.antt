@@ -7,12 +7,6 @@ use Rattle.listing.proofs.Laws.Lengths.{none-written, some-written}
 use Rattle.capi.proofs.fibexp_listing.Statement.{statement}
 use Rattle.capi.proofs.fibexp_listing.Tie as tie
 
-listing-requires : tie.Need-listing-requires
-listing-requires c κs = search needs
-
-same-length : tie.Need-same-length
-same-length c = search needs
-
 returns : tie.Need-returns
 returns c =
     let listed = c .before .before .before .before .listing .ensures in
@@ -23,13 +17,10 @@ cast-written c =
     let listed = c .before .before .before .before .before .listing .ensures in
     record { fits = omega (arith, some-written _ _ 0 _ (listed .0) (c .before .if1 .left) .1) }
 
-same-length-2 : tie.Need-same-length-2
-same-length-2 c = search needs
-
 returns-2 : tie.Need-returns-2
 returns-2 c =
     let listed = c .before .before .before .before .before .listing .ensures in
     (ap (λ (l : Listed). l .number) (listed .0), (listed .1, sym (some-written _ _ _ _ (listed .0) (c .before .if1 .left) .0)))
 
 pub fibexp-listing-spec : {M : Type 1} → statement M
-fibexp-listing-spec = tie.close (tie.spec listing-requires same-length returns cast-written same-length-2 returns-2)
+fibexp-listing-spec = tie.close (tie.spec (λ c κs. search needs) (λ c. search needs) returns cast-written (λ c. search needs) returns-2)

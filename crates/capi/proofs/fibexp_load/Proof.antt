@@ -4,14 +4,8 @@ use Rattle.capi.proofs.Laws.Storing.{stored}
 use Rattle.capi.proofs.fibexp_load.Statement.{statement}
 use Rattle.capi.proofs.fibexp_load.Tie as tie
 
-load-requires : tie.Need-load-requires
-load-requires c κs = search needs
-
-store-registers-requires : tie.Need-store-registers-requires
-store-registers-requires c κs = search needs
-
 returns : tie.Need-returns
 returns c = stored _ (c .before .before .load .ensures) (c .store-registers .ensures)
 
 pub fibexp-load-spec : {M : Type 1} → statement M
-fibexp-load-spec = tie.close (tie.spec load-requires store-registers-requires returns)
+fibexp-load-spec = tie.close (tie.spec (λ c κs. search needs) (λ c κs. search needs) returns)

@@ -7,17 +7,11 @@ use Rattle.capi.proofs.Laws.Storing.{stored-row}
 use Rattle.capi.proofs.fibexp_places.Statement.{statement}
 use Rattle.capi.proofs.fibexp_places.Tie as tie
 
-places-requires : tie.Need-places-requires
-places-requires c κs = search needs
-
 store-u32-requires : tie.Need-store-u32-requires
 store-u32-requires c κs = λ x e. omega (arith, places-most _ _ (omega arith) (sym (c .before .before .before .places .ensures .0) ∙ e))
-
-same-length : tie.Need-same-length
-same-length c = search needs
 
 returns : tie.Need-returns
 returns c = stored-row _ (c .before .before .before .before .places .ensures) (c .store-u32 .ensures)
 
 pub fibexp-places-spec : {M : Type 1} → statement M
-fibexp-places-spec = tie.close (tie.spec places-requires store-u32-requires same-length returns)
+fibexp-places-spec = tie.close (tie.spec (λ c κs. search needs) store-u32-requires (λ c. search needs) returns)

@@ -5,9 +5,6 @@ use Rattle.tool.specs.Replies.{bit}
 use Rattle.capi.proofs.fibexp_reads.Statement.{statement}
 use Rattle.capi.proofs.fibexp_reads.Tie as tie
 
-reads-tape-requires : tie.Need-reads-tape-requires
-reads-tape-requires c κs = search needs
-
 returns : tie.Need-returns
 returns c = ap bit (sym (c .if1 .taken) ∙ c .before .reads-tape .ensures)
 
@@ -15,4 +12,4 @@ returns-2 : tie.Need-returns-2
 returns-2 c = ap bit (sym (c .if1 .left) ∙ c .before .reads-tape .ensures)
 
 pub fibexp-reads-spec : {M : Type 1} → statement M
-fibexp-reads-spec = tie.close (tie.spec reads-tape-requires returns returns-2)
+fibexp-reads-spec = tie.close (tie.spec (λ c κs. search needs) returns returns-2)

@@ -8,15 +8,6 @@ use Rattle.capi.proofs.Laws.Storing.{stored}
 use Rattle.capi.proofs.fibexp_run.Statement.{statement}
 use Rattle.capi.proofs.fibexp_run.Tie as tie
 
-registers-in-requires : tie.Need-registers-in-requires
-registers-in-requires c κs = search needs
-
-run-requires : tie.Need-run-requires
-run-requires c κs = search needs
-
-store-registers-requires : tie.Need-store-registers-requires
-store-registers-requires c κs = search needs
-
 returns : tie.Need-returns
 returns c =
     let ran = c .before .before in
@@ -24,4 +15,4 @@ returns c =
     stored _ (ran .run .ensures ∙ ap (λ (v : List ℕ). runOutcome (start .tape .now) v (start .from) (start .to)) (ran .before .registers-in .ensures)) (c .store-registers .ensures)
 
 pub fibexp-run-spec : {M : Type 1} → statement M
-fibexp-run-spec = tie.close (tie.spec registers-in-requires run-requires store-registers-requires returns)
+fibexp-run-spec = tie.close (tie.spec (λ c κs. search needs) (λ c κs. search needs) (λ c κs. search needs) returns)

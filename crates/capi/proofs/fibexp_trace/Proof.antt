@@ -4,14 +4,8 @@ use Rattle.capi.proofs.Laws.Storing.{stored}
 use Rattle.capi.proofs.fibexp_trace.Statement.{statement}
 use Rattle.capi.proofs.fibexp_trace.Tie as tie
 
-trace-requires : tie.Need-trace-requires
-trace-requires c κs = search needs
-
-store-exponents-requires : tie.Need-store-exponents-requires
-store-exponents-requires c κs = search needs
-
 returns : tie.Need-returns
 returns c = stored _ (c .before .before .trace .ensures .0) (c .store-exponents .ensures)
 
 pub fibexp-trace-spec : {M : Type 1} → statement M
-fibexp-trace-spec = tie.close (tie.spec trace-requires store-exponents-requires returns)
+fibexp-trace-spec = tie.close (tie.spec (λ c κs. search needs) (λ c κs. search needs) returns)

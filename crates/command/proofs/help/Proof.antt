@@ -5,14 +5,8 @@ use borrow.Author.Needs.{needs}
 use Rattle.command.proofs.help.Statement.{statement}
 use Rattle.command.proofs.help.Tie as tie
 
-put-usage-requires : tie.Need-put-usage-requires
-put-usage-requires c κs = search needs
-
-same-length : tie.Need-same-length
-same-length c = search needs
-
 returns : tie.Need-returns
 returns c = record { status = refl; text = c .before .before .put-usage .ensures; short = usage-most }
 
 pub help-spec : {M : Type 1} → statement M
-help-spec = tie.close (tie.spec put-usage-requires same-length returns)
+help-spec = tie.close (tie.spec (λ c κs. search needs) (λ c. search needs) returns)

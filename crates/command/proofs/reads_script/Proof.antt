@@ -4,15 +4,9 @@ use borrow.Author.Needs.{needs}
 use Rattle.command.proofs.reads_script.Statement.{statement}
 use Rattle.command.proofs.reads_script.Tie as tie
 
-verb-in-requires : tie.Need-verb-in-requires
-verb-in-requires c κs = search needs
-
-takes-lines-requires : tie.Need-takes-lines-requires
-takes-lines-requires c κs = search needs
-
 returns : tie.Need-returns
 unfolding readsScript
 returns c = rw (← c .before .verb-in .ensures) (c .takes-lines .ensures)
 
 pub reads-script-spec : {M : Type 1} → statement M
-reads-script-spec = tie.close (tie.spec verb-in-requires takes-lines-requires returns)
+reads-script-spec = tie.close (tie.spec (λ c κs. search needs) (λ c κs. search needs) returns)

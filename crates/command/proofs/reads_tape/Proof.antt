@@ -4,15 +4,9 @@ use borrow.Author.Needs.{needs}
 use Rattle.command.proofs.reads_tape.Statement.{statement}
 use Rattle.command.proofs.reads_tape.Tie as tie
 
-verb-in-requires : tie.Need-verb-in-requires
-verb-in-requires c κs = search needs
-
-takes-tape-requires : tie.Need-takes-tape-requires
-takes-tape-requires c κs = search needs
-
 returns : tie.Need-returns
 unfolding readsTape
 returns c = rw (← c .before .verb-in .ensures) (c .takes-tape .ensures)
 
 pub reads-tape-spec : {M : Type 1} → statement M
-reads-tape-spec = tie.close (tie.spec verb-in-requires takes-tape-requires returns)
+reads-tape-spec = tie.close (tie.spec (λ c κs. search needs) (λ c κs. search needs) returns)

@@ -18,20 +18,11 @@ read c = put-taken (c .tape-words .ensures) (words-most _)
 fits : (c : tie.After-tape-words) → c .tape-words .result ≤ length (c .tape-words .last .1 .0)
 fits c = put-inside (c .tape-words .ensures) (omega arith)
 
-tape-words-requires : tie.Need-tape-words-requires
-tape-words-requires c κs = search needs
-
 array-share-prefix-row : tie.Need-array-share-prefix-row
 array-share-prefix-row c = fits c
 
 slice-aggregate-tape : tie.Need-slice-aggregate-tape
 slice-aggregate-tape c = sym (length-take-le _ _ (fits (c .before)))
-
-reply-on-requires : tie.Need-reply-on-requires
-reply-on-requires c κs = search needs
-
-same-length : tie.Need-same-length
-same-length c = search needs
 
 returns : tie.Need-returns
 unfolding reply
@@ -41,9 +32,9 @@ pub reply-spec : {M : Type 1} → statement M
 reply-spec =
     tie.close
     (tie.spec
-    tape-words-requires
+    (λ c κs. search needs)
     array-share-prefix-row
     slice-aggregate-tape
-    reply-on-requires
-    same-length
+    (λ c κs. search needs)
+    (λ c. search needs)
     returns)

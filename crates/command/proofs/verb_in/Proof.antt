@@ -5,24 +5,6 @@ use borrow.Author.Needs.{needs}
 use Rattle.command.proofs.verb_in.Statement.{statement}
 use Rattle.command.proofs.verb_in.Tie as tie
 
-understand-requires : tie.Need-understand-requires
-understand-requires c κs = search needs
-
-enum-known-call : tie.Need-enum-known-call
-enum-known-call c = search needs
-
-enum-told : tie.Need-enum-told
-enum-told c = search needs
-
-enum-told-2 : tie.Need-enum-told-2
-enum-told-2 c = search needs
-
-enum-known-call-2 : tie.Need-enum-known-call-2
-enum-known-call-2 c = search needs
-
-enum-known-call-3 : tie.Need-enum-known-call-3
-enum-known-call-3 c = search needs
-
 returns : tie.Need-returns
 returns c = ap verbOf (rw (c .before .call .given .1) at (c .before .before .before .understand .ensures .asked))
 
@@ -42,12 +24,12 @@ pub verb-in-spec : {M : Type 1} → statement M
 verb-in-spec =
     tie.close
     (tie.spec
-    understand-requires
-    enum-known-call
-    enum-told
-    enum-told-2
-    enum-known-call-2
-    enum-known-call-3
+    (λ c κs. search needs)
+    (λ c. search needs)
+    (λ c. search needs)
+    (λ c. search needs)
+    (λ c. search needs)
+    (λ c. search needs)
     returns
     returns-2
     returns-3

@@ -13,12 +13,6 @@ returns c = told-by-least _ 2 (omega arith) (omega arith) (c .if1 .taken) (none-
 returns-2 : tie.Need-returns-2
 returns-2 c = told-by-least _ 3 (omega arith) (omega arith) (c .if2 .taken) (none-below-three _ (c .before .if1 .left))
 
-slice-aggregate-has-divisor-of : tie.Need-slice-aggregate-has-divisor-of
-slice-aggregate-has-divisor-of c = search needs
-
-has-divisor-of-requires : tie.Need-has-divisor-of-requires
-has-divisor-of-requires c κs = search needs
-
 returns-3 : tie.Need-returns-3
 unfolding covers dividedBy
 returns-3 c = told-by-table _ (c .before .before .before .if1 .left) (c .before .before .if2 .left) (c .has-divisor-of .ensures) refl
@@ -26,4 +20,4 @@ returns-3 c = told-by-table _ (c .before .before .before .if1 .left) (c .before 
 pub has-small-divisor-spec : {M : Type 1} → statement M
 has-small-divisor-spec =
     tie.close
-    (tie.spec returns returns-2 slice-aggregate-has-divisor-of has-divisor-of-requires returns-3)
+    (tie.spec returns returns-2 (λ c. search needs) (λ c κs. search needs) returns-3)

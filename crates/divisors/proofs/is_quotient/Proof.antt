@@ -9,19 +9,13 @@ returns : tie.Need-returns
 unfolding isQuotient
 returns c = simp (lt-leb _ _ (c .if1 .taken))
 
-rem-if2 : tie.Need-rem-if2
-rem-if2 c = search needs
-
 returns-2 : tie.Need-returns-2
 unfolding isQuotient
 returns-2 c = simp (le-leb _ _ (c .before .if1 .left), ne-eqb _ _ (c .if2 .taken))
-
-div-result : tie.Need-div-result
-div-result c = search needs
 
 returns-3 : tie.Need-returns-3
 unfolding isQuotient
 returns-3 c = simp (le-leb _ _ (c .before .if1 .left), eq-eqb _ _ (c .if2 .left))
 
 pub is-quotient-spec : {M : Type 1} → statement M
-is-quotient-spec = tie.close (tie.spec returns rem-if2 returns-2 div-result returns-3)
+is-quotient-spec = tie.close (tie.spec returns (λ c. search needs) returns-2 (λ c. search needs) returns-3)

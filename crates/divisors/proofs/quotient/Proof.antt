@@ -8,11 +8,5 @@ use Rattle.divisors.proofs.quotient.Tie as tie
 mul-result : tie.Need-mul-result
 mul-result c = record { fits = product-below 4294967296 (omega arith) (omega arith) }
 
-cast-result : tie.Need-cast-result
-cast-result c = search needs
-
-returns : tie.Need-returns
-returns c = search needs
-
 pub quotient-spec : {M : Type 1} → statement M
-quotient-spec = tie.close (tie.spec mul-result cast-result returns)
+quotient-spec = tie.close (tie.spec mul-result (λ c. search needs) (λ c. search needs))

@@ -5,19 +5,10 @@ use borrow.Author.Needs.{needs}
 use Rattle.driver.proofs.whole_line.Statement.{statement}
 use Rattle.driver.proofs.whole_line.Tie as tie
 
-line-requires : tie.Need-line-requires
-line-requires c κs = search needs
-
-same-length : tie.Need-same-length
-same-length c = search needs
-
-same-length-2 : tie.Need-same-length-2
-same-length-2 c = search needs
-
 returns : tie.Need-returns
 returns c =
     let did = c .before .before .before .before .line .ensures .0 in
     (put-taken (did .printed) (omega (arith, did .short, c .before .before .before .before .before .before .before .before .before .before .pre)), put-inside (did .printed) (omega arith))
 
 pub whole-line-spec : {M : Type 1} → statement M
-whole-line-spec = tie.close (tie.spec line-requires same-length same-length-2 returns)
+whole-line-spec = tie.close (tie.spec (λ c κs. search needs) (λ c. search needs) (λ c. search needs) returns)

@@ -11,11 +11,8 @@ returns c = rw (words-long _ (c .if1 .taken)) (put-none _ 0)
 returns-2 : tie.Need-returns-2
 returns-2 c = rw (words-odd _ (c .before .if1 .left) (c .if2 .taken)) (put-none _ 0)
 
-words-requires : tie.Need-words-requires
-words-requires c κs = search needs
-
 returns-3 : tie.Need-returns-3
 returns-3 c = rw (words-whole _ (c .before .before .before .if1 .left) (c .before .before .if2 .left)) (c .words .ensures)
 
 pub tape-words-spec : {M : Type 1} → statement M
-tape-words-spec = tie.close (tie.spec returns returns-2 words-requires returns-3)
+tape-words-spec = tie.close (tie.spec returns returns-2 (λ c κs. search needs) returns-3)

@@ -5,33 +5,6 @@ use borrow.Author.Needs.{needs}
 use Rattle.encoding.proofs.word_bytes.Statement.{statement}
 use Rattle.encoding.proofs.word_bytes.Tie as tie
 
-low-requires : tie.Need-low-requires
-low-requires c κs = search needs
-
-put-byte-requires : tie.Need-put-byte-requires
-put-byte-requires c κs = search needs
-
-low-requires-2 : tie.Need-low-requires-2
-low-requires-2 c κs = search needs
-
-put-byte-requires-2 : tie.Need-put-byte-requires-2
-put-byte-requires-2 c κs = search needs
-
-low-requires-3 : tie.Need-low-requires-3
-low-requires-3 c κs = search needs
-
-put-byte-requires-3 : tie.Need-put-byte-requires-3
-put-byte-requires-3 c κs = search needs
-
-low-requires-4 : tie.Need-low-requires-4
-low-requires-4 c κs = search needs
-
-put-byte-requires-4 : tie.Need-put-byte-requires-4
-put-byte-requires-4 c κs = search needs
-
-same-length : tie.Need-same-length
-same-length c = search needs
-
 returns : tie.Need-returns
 unfolding bytesOf
 returns c =
@@ -49,13 +22,13 @@ pub word-bytes-spec : {M : Type 1} → statement M
 word-bytes-spec =
     tie.close
     (tie.spec
-    low-requires
-    put-byte-requires
-    low-requires-2
-    put-byte-requires-2
-    low-requires-3
-    put-byte-requires-3
-    low-requires-4
-    put-byte-requires-4
-    same-length
+    (λ c κs. search needs)
+    (λ c κs. search needs)
+    (λ c κs. search needs)
+    (λ c κs. search needs)
+    (λ c κs. search needs)
+    (λ c κs. search needs)
+    (λ c κs. search needs)
+    (λ c κs. search needs)
+    (λ c. search needs)
     returns)

@@ -13,12 +13,9 @@ returns : tie.Need-returns
 unfolding fibonacciOutcome
 returns c = sym (gives Index [] _ (lt-ltb _ _ (c .if1 .taken)))
 
-fib-at-requires : tie.Need-fib-at-requires
-fib-at-requires c κs = search needs
-
 returns-2 : tie.Need-returns-2
 unfolding fibonacciOutcome
 returns-2 c = ap answered (c .fib-at .ensures) ∙ sym (passes Index [] _ (le-ltb _ _ (c .before .if1 .left)) ∙ answers _)
 
 pub fibonacci-spec : {M : Type 1} → statement M
-fibonacci-spec = tie.close (tie.spec returns fib-at-requires returns-2)
+fibonacci-spec = tie.close (tie.spec returns (λ c κs. search needs) returns-2)

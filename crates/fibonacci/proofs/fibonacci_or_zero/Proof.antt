@@ -9,12 +9,9 @@ returns : tie.Need-returns
 unfolding fibonacciOrZero
 returns c = rw (lt-leb _ 93 (c .if1 .taken))
 
-fib-at-requires : tie.Need-fib-at-requires
-fib-at-requires c κs = search needs
-
 returns-2 : tie.Need-returns-2
 unfolding fibonacciOrZero
 returns-2 c = rw (le-leb _ 93 (c .before .if1 .left)) (c .fib-at .ensures)
 
 pub fibonacci-or-zero-spec : {M : Type 1} → statement M
-fibonacci-or-zero-spec = tie.close (tie.spec returns fib-at-requires returns-2)
+fibonacci-or-zero-spec = tie.close (tie.spec returns (λ c κs. search needs) returns-2)

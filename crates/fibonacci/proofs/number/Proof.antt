@@ -12,9 +12,6 @@ use Rattle.fibonacci.specs.Services.{totalOutcome, numberOutcome}
 use Rattle.fibonacci.proofs.number.Statement.{statement}
 use Rattle.fibonacci.proofs.number.Tie as tie
 
-are-places-requires : tie.Need-are-places-requires
-are-places-requires c κs = search needs
-
 total-requires : tie.Need-total-requires
 total-requires c κs = sym (c .before .are-places .ensures) ∙ c .if1 .taken
 
@@ -31,4 +28,4 @@ unfolding numberOutcome
 returns-2 c = sym (gives Index _ _ (ap not (sym (c .before .are-places .ensures) ∙ c .if1 .left)))
 
 pub number-spec : {M : Type 1} → statement M
-number-spec = tie.close (tie.spec are-places-requires total-requires returns returns-2)
+number-spec = tie.close (tie.spec (λ c κs. search needs) total-requires returns returns-2)

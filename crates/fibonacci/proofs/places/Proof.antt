@@ -33,9 +33,6 @@ copied list row e f = f ∙ rw e (ap (λ (l : List ℕ). l ++ drop (length list)
 listed : (c : tie.After-zeckendorf) → take (c .zeckendorf .result .count) (c .zeckendorf .result .places) ≡ placesOf (c .before .before .args .n)
 listed c = front _ _ _ (c .zeckendorf .ensures .0) (c .zeckendorf .ensures .1)
 
-zeckendorf-requires : tie.Need-zeckendorf-requires
-zeckendorf-requires c κs = search needs
-
 returns : tie.Need-returns
 unfolding placesRow
 returns c =
@@ -55,9 +52,6 @@ slice-aggregate-copy c = c .before .before .before .zeckendorf .ensures .0 ∙ s
 copy-requires : tie.Need-copy-requires
 copy-requires c κs = omega (arith, c .before .before .before .before .zeckendorf .ensures .0, ap length (listed (c .before .before .before .before)))
 
-same-length : tie.Need-same-length
-same-length c = search needs
-
 returns-2 : tie.Need-returns-2
 unfolding placesRow
 returns-2 c =
@@ -72,10 +66,10 @@ pub places-spec : {M : Type 1} → statement M
 places-spec =
     tie.close
     (tie.spec
-    zeckendorf-requires
+    (λ c κs. search needs)
     returns
     array-share-prefix-list
     slice-aggregate-copy
     copy-requires
-    same-length
+    (λ c. search needs)
     returns-2)

@@ -6,15 +6,9 @@ use Rattle.lines.proofs.Laws.Numbers.{number-short}
 use Rattle.lines.proofs.number_line.Statement.{statement}
 use Rattle.lines.proofs.number_line.Tie as tie
 
-put-number-then-requires : tie.Need-put-number-then-requires
-put-number-then-requires c κs = search needs
-
-same-length : tie.Need-same-length
-same-length c = search needs
-
 returns : tie.Need-returns
 unfolding line
 returns c = (c .before .before .put-number-then .ensures, number-short (c .before .before .before .before .before .args .n) (omega (arith, c .before .before .before .before .before .fits .n)))
 
 pub number-line-spec : {M : Type 1} → statement M
-number-line-spec = tie.close (tie.spec put-number-then-requires same-length returns)
+number-line-spec = tie.close (tie.spec (λ c κs. search needs) (λ c. search needs) returns)

@@ -22,20 +22,11 @@ read c = put-taken (c .tape-words .ensures) (words-most _)
 fits : (c : tie.After-tape-words) → c .tape-words .result ≤ length (c .tape-words .last .1 .0)
 fits c = put-inside (c .tape-words .ensures) (omega arith)
 
-tape-words-requires : tie.Need-tape-words-requires
-tape-words-requires c κs = search needs
-
 array-share-prefix-tape : tie.Need-array-share-prefix-tape
 array-share-prefix-tape c = fits (c)
 
 slice-aggregate-list-tape : tie.Need-slice-aggregate-list-tape
 slice-aggregate-list-tape c = sym (length-take-le _ _ (fits (c .before)))
-
-list-tape-requires : tie.Need-list-tape-requires
-list-tape-requires c κs = search needs
-
-same-length : tie.Need-same-length
-same-length c = search needs
 
 returns : tie.Need-returns
 returns c =
@@ -47,9 +38,9 @@ pub list-bytes-spec : {M : Type 1} → statement M
 list-bytes-spec =
     tie.close
     (tie.spec
-    tape-words-requires
+    (λ c κs. search needs)
     array-share-prefix-tape
     slice-aggregate-list-tape
-    list-tape-requires
-    same-length
+    (λ c κs. search needs)
+    (λ c. search needs)
     returns)

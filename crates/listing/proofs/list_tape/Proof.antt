@@ -8,12 +8,6 @@ use Rattle.program.specs.Services.{acceptOutcome}
 use Rattle.listing.proofs.list_tape.Statement.{statement}
 use Rattle.listing.proofs.list_tape.Tie as tie
 
-accept-requires : tie.Need-accept-requires
-accept-requires c κs = search needs
-
-enum-known-e : tie.Need-enum-known-e
-enum-known-e c = search needs
-
 -- what check answered, for a refusal and for an accepted tape
 not-accepted : (c : tie.After-e) → acceptOutcome (c .before .before .before .before .before .args .tape .now) ≡ refused (numberOf (c .e .given .0 .0))
 not-accepted c = sym (c .before .before .accept .ensures) ∙ ap headerOutcomeOf (c .e .given .1)
@@ -21,23 +15,8 @@ not-accepted c = sym (c .before .before .accept .ensures) ∙ ap headerOutcomeOf
 accepted : (c : tie.After-header) → acceptOutcome (c .before .before .before .before .before .args .tape .now) ≡ answered (c .header .given .0 .0)
 accepted c = sym (c .before .before .accept .ensures) ∙ ap headerOutcomeOf (c .header .given .1)
 
-list-refusal-requires : tie.Need-list-refusal-requires
-list-refusal-requires c κs = search needs
-
-enum-known-header : tie.Need-enum-known-header
-enum-known-header c = search needs
-
-list-accepted-requires : tie.Need-list-accepted-requires
-list-accepted-requires c κs = search needs
-
-same-length : tie.Need-same-length
-same-length c = search needs
-
 returns : tie.Need-returns
 returns c = rw (not-accepted (c .before .before .before .before .before)) (c .before .before .list-refusal .ensures)
-
-same-length-2 : tie.Need-same-length-2
-same-length-2 c = search needs
 
 returns-2 : tie.Need-returns-2
 returns-2 c = rw (accepted (c .before .before .before .before .before)) (c .before .before .list-accepted .ensures)
@@ -46,12 +25,12 @@ pub list-tape-spec : {M : Type 1} → statement M
 list-tape-spec =
     tie.close
     (tie.spec
-    accept-requires
-    enum-known-e
-    list-refusal-requires
-    enum-known-header
-    list-accepted-requires
-    same-length
+    (λ c κs. search needs)
+    (λ c. search needs)
+    (λ c κs. search needs)
+    (λ c. search needs)
+    (λ c κs. search needs)
+    (λ c. search needs)
     returns
-    same-length-2
+    (λ c. search needs)
     returns-2)

@@ -14,15 +14,6 @@ use Rattle.listing.proofs.Laws.Lengths.{listing-most}
 use Rattle.listing.proofs.listing.Statement.{statement}
 use Rattle.listing.proofs.listing.Tie as tie
 
-slice-aggregate-list-bytes : tie.Need-slice-aggregate-list-bytes
-slice-aggregate-list-bytes c = search needs
-
-list-bytes-requires : tie.Need-list-bytes-requires
-list-bytes-requires c κs = search needs
-
-number-requires : tie.Need-number-requires
-number-requires c κs = search needs
-
 -- what was made: its length, and its bytes
 count : (c : tie.After-list-bytes) → c .list-bytes .result .written ≡ length (listingOf (c .before .before .before .before .args .bytes .now))
 count c = put-fits (c .list-bytes .ensures .0) (rw zero-add (listing-most _)) .next-is ∙ zero-add _
@@ -42,12 +33,6 @@ array-share-prefix-text c = fits (c .before .before .before)
 slice-aggregate-put : tie.Need-slice-aggregate-put
 slice-aggregate-put c = sym (length-take-le _ _ (fits (c .before .before .before .before)))
 
-put-requires : tie.Need-put-requires
-put-requires c κs = search needs
-
-same-length : tie.Need-same-length
-same-length c = search needs
-
 returns-2 : tie.Need-returns-2
 returns-2 c =
     let else = c .before .before .before .before .before in
@@ -61,12 +46,12 @@ pub listing-spec : {M : Type 1} → statement M
 listing-spec =
     tie.close
     (tie.spec
-    slice-aggregate-list-bytes
-    list-bytes-requires
-    number-requires
+    (λ c. search needs)
+    (λ c κs. search needs)
+    (λ c κs. search needs)
     returns
     array-share-prefix-text
     slice-aggregate-put
-    put-requires
-    same-length
+    (λ c κs. search needs)
+    (λ c. search needs)
     returns-2)

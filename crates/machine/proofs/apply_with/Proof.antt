@@ -26,51 +26,6 @@ swp-is : (p t s : ℕ) (v w after : List ℕ) (step : Step) → step ≡ Swp t s
 unfolding applyWith apply
 swp-is p t s v w after step e set = rw e set
 
-enum-known-step : tie.Need-enum-known-step
-enum-known-step c = search needs
-
-register-requires : tie.Need-register-requires
-register-requires c κs = search needs
-
-register-requires-2 : tie.Need-register-requires-2
-register-requires-2 c κs = search needs
-
-multiply-requires : tie.Need-multiply-requires
-multiply-requires c κs = search needs
-
-multiply-requires-2 : tie.Need-multiply-requires-2
-multiply-requires-2 c κs = search needs
-
-enum-known-step-2 : tie.Need-enum-known-step-2
-enum-known-step-2 c = search needs
-
-register-requires-3 : tie.Need-register-requires-3
-register-requires-3 c κs = search needs
-
-register-requires-4 : tie.Need-register-requires-4
-register-requires-4 c κs = search needs
-
-multiply-requires-3 : tie.Need-multiply-requires-3
-multiply-requires-3 c κs = search needs
-
-multiply-requires-4 : tie.Need-multiply-requires-4
-multiply-requires-4 c κs = search needs
-
-enum-known-step-3 : tie.Need-enum-known-step-3
-enum-known-step-3 c = search needs
-
-exchange-requires : tie.Need-exchange-requires
-exchange-requires c κs = search needs
-
-exchange-requires-2 : tie.Need-exchange-requires-2
-exchange-requires-2 c κs = search needs
-
-same-length : tie.Need-same-length
-same-length c = search needs
-
-same-length-2 : tie.Need-same-length-2
-same-length-2 c = search needs
-
 returns : tie.Need-returns
 returns c =
     let inverses = c .before .before in
@@ -81,12 +36,6 @@ returns c =
       mul-is _ _ _ _ _ _ _ _ step (first .register .ensures) (values .multiply .ensures),
       mul-is _ _ _ _ _ _ _ _ step (second .register2 .ensures) (inverses .multiply2 .ensures),
     )
-
-same-length-3 : tie.Need-same-length-3
-same-length-3 c = search needs
-
-same-length-4 : tie.Need-same-length-4
-same-length-4 c = search needs
 
 returns-2 : tie.Need-returns-2
 returns-2 c =
@@ -99,12 +48,6 @@ returns-2 c =
       div-is _ _ _ _ _ _ _ _ step (first .register3 .ensures) (inverses .multiply4 .ensures),
     )
 
-same-length-5 : tie.Need-same-length-5
-same-length-5 c = search needs
-
-same-length-6 : tie.Need-same-length-6
-same-length-6 c = search needs
-
 returns-3 : tie.Need-returns-3
 returns-3 c =
     let inverses = c .before .before in
@@ -116,25 +59,25 @@ pub apply-with-spec : {M : Type 1} → statement M
 apply-with-spec =
     tie.close
     (tie.spec
-    enum-known-step
-    register-requires
-    register-requires-2
-    multiply-requires
-    multiply-requires-2
-    enum-known-step-2
-    register-requires-3
-    register-requires-4
-    multiply-requires-3
-    multiply-requires-4
-    enum-known-step-3
-    exchange-requires
-    exchange-requires-2
-    same-length
-    same-length-2
+    (λ c. search needs)
+    (λ c κs. search needs)
+    (λ c κs. search needs)
+    (λ c κs. search needs)
+    (λ c κs. search needs)
+    (λ c. search needs)
+    (λ c κs. search needs)
+    (λ c κs. search needs)
+    (λ c κs. search needs)
+    (λ c κs. search needs)
+    (λ c. search needs)
+    (λ c κs. search needs)
+    (λ c κs. search needs)
+    (λ c. search needs)
+    (λ c. search needs)
     returns
-    same-length-3
-    same-length-4
+    (λ c. search needs)
+    (λ c. search needs)
     returns-2
-    same-length-5
-    same-length-6
+    (λ c. search needs)
+    (λ c. search needs)
     returns-3)

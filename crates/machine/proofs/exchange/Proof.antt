@@ -3,21 +3,6 @@ use borrow.Author.Needs.{needs}
 use Rattle.machine.proofs.exchange.Statement.{statement}
 use Rattle.machine.proofs.exchange.Tie as tie
 
-register-requires : tie.Need-register-requires
-register-requires c κs = search needs
-
-register-requires-2 : tie.Need-register-requires-2
-register-requires-2 c κs = search needs
-
-set-register-requires : tie.Need-set-register-requires
-set-register-requires c κs = search needs
-
-set-register-requires-2 : tie.Need-set-register-requires-2
-set-register-requires-2 c κs = search needs
-
-same-length : tie.Need-same-length
-same-length c = search needs
-
 returns : tie.Need-returns
 returns c =
     let after = c .before .before in
@@ -29,9 +14,9 @@ pub exchange-spec : {M : Type 1} → statement M
 exchange-spec =
     tie.close
     (tie.spec
-    register-requires
-    register-requires-2
-    set-register-requires
-    set-register-requires-2
-    same-length
+    (λ c κs. search needs)
+    (λ c κs. search needs)
+    (λ c κs. search needs)
+    (λ c κs. search needs)
+    (λ c. search needs)
     returns)

@@ -4,18 +4,6 @@ use Rattle.machine.proofs.Laws.Sums.{from-bits}
 use Rattle.machine.proofs.exponents_of.Statement.{statement}
 use Rattle.machine.proofs.exponents_of.Tie as tie
 
-exponent-requires : tie.Need-exponent-requires
-exponent-requires c κs = search needs
-
-exponent-requires-2 : tie.Need-exponent-requires-2
-exponent-requires-2 c κs = search needs
-
-exponent-requires-3 : tie.Need-exponent-requires-3
-exponent-requires-3 c κs = search needs
-
-exponent-requires-4 : tie.Need-exponent-requires-4
-exponent-requires-4 c κs = search needs
-
 returns : tie.Need-returns
 returns c =
     let third = c .before in
@@ -28,8 +16,8 @@ pub exponents-of-spec : {M : Type 1} → statement M
 exponents-of-spec =
     tie.close
     (tie.spec
-    exponent-requires
-    exponent-requires-2
-    exponent-requires-3
-    exponent-requires-4
+    (λ c κs. search needs)
+    (λ c κs. search needs)
+    (λ c κs. search needs)
+    (λ c κs. search needs)
     returns)

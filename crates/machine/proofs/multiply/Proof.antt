@@ -4,18 +4,6 @@ use Rattle.modular.specs.Residues.{times}
 use Rattle.machine.proofs.multiply.Statement.{statement}
 use Rattle.machine.proofs.multiply.Tie as tie
 
-register-requires : tie.Need-register-requires
-register-requires c κs = search needs
-
-product-requires : tie.Need-product-requires
-product-requires c κs = search needs
-
-set-register-requires : tie.Need-set-register-requires
-set-register-requires c κs = search needs
-
-same-length : tie.Need-same-length
-same-length c = search needs
-
 returns : tie.Need-returns
 unfolding times
 returns c =
@@ -26,4 +14,4 @@ returns c =
 pub multiply-spec : {M : Type 1} → statement M
 multiply-spec =
     tie.close
-    (tie.spec register-requires product-requires set-register-requires same-length returns)
+    (tie.spec (λ c κs. search needs) (λ c κs. search needs) (λ c κs. search needs) (λ c. search needs) returns)

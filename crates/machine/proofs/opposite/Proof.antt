@@ -5,15 +5,6 @@ use Rattle.machine.specs.Machine.{opposite}
 use Rattle.machine.proofs.opposite.Statement.{statement}
 use Rattle.machine.proofs.opposite.Tie as tie
 
-enum-known-step : tie.Need-enum-known-step
-enum-known-step c = search needs
-
-enum-known-step-2 : tie.Need-enum-known-step-2
-enum-known-step-2 c = search needs
-
-enum-known-step-3 : tie.Need-enum-known-step-3
-enum-known-step-3 c = search needs
-
 returns : tie.Need-returns
 unfolding opposite
 returns c = sym (ap opposite (c .before .step .given .1))
@@ -29,4 +20,4 @@ returns-3 c = sym (ap opposite (c .before .step3 .given .1))
 pub opposite-spec : {M : Type 1} → statement M
 opposite-spec =
     tie.close
-    (tie.spec enum-known-step enum-known-step-2 enum-known-step-3 returns returns-2 returns-3)
+    (tie.spec (λ c. search needs) (λ c. search needs) (λ c. search needs) returns returns-2 returns-3)

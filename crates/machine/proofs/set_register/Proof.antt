@@ -5,21 +5,9 @@ use borrow.Author.Needs.{needs}
 use Rattle.machine.proofs.set_register.Statement.{statement}
 use Rattle.machine.proofs.set_register.Tie as tie
 
-mul-values : tie.Need-mul-values
-mul-values c = search needs
-
-slice-write-values : tie.Need-slice-write-values
-slice-write-values c = search needs
-
-same-length : tie.Need-same-length
-same-length c = search needs
-
-returns : tie.Need-returns
-returns c = search needs
-
 returns-2 : tie.Need-returns-2
 returns-2 c = sym (set-out _ _ _ (c .if1 .left))
 
 pub set-register-spec : {M : Type 1} → statement M
 set-register-spec =
-    tie.close (tie.spec mul-values slice-write-values same-length returns returns-2)
+    tie.close (tie.spec (λ c. search needs) (λ c. search needs) (λ c. search needs) (λ c. search needs) returns-2)

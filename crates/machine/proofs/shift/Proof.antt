@@ -47,21 +47,6 @@ module _ (c : tie.After-is-difference-in-range) where
   difference-tested : inRange (c .before .before .before .exponent3 .result -ℤ c .before .exponent4 .result) ≡ c .is-difference-in-range .result
   difference-tested = sym (c .is-difference-in-range .ensures ∙ rw (difference-x, difference-y))
 
-enum-known-step : tie.Need-enum-known-step
-enum-known-step c = search needs
-
-exponent-requires : tie.Need-exponent-requires
-exponent-requires c κs = search needs
-
-exponent-requires-2 : tie.Need-exponent-requires-2
-exponent-requires-2 c κs = search needs
-
-is-sum-in-range-requires : tie.Need-is-sum-in-range-requires
-is-sum-in-range-requires c κs = search needs
-
-same-length : tie.Need-same-length
-same-length c = search needs
-
 returns : tie.Need-returns
 returns c = step-stops _ _ _ _ (sum-made (c .before)) (sum-tested (c .before) ∙ not-true _ (c .if1 .taken))
 
@@ -69,24 +54,6 @@ add-set-exponent : tie.Need-add-set-exponent
 add-set-exponent c =
     let test = c .before .before in
     rw (sum-x test, sum-y test) (range-fits _ (sum-tested test ∙ not-false _ (c .before .if1 .left)))
-
-set-exponent-requires : tie.Need-set-exponent-requires
-set-exponent-requires c κs = search needs
-
-enum-known-step-2 : tie.Need-enum-known-step-2
-enum-known-step-2 c = search needs
-
-exponent-requires-3 : tie.Need-exponent-requires-3
-exponent-requires-3 c κs = search needs
-
-exponent-requires-4 : tie.Need-exponent-requires-4
-exponent-requires-4 c κs = search needs
-
-is-difference-in-range-requires : tie.Need-is-difference-in-range-requires
-is-difference-in-range-requires c κs = search needs
-
-same-length-2 : tie.Need-same-length-2
-same-length-2 c = search needs
 
 returns-2 : tie.Need-returns-2
 returns-2 c = step-stops _ _ _ _ (difference-made (c .before)) (difference-tested (c .before) ∙ not-true _ (c .if2 .taken))
@@ -96,27 +63,6 @@ sub-set-exponent c =
     let test = c .before .before in
     rw (difference-x test, difference-y test) (range-fits _ (difference-tested test ∙ not-false _ (c .before .if2 .left)))
 
-set-exponent-requires-2 : tie.Need-set-exponent-requires-2
-set-exponent-requires-2 c κs = search needs
-
-enum-known-step-3 : tie.Need-enum-known-step-3
-enum-known-step-3 c = search needs
-
-exponent-requires-5 : tie.Need-exponent-requires-5
-exponent-requires-5 c κs = search needs
-
-exponent-requires-6 : tie.Need-exponent-requires-6
-exponent-requires-6 c κs = search needs
-
-set-exponent-requires-3 : tie.Need-set-exponent-requires-3
-set-exponent-requires-3 c κs = search needs
-
-set-exponent-requires-4 : tie.Need-set-exponent-requires-4
-set-exponent-requires-4 c κs = search needs
-
-same-length-3 : tie.Need-same-length-3
-same-length-3 c = search needs
-
 returns-3 : tie.Need-returns-3
 returns-3 c =
     let inside = c .before .before .before in
@@ -124,18 +70,12 @@ returns-3 c =
     let r = sum-tested test ∙ not-false _ (inside .if1 .left) in
     step-done _ _ _ _ (sum-made test) _ r (c .before .set-exponent .ensures ∙ rw (sum-x test, sum-y test, from-bits _ (range-fits _ r .sfits)))
 
-same-length-4 : tie.Need-same-length-4
-same-length-4 c = search needs
-
 returns-4 : tie.Need-returns-4
 returns-4 c =
     let inside = c .before .before .before in
     let test = inside .before in
     let r = difference-tested test ∙ not-false _ (inside .if2 .left) in
     step-done _ _ _ _ (difference-made test) _ r (c .before .set-exponent2 .ensures ∙ rw (difference-x test, difference-y test, from-bits _ (range-fits _ r .sfits)))
-
-same-length-5 : tie.Need-same-length-5
-same-length-5 c = search needs
 
 returns-5 : tie.Need-returns-5
 returns-5 c =
@@ -150,30 +90,30 @@ pub shift-spec : {M : Type 1} → statement M
 shift-spec =
     tie.close
     (tie.spec
-    enum-known-step
-    exponent-requires
-    exponent-requires-2
-    is-sum-in-range-requires
-    same-length
+    (λ c. search needs)
+    (λ c κs. search needs)
+    (λ c κs. search needs)
+    (λ c κs. search needs)
+    (λ c. search needs)
     returns
     add-set-exponent
-    set-exponent-requires
-    enum-known-step-2
-    exponent-requires-3
-    exponent-requires-4
-    is-difference-in-range-requires
-    same-length-2
+    (λ c κs. search needs)
+    (λ c. search needs)
+    (λ c κs. search needs)
+    (λ c κs. search needs)
+    (λ c κs. search needs)
+    (λ c. search needs)
     returns-2
     sub-set-exponent
-    set-exponent-requires-2
-    enum-known-step-3
-    exponent-requires-5
-    exponent-requires-6
-    set-exponent-requires-3
-    set-exponent-requires-4
-    same-length-3
+    (λ c κs. search needs)
+    (λ c. search needs)
+    (λ c κs. search needs)
+    (λ c κs. search needs)
+    (λ c κs. search needs)
+    (λ c κs. search needs)
+    (λ c. search needs)
     returns-3
-    same-length-4
+    (λ c. search needs)
     returns-4
-    same-length-5
+    (λ c. search needs)
     returns-5)

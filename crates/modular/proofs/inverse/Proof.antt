@@ -18,17 +18,11 @@ returns-2 c = sym (exponent-refused _ _ (omega arith) (bad-exponent _ _ (λ g. o
 returns-3 : tie.Need-returns-3
 returns-3 c = sym (exponent-refused _ _ (omega arith) (bad-exponent _ _ (λ g. omega (arith, g .high))))
 
-inverse-or-zero-requires : tie.Need-inverse-or-zero-requires
-inverse-or-zero-requires c κs = search needs
-
 returns-4 : tie.Need-returns-4
 returns-4 c =
     sym
     (exponent-refused _ _ (omega arith)
     (bad-exponent _ _ (λ g. omega (arith, c .before .inverse-or-zero .ensures, inverse-exists _ _ (omega arith) (g .coprime) .low))))
-
-cast-t9 : tie.Need-cast-t9
-cast-t9 c = search needs
 
 returns-5 : tie.Need-returns-5
 returns-5 c =
@@ -40,4 +34,4 @@ returns-5 c =
 pub inverse-spec : {M : Type 1} → statement M
 inverse-spec =
     tie.close
-    (tie.spec returns returns-2 returns-3 inverse-or-zero-requires returns-4 cast-t9 returns-5)
+    (tie.spec returns returns-2 returns-3 (λ c κs. search needs) returns-4 (λ c. search needs) returns-5)

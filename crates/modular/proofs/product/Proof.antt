@@ -14,9 +14,6 @@ returns c = sym (remainder-zero _ _ (c .if1 .taken))
 mul-result : tie.Need-mul-result
 mul-result c = record { fits = product-below 4294967296 (omega arith) (omega arith) }
 
-rem-result : tie.Need-rem-result
-rem-result c = search needs
-
 cast-result : tie.Need-cast-result
 cast-result c = record { fits = lt-trans (mod-lt _ (omega arith)) (omega arith) }
 
@@ -24,4 +21,4 @@ returns-2 : tie.Need-returns-2
 returns-2 c = sym (remainder-is _ _ (omega arith))
 
 pub product-spec : {M : Type 1} → statement M
-product-spec = tie.close (tie.spec returns mul-result rem-result cast-result returns-2)
+product-spec = tie.close (tie.spec returns mul-result (λ c. search needs) cast-result returns-2)

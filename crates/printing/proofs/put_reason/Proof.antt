@@ -20,33 +20,9 @@ reason : (c : tie.After-word2) → c .word2 .result .now ≡ getD (map ascii rea
 unfolding reasons wordsOf
 reason c = c .word2 .ensures
 
-slice-aggregate-word : tie.Need-slice-aggregate-word
-slice-aggregate-word c = search needs
-
-word-requires : tie.Need-word-requires
-word-requires c κs = search needs
-
-put-then-requires : tie.Need-put-then-requires
-put-then-requires c κs = search needs
-
-same-length : tie.Need-same-length
-same-length c = search needs
-
 returns : tie.Need-returns
 unfolding reasonFor
 returns c = let args = c .before .before .before .before .before .before .before .before .args in rw (eq-eqb (args .number) (args .own) (c .before .before .before .before .before .before .if1 .taken)) (rw (own-reason (c .before .before .before)) at (c .before .before .put-then .ensures))
-
-slice-aggregate-word-2 : tie.Need-slice-aggregate-word-2
-slice-aggregate-word-2 c = search needs
-
-word-requires-2 : tie.Need-word-requires-2
-word-requires-2 c κs = search needs
-
-put-then-requires-2 : tie.Need-put-then-requires-2
-put-then-requires-2 c κs = search needs
-
-same-length-2 : tie.Need-same-length-2
-same-length-2 c = search needs
 
 returns-2 : tie.Need-returns-2
 unfolding reasonFor
@@ -56,13 +32,13 @@ pub put-reason-spec : {M : Type 1} → statement M
 put-reason-spec =
     tie.close
     (tie.spec
-    slice-aggregate-word
-    word-requires
-    put-then-requires
-    same-length
+    (λ c. search needs)
+    (λ c κs. search needs)
+    (λ c κs. search needs)
+    (λ c. search needs)
     returns
-    slice-aggregate-word-2
-    word-requires-2
-    put-then-requires-2
-    same-length-2
+    (λ c. search needs)
+    (λ c κs. search needs)
+    (λ c κs. search needs)
+    (λ c. search needs)
     returns-2)

@@ -3,29 +3,8 @@ use borrow.Author.Needs.{needs}
 use Rattle.printing.proofs.standing.Statement.{statement}
 use Rattle.printing.proofs.standing.Tie as tie
 
-enum-known-answer : tie.Need-enum-known-answer
-enum-known-answer c = search needs
-
-registers-requires : tie.Need-registers-requires
-registers-requires c κs = search needs
-
-enum-known-answer-2 : tie.Need-enum-known-answer-2
-enum-known-answer-2 c = search needs
-
-number-requires : tie.Need-number-requires
-number-requires c κs = search needs
-
-refuse-requires : tie.Need-refuse-requires
-refuse-requires c κs = search needs
-
-same-length : tie.Need-same-length
-same-length c = search needs
-
 returns : tie.Need-returns
 returns c = rw (c .before .before .before .before .before .answer .given .1) (c .before .before .registers .ensures)
-
-same-length-2 : tie.Need-same-length-2
-same-length-2 c = search needs
 
 returns-2 : tie.Need-returns-2
 returns-2 c = rw (c .before .before .before .before .before .before .answer2 .given .1, ← c .before .before .before .number .ensures) (c .before .before .refuse .ensures)
@@ -34,12 +13,12 @@ pub standing-spec : {M : Type 1} → statement M
 standing-spec =
     tie.close
     (tie.spec
-    enum-known-answer
-    registers-requires
-    enum-known-answer-2
-    number-requires
-    refuse-requires
-    same-length
+    (λ c. search needs)
+    (λ c κs. search needs)
+    (λ c. search needs)
+    (λ c κs. search needs)
+    (λ c κs. search needs)
+    (λ c. search needs)
     returns
-    same-length-2
+    (λ c. search needs)
     returns-2)

@@ -6,31 +6,19 @@ use Rattle.program.proofs.Laws.Checking.{check-unmeasured}
 use Rattle.program.proofs.accept.Statement.{statement}
 use Rattle.program.proofs.accept.Tie as tie
 
-read-header-requires : tie.Need-read-header-requires
-read-header-requires c κs = search needs
-
-enum-known-e : tie.Need-enum-known-e
-enum-known-e c = search needs
-
-enum-known-header : tie.Need-enum-known-header
-enum-known-header c = search needs
-
 accept-measured-requires : tie.Need-accept-measured-requires
 accept-measured-requires c κs = sym (c .before .before .before .read-header .ensures) ∙ ap headerOutcomeOf (c .before .header .given .1)
 
 returns : tie.Need-returns
 returns c = sym (check-unmeasured _ _ _ (sym (c .before .before .before .read-header .ensures) ∙ ap headerOutcomeOf (c .before .e .given .1)))
 
-returns-2 : tie.Need-returns-2
-returns-2 c = search needs
-
 pub accept-spec : {M : Type 1} → statement M
 accept-spec =
     tie.close
     (tie.spec
-    read-header-requires
-    enum-known-e
-    enum-known-header
+    (λ c κs. search needs)
+    (λ c. search needs)
+    (λ c. search needs)
     accept-measured-requires
     returns
-    returns-2)
+    (λ c. search needs))

@@ -40,30 +40,9 @@ fits c = omega (arith, build-count _ _ _ _ _ _ (built c) .1, c .before .before .
 front : (c : tie.After-words) → take (c .words .given .0 .0) (row (c .before .before .before)) ≡ builtFor (header (c .before .before .before))
 front c = ap (take (c .words .given .0 .0)) (c .before .before .before .build .ensures .1) ∙ build-words _ _ _ _ _ _ (built c)
 
-is-unnamed-requires : tie.Need-is-unnamed-requires
-is-unnamed-requires c κs = search needs
-
 accept-unnamed-requires : tie.Need-accept-unnamed-requires
 accept-unnamed-requires c κs =
     ap (λ (h : Header). unnamed (h .variant)) (sym (measured _ _ (c .before .before .before .pre) .1)) ∙ sym (c .before .is-unnamed .ensures) ∙ c .if1 .taken
-
-returns : tie.Need-returns
-returns c = search needs
-
-slice-aggregate-build : tie.Need-slice-aggregate-build
-slice-aggregate-build c = search needs
-
-build-requires : tie.Need-build-requires
-build-requires c κs = search needs
-
-enum-known-e : tie.Need-enum-known-e
-enum-known-e c = search needs
-
-refuse-requires : tie.Need-refuse-requires
-refuse-requires c κs = search needs
-
-enum-known-words : tie.Need-enum-known-words
-enum-known-words c = search needs
 
 array-share-prefix-row : tie.Need-array-share-prefix-row
 array-share-prefix-row c = fits (c .before)
@@ -71,18 +50,12 @@ array-share-prefix-row c = fits (c .before)
 slice-aggregate-same : tie.Need-slice-aggregate-same
 slice-aggregate-same c = sym (length-take-le _ _ (fits (c .before .before)))
 
-same-requires : tie.Need-same-requires
-same-requires c κs = search needs
-
 -- the answer of `same` compares the tape with what build wrote
 compared : (c : tie.After-same) → sameWords (c .before .before .before .before .before .before .before .before .before .before .before .args .tape .now) (builtFor (header (c .before .before .before .before .before .before))) ≡ c .same .result
 compared c = sym (c .same .ensures ∙ ap (sameWords _) (front (c .before .before .before)))
 
 returns-2 : tie.Need-returns-2
 returns-2 c = check-same _ _ (c .before .before .before .before .before .before .before .before .before .before .before .before .pre) (named (c .before .before .before .before .before .before .before .before .before)) _ (built (c .before .before .before .before)) (compared (c .before) ∙ c .if2 .taken)
-
-refuse-requires-2 : tie.Need-refuse-requires-2
-refuse-requires-2 c κs = search needs
 
 returns-3 : tie.Need-returns-3
 returns-3 c = c .refuse .ensures ∙ check-not-built _ _ (c .before .before .before .before .before .before .before .before .before .before .pre) (named (c .before .before .before .before .before .before .before)) _ (not-built (c .before .before))
@@ -94,18 +67,18 @@ pub accept-measured-spec : {M : Type 1} → statement M
 accept-measured-spec =
     tie.close
     (tie.spec
-    is-unnamed-requires
+    (λ c κs. search needs)
     accept-unnamed-requires
-    returns
-    slice-aggregate-build
-    build-requires
-    enum-known-e
-    refuse-requires
-    enum-known-words
+    (λ c. search needs)
+    (λ c. search needs)
+    (λ c κs. search needs)
+    (λ c. search needs)
+    (λ c κs. search needs)
+    (λ c. search needs)
     array-share-prefix-row
     slice-aggregate-same
-    same-requires
+    (λ c κs. search needs)
     returns-2
-    refuse-requires-2
+    (λ c κs. search needs)
     returns-3
     returns-4)

@@ -13,22 +13,10 @@ use Rattle.program.proofs.accept_unnamed.Tie as tie
 read-as : (c : tie.After-header) → ReadAs (c .before .before .before .before .args .tape .now) (c .header .given .0 .0)
 read-as c = read-answered _ _ (sym (c .before .before .read .ensures) ∙ ap headerOutcomeOf (c .header .given .1))
 
-read-requires : tie.Need-read-requires
-read-requires c κs = search needs
-
-enum-known-e : tie.Need-enum-known-e
-enum-known-e c = search needs
-
-enum-known-header : tie.Need-enum-known-header
-enum-known-header c = search needs
-
 returns : tie.Need-returns
 returns c =
     let read = read-as (c .before .before .before) in
     sym (check-variant _ _ _ read (ap (λ (h : Header). unnamed (h .variant)) (read .header) ∙ c .before .before .before .before .before .before .before .pre) (c .if1 .taken))
-
-is-bad-modulus-requires : tie.Need-is-bad-modulus-requires
-is-bad-modulus-requires c κs = search needs
 
 returns-2 : tie.Need-returns-2
 returns-2 c = sym (check-free-modulus _ _ _ (read-as (c .before .before .before .before .before)) (c .before .before .if1 .left) (sym (c .before .is-bad-modulus .ensures) ∙ c .if2 .taken))
@@ -45,11 +33,11 @@ pub accept-unnamed-spec : {M : Type 1} → statement M
 accept-unnamed-spec =
     tie.close
     (tie.spec
-    read-requires
-    enum-known-e
-    enum-known-header
+    (λ c κs. search needs)
+    (λ c. search needs)
+    (λ c. search needs)
     returns
-    is-bad-modulus-requires
+    (λ c κs. search needs)
     returns-2
     returns-3
     returns-4)

@@ -23,9 +23,6 @@ exponent s = some-inverse _ _ (λ none. s .if3 .left (s .before .good-inverse .e
 variant : (s : tie.Else4) → unnamed (s .before .before .before .before .before .before .before .before .before .args .variant) ≡ false
 variant s = sym (s .before .is-unnamed .ensures) ∙ s .if4 .left
 
-is-bad-modulus-requires : tie.Need-is-bad-modulus-requires
-is-bad-modulus-requires c κs = search needs
-
 returns : tie.Need-returns
 returns c = modulus-refused _ _ _ _ _ (sym (c .before .is-bad-modulus .ensures) ∙ c .if1 .taken)
 
@@ -35,14 +32,8 @@ is-bad-order-requires c κs = omega (arith, good-modulus _ (modulus c) .low)
 returns-2 : tie.Need-returns-2
 returns-2 c = order-refused _ _ _ _ _ (modulus (c .before .before)) (sym (c .before .is-bad-order .ensures) ∙ c .if2 .taken)
 
-good-inverse-requires : tie.Need-good-inverse-requires
-good-inverse-requires c κs = search needs
-
 returns-3 : tie.Need-returns-3
 returns-3 c = exponent-refused _ _ _ _ _ (modulus (c .before .before .before .before)) (order (c .before .before)) (no-inverse _ _ (sym (c .before .good-inverse .ensures) ∙ c .if3 .taken))
-
-is-unnamed-requires : tie.Need-is-unnamed-requires
-is-unnamed-requires c κs = search needs
 
 returns-4 : tie.Need-returns-4
 returns-4 c =
@@ -59,9 +50,6 @@ write-requires c κs =
     let s = c .before .before .before .before in
     (writable _ _ _ (modulus (s .before .before .before .before)) (order (s .before .before)) (exponent s) _ (variant (c .before .before)), c .before .forms .ensures)
 
-same-length : tie.Need-same-length
-same-length c = search needs
-
 returns-5 : tie.Need-returns-5
 returns-5 c =
     let s = c .before .before .before .before .before .before .before in
@@ -71,15 +59,15 @@ pub build-spec : {M : Type 1} → statement M
 build-spec =
     tie.close
     (tie.spec
-    is-bad-modulus-requires
+    (λ c κs. search needs)
     returns
     is-bad-order-requires
     returns-2
-    good-inverse-requires
+    (λ c κs. search needs)
     returns-3
-    is-unnamed-requires
+    (λ c κs. search needs)
     returns-4
     forms-requires
     write-requires
-    same-length
+    (λ c. search needs)
     returns-5)

@@ -6,15 +6,6 @@ use Rattle.tape.specs.Layout.{headerOutcomeOf}
 use Rattle.program.proofs.check.Statement.{statement}
 use Rattle.program.proofs.check.Tie as tie
 
-accept-requires : tie.Need-accept-requires
-accept-requires c κs = search needs
-
-enum-known-e : tie.Need-enum-known-e
-enum-known-e c = search needs
-
-enum-known-header : tie.Need-enum-known-header
-enum-known-header c = search needs
-
 returns : tie.Need-returns
 returns c = sym (still-refused _ 0 _ (sym (c .before .before .before .accept .ensures) ∙ ap headerOutcomeOf (c .before .e .given .1)))
 
@@ -22,4 +13,4 @@ returns-2 : tie.Need-returns-2
 returns-2 c = sym (still-answered _ 0 _ (sym (c .before .before .before .accept .ensures) ∙ ap headerOutcomeOf (c .before .header .given .1)))
 
 pub check-spec : {M : Type 1} → statement M
-check-spec = tie.close (tie.spec accept-requires enum-known-e enum-known-header returns returns-2)
+check-spec = tie.close (tie.spec (λ c κs. search needs) (λ c. search needs) (λ c. search needs) returns returns-2)

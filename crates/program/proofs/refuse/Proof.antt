@@ -7,15 +7,6 @@ use Rattle.tape.proofs.Laws.Reading.{read-answered, reading-refused, reading-pa
 use Rattle.program.proofs.refuse.Statement.{statement}
 use Rattle.program.proofs.refuse.Tie as tie
 
-read-requires : tie.Need-read-requires
-read-requires c κs = search needs
-
-enum-known-first : tie.Need-enum-known-first
-enum-known-first c = search needs
-
-enum-told : tie.Need-enum-told
-enum-told c = search needs
-
 returns : tie.Need-returns
 returns c = sym (reading-refused _ _ _ _ (sym (c .before .before .before .read .ensures) ∙ ap headerOutcomeOf (c .before .first .given .1)))
 
@@ -25,4 +16,4 @@ returns-2 c =
     sym (reading-passed _ _ _ _ read ∙ gives _ _ _ refl)
 
 pub refuse-spec : {M : Type 1} → statement M
-refuse-spec = tie.close (tie.spec read-requires enum-known-first enum-told returns returns-2)
+refuse-spec = tie.close (tie.spec (λ c κs. search needs) (λ c. search needs) (λ c. search needs) returns returns-2)

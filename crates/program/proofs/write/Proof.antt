@@ -31,22 +31,13 @@ cast-t12 c =
     let a = s .args in
     omega (arith, count-is (s .pre .0) (s .pre .1) (c .step-count .ensures), named-short (a .p) (a .r) (a .k) (a .variant) (s .pre .0), program-length (namedProgram (a .p) (a .r) (a .k) (a .variant)))
 
-word-count-requires : tie.Need-word-count-requires
-word-count-requires c κs = search needs
-
 returns : tie.Need-returns
 returns c =
     let s = c .before .before .before .before in
     built-short (s .pre .0) (s .pre .1) (header-is (c .before .before)) (omega (arith, c .if1 .taken, c .before .word-count .ensures))
 
-lay-out-requires : tie.Need-lay-out-requires
-lay-out-requires c κs = search needs
-
 draw-requires : tie.Need-draw-requires
 draw-requires c κs = let s = c .before .before .before .before .before .before .before .before .before in whole (s .pre .0) (s .pre .1)
-
-same-length : tie.Need-same-length
-same-length c = search needs
 
 returns-2 : tie.Need-returns-2
 returns-2 c =
@@ -61,9 +52,9 @@ write-spec =
     (tie.spec
     step-count-requires
     cast-t12
-    word-count-requires
+    (λ c κs. search needs)
     returns
-    lay-out-requires
+    (λ c κs. search needs)
     draw-requires
-    same-length
+    (λ c. search needs)
     returns-2)

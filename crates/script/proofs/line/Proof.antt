@@ -10,26 +10,11 @@ use Rattle.scripting.proofs.Laws.Judging.{inside-used, did-used}
 use Rattle.script.proofs.line.Statement.{statement}
 use Rattle.script.proofs.line.Tie as tie
 
-least-requires : tie.Need-least-requires
-least-requires c κs = search needs
-
-slice-relend-prefix-done : tie.Need-slice-relend-prefix-done
-slice-relend-prefix-done c = search needs
-
 slice-aggregate-done : tie.Need-slice-aggregate-done
 slice-aggregate-done c = sym (length-take-le (c .before .least .result) (c .before .before .before .before .before .args .tapes .now) (omega (arith, c .before .least .ensures)))
 
-inside-requires : tie.Need-inside-requires
-inside-requires c κs = search needs
-
 done-requires : tie.Need-done-requires
 done-requires c κs = rw (c .before .inside .ensures, c .before .before .before .least .ensures) (inside-used (c .before .before .before .before .before .before .before .args .marks) (c .before .before .before .before .before .before .before .args .tapes .now))
-
-same-length : tie.Need-same-length
-same-length c = search needs
-
-same-length-2 : tie.Need-same-length-2
-same-length-2 c = search needs
 
 returns : tie.Need-returns
 returns c = let row = c .before .before .before .before .before .before .before .before .before .before .before .before .args .tapes .now in
@@ -43,11 +28,11 @@ pub line-spec : {M : Type 1} → statement M
 line-spec =
     tie.close
     (tie.spec
-    least-requires
-    slice-relend-prefix-done
+    (λ c κs. search needs)
+    (λ c. search needs)
     slice-aggregate-done
-    inside-requires
+    (λ c κs. search needs)
     done-requires
-    same-length
-    same-length-2
+    (λ c. search needs)
+    (λ c. search needs)
     returns)

@@ -7,23 +7,11 @@ use borrow.Author.Needs.{needs}
 use Rattle.sequencer.proofs.cut_accepted.Statement.{statement}
 use Rattle.sequencer.proofs.cut_accepted.Tie as tie
 
-is-bad-cut-requires : tie.Need-is-bad-cut-requires
-is-bad-cut-requires c κs = search needs
-
-number-requires : tie.Need-number-requires
-number-requires c κs = search needs
-
-slice-aggregate-result : tie.Need-slice-aggregate-result
-slice-aggregate-result c = search needs
-
 returns : tie.Need-returns
 unfolding cutRules
 returns c =
     let test = c .before .before in
     cut-refused (cut-rules _ _ (test .before .before .before .pre) _ _ ∙ gives _ _ _ (sym (test .before .is-bad-cut .ensures) ∙ test .if1 .taken)) (c .before .number .ensures)
-
-step-words-requires : tie.Need-step-words-requires
-step-words-requires c κs = search needs
 
 returns-2 : tie.Need-returns-2
 unfolding cutRules
@@ -37,9 +25,9 @@ pub cut-accepted-spec : {M : Type 1} → statement M
 cut-accepted-spec =
     tie.close
     (tie.spec
-    is-bad-cut-requires
-    number-requires
-    slice-aggregate-result
+    (λ c κs. search needs)
+    (λ c κs. search needs)
+    (λ c. search needs)
     returns
-    step-words-requires
+    (λ c κs. search needs)
     returns-2)

@@ -8,15 +8,6 @@ use borrow.Author.Needs.{needs}
 use Rattle.sequencer.proofs.forward.Statement.{statement}
 use Rattle.sequencer.proofs.forward.Tie as tie
 
-accept-requires : tie.Need-accept-requires
-accept-requires c κs = search needs
-
-enum-known-e : tie.Need-enum-known-e
-enum-known-e c = search needs
-
-enum-known-header : tie.Need-enum-known-header
-enum-known-header c = search needs
-
 forward-accepted-requires : tie.Need-forward-accepted-requires
 forward-accepted-requires c κs = sym (c .before .before .before .accept .ensures) ∙ ap headerOutcomeOf (c .before .header .given .1)
 
@@ -24,16 +15,13 @@ returns : tie.Need-returns
 unfolding loadOutcome
 returns c = sym (forward-refused _ _ (tape-refused _ _ _ (sym (c .before .before .before .accept .ensures) ∙ ap headerOutcomeOf (c .before .e .given .1))))
 
-returns-2 : tie.Need-returns-2
-returns-2 c = search needs
-
 pub forward-spec : {M : Type 1} → statement M
 forward-spec =
     tie.close
     (tie.spec
-    accept-requires
-    enum-known-e
-    enum-known-header
+    (λ c κs. search needs)
+    (λ c. search needs)
+    (λ c. search needs)
     forward-accepted-requires
     returns
-    returns-2)
+    (λ c. search needs))

@@ -9,18 +9,6 @@ use Rattle.sequencer.proofs.Laws.Forward.{forward-refused, forward-load
 use Rattle.sequencer.proofs.forward_accepted.Statement.{statement}
 use Rattle.sequencer.proofs.forward_accepted.Tie as tie
 
-load-accepted-requires : tie.Need-load-accepted-requires
-load-accepted-requires c κs = search needs
-
-enum-known-e : tie.Need-enum-known-e
-enum-known-e c = search needs
-
-enum-known-registers : tie.Need-enum-known-registers
-enum-known-registers c = search needs
-
-run-accepted-requires : tie.Need-run-accepted-requires
-run-accepted-requires c κs = search needs
-
 returns : tie.Need-returns
 returns c = sym (forward-refused _ _ (sym (c .before .before .before .load-accepted .ensures) ∙ ap registersOutcomeOf (c .before .e .given .1)))
 
@@ -37,9 +25,9 @@ pub forward-accepted-spec : {M : Type 1} → statement M
 forward-accepted-spec =
     tie.close
     (tie.spec
-    load-accepted-requires
-    enum-known-e
-    enum-known-registers
-    run-accepted-requires
+    (λ c κs. search needs)
+    (λ c. search needs)
+    (λ c. search needs)
+    (λ c κs. search needs)
     returns
     returns-2)

@@ -7,15 +7,6 @@ use borrow.Author.Needs.{needs}
 use Rattle.sequencer.proofs.load.Statement.{statement}
 use Rattle.sequencer.proofs.load.Tie as tie
 
-accept-requires : tie.Need-accept-requires
-accept-requires c κs = search needs
-
-enum-known-e : tie.Need-enum-known-e
-enum-known-e c = search needs
-
-enum-known-header : tie.Need-enum-known-header
-enum-known-header c = search needs
-
 load-accepted-requires : tie.Need-load-accepted-requires
 load-accepted-requires c κs = sym (c .before .before .before .accept .ensures) ∙ ap headerOutcomeOf (c .before .header .given .1)
 
@@ -23,16 +14,13 @@ returns : tie.Need-returns
 unfolding loadOutcome
 returns c = sym (tape-refused _ _ _ (sym (c .before .before .before .accept .ensures) ∙ ap headerOutcomeOf (c .before .e .given .1)))
 
-returns-2 : tie.Need-returns-2
-returns-2 c = search needs
-
 pub load-spec : {M : Type 1} → statement M
 load-spec =
     tie.close
     (tie.spec
-    accept-requires
-    enum-known-e
-    enum-known-header
+    (λ c κs. search needs)
+    (λ c. search needs)
+    (λ c. search needs)
     load-accepted-requires
     returns
-    returns-2)
+    (λ c. search needs))

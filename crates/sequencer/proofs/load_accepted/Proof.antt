@@ -8,9 +8,6 @@ use Rattle.sequencer.proofs.Laws.Cases.{modulus-prime, load-rules}
 use Rattle.sequencer.proofs.load_accepted.Statement.{statement}
 use Rattle.sequencer.proofs.load_accepted.Tie as tie
 
-is-bad-register-requires : tie.Need-is-bad-register-requires
-is-bad-register-requires c κs = search needs
-
 returns : tie.Need-returns
 unfolding baseRules
 returns c = sym (load-rules _ _ (c .before .before .before .pre) _ ∙ gives _ _ _ (sym (c .before .is-bad-register .ensures) ∙ c .if1 .taken))
@@ -39,4 +36,4 @@ returns-3 c =
 
 pub load-accepted-spec : {M : Type 1} → statement M
 load-accepted-spec =
-    tie.close (tie.spec is-bad-register-requires returns is-bad-base-requires returns-2 returns-3)
+    tie.close (tie.spec (λ c κs. search needs) returns is-bad-base-requires returns-2 returns-3)

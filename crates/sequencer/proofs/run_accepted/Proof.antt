@@ -15,9 +15,6 @@ use Rattle.sequencer.proofs.Laws.Answers.{good-registers}
 use Rattle.sequencer.proofs.run_accepted.Statement.{statement}
 use Rattle.sequencer.proofs.run_accepted.Tie as tie
 
-is-some-bad-requires : tie.Need-is-some-bad-requires
-is-some-bad-requires c κs = search needs
-
 returns : tie.Need-returns
 unfolding travelRules
 returns c = sym (run-rules _ _ (c .before .before .before .pre) _ _ _ ∙ gives _ _ _ (sym (c .before .is-some-bad .ensures) ∙ c .if1 .taken))
@@ -39,9 +36,6 @@ returns-3 c =
     (run-rules _ _ (first .before .before .before .pre) _ _ _
     ∙ passes _ _ _ (sym (first .before .is-some-bad .ensures) ∙ first .if1 .left)
     ∙ gives _ _ _ (past-goal _ _ _ (c .if3 .taken)))
-
-steps-requires : tie.Need-steps-requires
-steps-requires c κs = search needs
 
 travel-requires : tie.Need-travel-requires
 travel-requires c κs =
@@ -70,10 +64,10 @@ pub run-accepted-spec : {M : Type 1} → statement M
 run-accepted-spec =
     tie.close
     (tie.spec
-    is-some-bad-requires
+    (λ c κs. search needs)
     returns
     returns-2
     returns-3
-    steps-requires
+    (λ c κs. search needs)
     travel-requires
     returns-4)

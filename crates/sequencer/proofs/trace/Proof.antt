@@ -19,15 +19,6 @@ said : (tape : List ℕ) (position : ℕ) (answer : Outcome (List ℤ)) → answ
 said tape position answer e =
     (e, (subst (NeverOutside tape) (sym e) (trace-inside tape position), subst (MeansPowers tape position) (sym e) (trace-powers tape position)))
 
-accept-requires : tie.Need-accept-requires
-accept-requires c κs = search needs
-
-enum-known-e : tie.Need-enum-known-e
-enum-known-e c = search needs
-
-enum-known-header : tie.Need-enum-known-header
-enum-known-header c = search needs
-
 trace-accepted-requires : tie.Need-trace-accepted-requires
 trace-accepted-requires c κs = sym (c .before .before .before .accept .ensures) ∙ ap headerOutcomeOf (c .before .header .given .1)
 
@@ -44,9 +35,9 @@ pub trace-spec : {M : Type 1} → statement M
 trace-spec =
     tie.close
     (tie.spec
-    accept-requires
-    enum-known-e
-    enum-known-header
+    (λ c κs. search needs)
+    (λ c. search needs)
+    (λ c. search needs)
     trace-accepted-requires
     returns
     returns-2)

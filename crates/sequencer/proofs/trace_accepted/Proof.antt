@@ -33,15 +33,6 @@ returns : tie.Need-returns
 unfolding traceRules
 returns c = sym (trace-rules _ _ (c .before .before .before .pre) _ ∙ gives _ _ _ (lt-ltb _ _ (c .if1 .taken)))
 
-steps-requires : tie.Need-steps-requires
-steps-requires c κs = search needs
-
-part-requires : tie.Need-part-requires
-part-requires c κs = search needs
-
-slice-aggregate-shift-all : tie.Need-slice-aggregate-shift-all
-slice-aggregate-shift-all c = search needs
-
 shift-all-requires : tie.Need-shift-all-requires
 shift-all-requires c κs = start-range
 
@@ -54,12 +45,6 @@ returns-2 c =
     let start = inside .before .before .before in
     let out = ap (λ (xs : List Step). staysInRange xs startExponents) (sym (walked part)) ∙ sym (shifted .shift-all .ensures .0) ∙ not-true _ (c .if2 .taken) in
     sym (trace-rules _ _ (start .pre) _ ∙ passes _ _ _ (le-ltb _ _ (inside .if1 .left)) ∙ gives _ _ _ (ap not out))
-
-slice-aggregate-exponents-of : tie.Need-slice-aggregate-exponents-of
-slice-aggregate-exponents-of c = search needs
-
-exponents-of-requires : tie.Need-exponents-of-requires
-exponents-of-requires c κs = search needs
 
 returns-3 : tie.Need-returns-3
 unfolding traceRules
@@ -84,11 +69,11 @@ trace-accepted-spec =
     tie.close
     (tie.spec
     returns
-    steps-requires
-    part-requires
-    slice-aggregate-shift-all
+    (λ c κs. search needs)
+    (λ c κs. search needs)
+    (λ c. search needs)
     shift-all-requires
     returns-2
-    slice-aggregate-exponents-of
-    exponents-of-requires
+    (λ c. search needs)
+    (λ c κs. search needs)
     returns-3)

@@ -24,18 +24,6 @@ nothing c =
       not-15 = n .1;
     }))
 
-heading-in-requires : tie.Need-heading-in-requires
-heading-in-requires c κs = search needs
-
-multiplication-in-requires : tie.Need-multiplication-in-requires
-multiplication-in-requires c κs = search needs
-
-division-in-requires : tie.Need-division-in-requires
-division-in-requires c κs = search needs
-
-swap-in-requires : tie.Need-swap-in-requires
-swap-in-requires c κs = search needs
-
 returns : tie.Need-returns
 unfolding decoded
 returns c = c .heading-in .ensures ∙ rw (c .before .match .keys1)
@@ -82,10 +70,10 @@ pub decode-spec : {M : Type 1} → statement M
 decode-spec =
     tie.close
     (tie.spec
-    heading-in-requires
-    multiplication-in-requires
-    division-in-requires
-    swap-in-requires
+    (λ c κs. search needs)
+    (λ c κs. search needs)
+    (λ c κs. search needs)
+    (λ c κs. search needs)
     returns
     returns-2
     returns-3

@@ -23,16 +23,10 @@ fit c = sym (c .before .numbers-fit .ensures) ∙ not-false _ (c .if2 .left)
 fits : (c : tie.Else2) → Fits (c .before .before .before .before .before .args .header)
 fits c = numbers-fit _ (fit c)
 
-word-count-requires : tie.Need-word-count-requires
-word-count-requires c κs = search needs
-
 returns : tie.Need-returns
 returns c =
     let args = c .before .before .before .args in
     none-laid (args .header) (args .row .now) (place-short _ _ (omega (arith, c .before .word-count .ensures, c .if1 .taken)))
-
-numbers-fit-requires : tie.Need-numbers-fit-requires
-numbers-fit-requires c κs = search needs
 
 returns-2 : tie.Need-returns-2
 returns-2 c =
@@ -51,17 +45,11 @@ add-row-2 c = let f = fits (c .before) in omega arith
 slice-write-row : tie.Need-slice-write-row
 slice-write-row c = let l = long (c .before .before .before) in omega arith
 
-mul-row-2 : tie.Need-mul-row-2
-mul-row-2 c = search needs
-
 add-row-3 : tie.Need-add-row-3
 add-row-3 c = let f = fits (c .before .before) in omega arith
 
 slice-write-row-2 : tie.Need-slice-write-row-2
 slice-write-row-2 c = let l = long (c .before .before .before .before) in simp length-set (omega arith)
-
-mul-row-3 : tie.Need-mul-row-3
-mul-row-3 c = search needs
 
 add-row-4 : tie.Need-add-row-4
 add-row-4 c = let f = fits (c .before .before .before) in omega arith
@@ -69,35 +57,17 @@ add-row-4 c = let f = fits (c .before .before .before) in omega arith
 slice-write-row-3 : tie.Need-slice-write-row-3
 slice-write-row-3 c = let l = long (c .before .before .before .before .before) in simp length-set (omega arith)
 
-mul-row-4 : tie.Need-mul-row-4
-mul-row-4 c = search needs
-
 add-row-5 : tie.Need-add-row-5
 add-row-5 c = let f = fits (c .before .before .before .before) in omega arith
 
 slice-write-row-4 : tie.Need-slice-write-row-4
 slice-write-row-4 c = let l = long (c .before .before .before .before .before .before) in simp length-set (omega arith)
 
-mul-row-5 : tie.Need-mul-row-5
-mul-row-5 c = search needs
-
 add-row-6 : tie.Need-add-row-6
 add-row-6 c = let f = fits (c .before .before .before .before .before) in omega arith
 
-cast-row : tie.Need-cast-row
-cast-row c = search needs
-
-add-row-7 : tie.Need-add-row-7
-add-row-7 c = search needs
-
-mul-row-6 : tie.Need-mul-row-6
-mul-row-6 c = search needs
-
 slice-write-row-5 : tie.Need-slice-write-row-5
 slice-write-row-5 c = let l = long (c .before .before .before .before .before .before .before .before) in simp length-set (omega arith)
-
-same-length : tie.Need-same-length
-same-length c = search needs
 
 returns-3 : tie.Need-returns-3
 unfolding encoded
@@ -109,28 +79,28 @@ pub lay-out-spec : {M : Type 1} → statement M
 lay-out-spec =
     tie.close
     (tie.spec
-    word-count-requires
+    (λ c κs. search needs)
     returns
-    numbers-fit-requires
+    (λ c κs. search needs)
     returns-2
     mul-row
     add-row
     add-row-2
     slice-write-row
-    mul-row-2
+    (λ c. search needs)
     add-row-3
     slice-write-row-2
-    mul-row-3
+    (λ c. search needs)
     add-row-4
     slice-write-row-3
-    mul-row-4
+    (λ c. search needs)
     add-row-5
     slice-write-row-4
-    mul-row-5
+    (λ c. search needs)
     add-row-6
-    cast-row
-    add-row-7
-    mul-row-6
+    (λ c. search needs)
+    (λ c. search needs)
+    (λ c. search needs)
     slice-write-row-5
-    same-length
+    (λ c. search needs)
     returns-3)

@@ -13,15 +13,6 @@ returns c =
     let args = c .before .before .args in
     sym (ap stepOf (means-past (args .words .now) (args .i) (c .if1 .taken)))
 
-mul-word : tie.Need-mul-word
-mul-word c = search needs
-
-shared-slice-read-word : tie.Need-shared-slice-read-word
-shared-slice-read-word c = search needs
-
-is-step-requires : tie.Need-is-step-requires
-is-step-requires c κs = search needs
-
 returns-2 : tie.Need-returns-2
 returns-2 c =
     let args = c .before .before .before .before .before .args in
@@ -38,9 +29,9 @@ nth-step-spec =
     tie.close
     (tie.spec
     returns
-    mul-word
-    shared-slice-read-word
-    is-step-requires
+    (λ c. search needs)
+    (λ c. search needs)
+    (λ c κs. search needs)
     returns-2
     step-in-requires
     returns-3)

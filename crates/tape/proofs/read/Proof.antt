@@ -29,14 +29,8 @@ laid c =
     (sym (words (c .before .before)) ∙ not-false _ (c .before .if4 .left))
     ∙ sym (c .is-end .ensures)
 
-is-length-requires : tie.Need-is-length-requires
-is-length-requires c κs = search needs
-
 returns : tie.Need-returns
 returns c = sym (read-length _ (sym (c .before .is-length .ensures) ∙ not-true _ (c .if1 .taken)))
-
-is-header-requires : tie.Need-is-header-requires
-is-header-requires c κs = search needs
 
 returns-2 : tie.Need-returns-2
 returns-2 c =
@@ -45,19 +39,10 @@ returns-2 c =
 header-of-requires : tie.Need-header-of-requires
 header-of-requires c κs = length-most _ (long (c .before .before))
 
-is-free-or-named-requires : tie.Need-is-free-or-named-requires
-is-free-or-named-requires c κs = search needs
-
 returns-3 : tie.Need-returns-3
 returns-3 c =
     let second = c .before .before .before in
     sym (read-word _ (long (second .before .before)) (laid-not-free _ (header second) (sym (free (c .before)) ∙ not-true _ (c .if3 .taken))))
-
-steps-requires : tie.Need-steps-requires
-steps-requires c κs = search needs
-
-are-steps-requires : tie.Need-are-steps-requires
-are-steps-requires c κs = search needs
 
 returns-4 : tie.Need-returns-4
 returns-4 c =
@@ -66,9 +51,6 @@ returns-4 c =
     sym
     (read-word _ (long (second .before .before))
     (laid-not-steps _ (header second) (sym (free (third .before)) ∙ not-false _ (third .if3 .left)) (sym (words (c .before)) ∙ not-true _ (c .if4 .taken))))
-
-is-end-requires : tie.Need-is-end-requires
-is-end-requires c κs = search needs
 
 returns-5 : tie.Need-returns-5
 returns-5 c =
@@ -84,16 +66,16 @@ pub read-spec : {M : Type 1} → statement M
 read-spec =
     tie.close
     (tie.spec
-    is-length-requires
+    (λ c κs. search needs)
     returns
-    is-header-requires
+    (λ c κs. search needs)
     returns-2
     header-of-requires
-    is-free-or-named-requires
+    (λ c κs. search needs)
     returns-3
-    steps-requires
-    are-steps-requires
+    (λ c κs. search needs)
+    (λ c κs. search needs)
     returns-4
-    is-end-requires
+    (λ c κs. search needs)
     returns-5
     returns-6)

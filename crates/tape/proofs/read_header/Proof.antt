@@ -12,9 +12,6 @@ use Rattle.tape.proofs.read_header.Tie as tie
 long : (c : tie.Else1) → isLength (c .before .before .before .args .tape .now) ≡ true
 long c = sym (c .before .is-length .ensures) ∙ not-false _ (c .if1 .left)
 
-is-length-requires : tie.Need-is-length-requires
-is-length-requires c κs = search needs
-
 returns : tie.Need-returns
 returns c = sym (header-length _ (sym (c .before .is-length .ensures) ∙ not-true _ (c .if1 .taken)))
 
@@ -25,4 +22,4 @@ returns-2 : tie.Need-returns-2
 returns-2 c = ap answered (c .header-of .ensures) ∙ sym (header-read _ (long (c .before)))
 
 pub read-header-spec : {M : Type 1} → statement M
-read-header-spec = tie.close (tie.spec is-length-requires returns header-of-requires returns-2)
+read-header-spec = tie.close (tie.spec (λ c κs. search needs) returns header-of-requires returns-2)

@@ -39,9 +39,6 @@ returns c = rw (difference c) (under c .one-more)
 cast-result-2 : tie.Need-cast-result-2
 cast-result-2 c = rw (read (c .before), over c .itself) (tt, record { fits = omega (arith, c .before .fits .n .sfits) })
 
-returns-2 : tie.Need-returns-2
-returns-2 c = search needs
-
 pub magnitude-spec : {M : Type 1} → statement M
 magnitude-spec =
-    tie.close (tie.spec sub-result cast-result add-result returns cast-result-2 returns-2)
+    tie.close (tie.spec sub-result cast-result add-result returns cast-result-2 (λ c. search needs))

@@ -11,9 +11,6 @@ use borrow.Author.Needs.{needs}
 use Rattle.text.proofs.number.Statement.{statement}
 use Rattle.text.proofs.number.Tie as tie
 
-is-hexadecimal-requires : tie.Need-is-hexadecimal-requires
-is-hexadecimal-requires c κs = search needs
-
 hexadecimal : (c : tie.Then1) → isHexadecimal (c .before .before .before .args .text .now) ≡ true
 hexadecimal c = sym (c .before .is-hexadecimal .ensures) ∙ c .if1 .taken
 
@@ -26,21 +23,12 @@ sub-in-base c = long c
 part-in-base-start : tie.Need-part-in-base-start
 part-in-base-start c = omega (arith, long c)
 
-part-in-base-end : tie.Need-part-in-base-end
-part-in-base-end c = search needs
-
-in-base-requires : tie.Need-in-base-requires
-in-base-requires c κs = search needs
-
 returns : tie.Need-returns
 returns c =
     let text = c .before .before .before .before .before .args .text .now in
     c .in-base .ensures
     ∙ ap (inBase 16 _) (take-all (length text - 2) (drop 2 text) (omega (arith, length-drop 2 text)))
     ∙ sym (number-hexadecimal _ text (hexadecimal (c .before .before)))
-
-in-base-requires-2 : tie.Need-in-base-requires-2
-in-base-requires-2 c κs = search needs
 
 returns-2 : tie.Need-returns-2
 returns-2 c =
@@ -51,11 +39,11 @@ pub number-spec : {M : Type 1} → statement M
 number-spec =
     tie.close
     (tie.spec
-    is-hexadecimal-requires
+    (λ c κs. search needs)
     sub-in-base
     part-in-base-start
-    part-in-base-end
-    in-base-requires
+    (λ c. search needs)
+    (λ c κs. search needs)
     returns
-    in-base-requires-2
+    (λ c κs. search needs)
     returns-2)

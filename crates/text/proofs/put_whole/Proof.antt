@@ -13,18 +13,6 @@ use Rattle.text.proofs.put_whole.Tie as tie
 read : (c : tie.Start) → toZ w64 (ofZ w64 (c .args .n)) ≡ c .args .n
 read c = toZ-ofZ w64 (c .args .n) (c .fits .n)
 
-put-byte-requires : tie.Need-put-byte-requires
-put-byte-requires c κs = search needs
-
-magnitude-requires : tie.Need-magnitude-requires
-magnitude-requires c κs = search needs
-
-put-number-requires : tie.Need-put-number-requires
-put-number-requires c κs = search needs
-
-same-length : tie.Need-same-length
-same-length c = search needs
-
 returns : tie.Need-returns
 returns c =
     let size = c .before .before .before in
@@ -33,15 +21,6 @@ returns c =
     let start = under .before .before in
     rw (below _ (rw (read start) at (under .if1 .taken)) .spelt)
     (puts-join (sign .put-byte .ensures) (rw (size .magnitude .ensures, read start) at (c .before .before .put-number .ensures)))
-
-magnitude-requires-2 : tie.Need-magnitude-requires-2
-magnitude-requires-2 c κs = search needs
-
-put-number-requires-2 : tie.Need-put-number-requires-2
-put-number-requires-2 c κs = search needs
-
-same-length-2 : tie.Need-same-length-2
-same-length-2 c = search needs
 
 returns-2 : tie.Need-returns-2
 returns-2 c =
@@ -54,12 +33,12 @@ pub put-whole-spec : {M : Type 1} → statement M
 put-whole-spec =
     tie.close
     (tie.spec
-    put-byte-requires
-    magnitude-requires
-    put-number-requires
-    same-length
+    (λ c κs. search needs)
+    (λ c κs. search needs)
+    (λ c κs. search needs)
+    (λ c. search needs)
     returns
-    magnitude-requires-2
-    put-number-requires-2
-    same-length-2
+    (λ c κs. search needs)
+    (λ c κs. search needs)
+    (λ c. search needs)
     returns-2)

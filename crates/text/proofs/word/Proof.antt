@@ -7,18 +7,6 @@ use Rattle.text.proofs.Laws.Words.{left, end-inside, word-at}
 use Rattle.text.proofs.word.Statement.{statement}
 use Rattle.text.proofs.word.Tie as tie
 
-word-begin-requires : tie.Need-word-begin-requires
-word-begin-requires c κs = search needs
-
-word-end-requires : tie.Need-word-end-requires
-word-end-requires c κs = search needs
-
-sub-result : tie.Need-sub-result
-sub-result c = search needs
-
-part-result-start : tie.Need-part-result-start
-part-result-start c = search needs
-
 part-result-end : tie.Need-part-result-end
 part-result-end c =
     let begin = c .before in
@@ -36,9 +24,9 @@ pub word-spec : {M : Type 1} → statement M
 word-spec =
     tie.close
     (tie.spec
-    word-begin-requires
-    word-end-requires
-    sub-result
-    part-result-start
+    (λ c κs. search needs)
+    (λ c κs. search needs)
+    (λ c. search needs)
+    (λ c. search needs)
     part-result-end
     returns)

@@ -31,56 +31,17 @@ fits c = omega (arith, build-count _ _ _ _ _ _ (made c) .1, c .before .before .b
 short : (c : tie.After-answer) → length (bytesOf (namedWords (c .before .before .before .before .before .before .before .before .small .result) (c .before .before .before .before .before .before .before .small2 .result) (c .before .before .before .before .before .before .small3 .result) (c .before .before .before .before .before .small4 .result))) ≤ mostText
 short c = rw (← words c, bytes-length (take (c .answer .given .0 .0) (c .before .before .before .build .last .1 .1 .1 .1 .0))) (omega (arith, length-take-le (c .answer .given .0 .0) (c .before .before .before .build .last .1 .1 .1 .1 .0) (fits c), build-count _ _ _ _ _ _ (made c) .1))
 
-small-requires : tie.Need-small-requires
-small-requires c κs = search needs
-
-small-requires-2 : tie.Need-small-requires-2
-small-requires-2 c κs = search needs
-
-small-requires-3 : tie.Need-small-requires-3
-small-requires-3 c κs = search needs
-
-small-requires-4 : tie.Need-small-requires-4
-small-requires-4 c κs = search needs
-
-slice-aggregate-build : tie.Need-slice-aggregate-build
-slice-aggregate-build c = search needs
-
-build-requires : tie.Need-build-requires
-build-requires c κs = search needs
-
-enum-known-answer : tie.Need-enum-known-answer
-enum-known-answer c = search needs
-
 array-share-prefix-row : tie.Need-array-share-prefix-row
 array-share-prefix-row c = fits (c .before .before)
 
 slice-aggregate-tape-bytes : tie.Need-slice-aggregate-tape-bytes
 slice-aggregate-tape-bytes c = sym (length-take-le _ _ (fits (c .before .before .before)))
 
-tape-bytes-requires : tie.Need-tape-bytes-requires
-tape-bytes-requires c κs = search needs
-
-enum-known-answer-2 : tie.Need-enum-known-answer-2
-enum-known-answer-2 c = search needs
-
-number-requires : tie.Need-number-requires
-number-requires c κs = search needs
-
-refuse-requires : tie.Need-refuse-requires
-refuse-requires c κs = search needs
-
-same-length : tie.Need-same-length
-same-length c = search needs
-
 returns : tie.Need-returns
 unfolding built
 returns c =
     rw (← c .before .before .before .before .before .before .before .before .before .before .before .before .before .before .small .ensures, ← c .before .before .before .before .before .before .before .before .before .before .before .before .before .small2 .ensures, ← c .before .before .before .before .before .before .before .before .before .before .before .before .small3 .ensures, ← c .before .before .before .before .before .before .before .before .before .before .before .small4 .ensures, made (c .before .before .before .before .before .before))
     (record { status = refl; text = rw (words (c .before .before .before .before .before .before)) at (c .before .before .tape-bytes .ensures); short = short (c .before .before .before .before .before .before) })
-
-same-length-2 : tie.Need-same-length-2
-same-length-2 c = search needs
 
 returns-2 : tie.Need-returns-2
 unfolding built
@@ -92,20 +53,20 @@ pub build-spec : {M : Type 1} → statement M
 build-spec =
     tie.close
     (tie.spec
-    small-requires
-    small-requires-2
-    small-requires-3
-    small-requires-4
-    slice-aggregate-build
-    build-requires
-    enum-known-answer
+    (λ c κs. search needs)
+    (λ c κs. search needs)
+    (λ c κs. search needs)
+    (λ c κs. search needs)
+    (λ c. search needs)
+    (λ c κs. search needs)
+    (λ c. search needs)
     array-share-prefix-row
     slice-aggregate-tape-bytes
-    tape-bytes-requires
-    enum-known-answer-2
-    number-requires
-    refuse-requires
-    same-length
+    (λ c κs. search needs)
+    (λ c. search needs)
+    (λ c κs. search needs)
+    (λ c κs. search needs)
+    (λ c. search needs)
     returns
-    same-length-2
+    (λ c. search needs)
     returns-2)

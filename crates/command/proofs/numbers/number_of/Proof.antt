@@ -12,26 +12,8 @@ use Rattle.command.proofs.numbers.number_of.Tie as tie
 taken : (c : tie.After-bytes) → take (c .bytes .result) (c .bytes .last .1 .0) ≡ c .before .before .before .before .args .values .now
 taken c = wrote-taken (c .bytes .ensures) (omega arith)
 
-slice-aggregate-bytes : tie.Need-slice-aggregate-bytes
-slice-aggregate-bytes c = search needs
-
-bytes-requires : tie.Need-bytes-requires
-bytes-requires c κs = search needs
-
-array-share-prefix-row : tie.Need-array-share-prefix-row
-array-share-prefix-row c = search needs
-
 slice-aggregate-number : tie.Need-slice-aggregate-number
 slice-aggregate-number c = rw (taken (c .before .before .before)) (omega (arith, c .before .before .before .bytes .ensures .next-is))
-
-number-requires : tie.Need-number-requires
-number-requires c κs = search needs
-
-answer-requires : tie.Need-answer-requires
-answer-requires c κs = search needs
-
-same-length : tie.Need-same-length
-same-length c = search needs
 
 returns : tie.Need-returns
 unfolding numberReply
@@ -41,11 +23,11 @@ pub number-of-spec : {M : Type 1} → statement M
 number-of-spec =
     tie.close
     (tie.spec
-    slice-aggregate-bytes
-    bytes-requires
-    array-share-prefix-row
+    (λ c. search needs)
+    (λ c κs. search needs)
+    (λ c. search needs)
     slice-aggregate-number
-    number-requires
-    answer-requires
-    same-length
+    (λ c κs. search needs)
+    (λ c κs. search needs)
+    (λ c. search needs)
     returns)

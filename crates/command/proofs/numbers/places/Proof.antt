@@ -20,20 +20,11 @@ inside c = omega (arith, c .zeckendorf .ensures .0, ap length (c .zeckendorf .en
 listed : (c : tie.After-zeckendorf) → take (c .zeckendorf .result .count) (c .zeckendorf .result .places) ≡ placesOf (c .before .before .args .n)
 listed c = rw (c .zeckendorf .ensures .1) (take-at (placesOf (c .before .before .args .n)) _ (c .zeckendorf .result .count) (sym (c .zeckendorf .ensures .0)))
 
-zeckendorf-requires : tie.Need-zeckendorf-requires
-zeckendorf-requires c κs = search needs
-
 array-share-prefix-bytes : tie.Need-array-share-prefix-bytes
 array-share-prefix-bytes c = inside (c .before .before)
 
 slice-aggregate-bytes-line : tie.Need-slice-aggregate-bytes-line
 slice-aggregate-bytes-line c = sym (length-take-le _ _ (inside (c .before .before .before)))
-
-bytes-line-requires : tie.Need-bytes-line-requires
-bytes-line-requires c κs = search needs
-
-same-length : tie.Need-same-length
-same-length c = search needs
 
 returns : tie.Need-returns
 unfolding numberReply
@@ -45,9 +36,9 @@ pub places-spec : {M : Type 1} → statement M
 places-spec =
     tie.close
     (tie.spec
-    zeckendorf-requires
+    (λ c κs. search needs)
     array-share-prefix-bytes
     slice-aggregate-bytes-line
-    bytes-line-requires
-    same-length
+    (λ c κs. search needs)
+    (λ c. search needs)
     returns)

@@ -6,26 +6,11 @@ use borrow.Author.Needs.{needs}
 use Rattle.command.proofs.tapes.cut.Statement.{statement}
 use Rattle.command.proofs.tapes.cut.Tie as tie
 
-cut-requires : tie.Need-cut-requires
-cut-requires c κs = search needs
-
-refuse-requires : tie.Need-refuse-requires
-refuse-requires c κs = search needs
-
-same-length : tie.Need-same-length
-same-length c = search needs
-
 returns : tie.Need-returns
 returns c =
     let a = c .before .before .before .before .before .before .before .before .before .args in
     let number = c .before .before .before .before .before .cut .ensures .1 in
     rw (by-number (cutOutcome (a .tape .now) (a .first) (a .last)) (λ zero. c .before .before .before .before .if1 .taken (number ∙ zero)), ← number) (c .before .before .refuse .ensures)
-
-numbers-line-requires : tie.Need-numbers-line-requires
-numbers-line-requires c κs = search needs
-
-same-length-2 : tie.Need-same-length-2
-same-length-2 c = search needs
 
 returns-2 : tie.Need-returns-2
 returns-2 c =
@@ -38,10 +23,10 @@ pub cut-spec : {M : Type 1} → statement M
 cut-spec =
     tie.close
     (tie.spec
-    cut-requires
-    refuse-requires
-    same-length
+    (λ c κs. search needs)
+    (λ c κs. search needs)
+    (λ c. search needs)
     returns
-    numbers-line-requires
-    same-length-2
+    (λ c κs. search needs)
+    (λ c. search needs)
     returns-2)

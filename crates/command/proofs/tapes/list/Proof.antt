@@ -6,14 +6,8 @@ use borrow.Author.Needs.{needs}
 use Rattle.command.proofs.tapes.list.Statement.{statement}
 use Rattle.command.proofs.tapes.list.Tie as tie
 
-list-tape-requires : tie.Need-list-tape-requires
-list-tape-requires c κs = search needs
-
-same-length : tie.Need-same-length
-same-length c = search needs
-
 returns : tie.Need-returns
 returns c = record { status = refl; text = c .before .before .list-tape .ensures .0; short = omega (arith, tape-listing-most (c .before .before .before .before .before .before .args .tape .now)) }
 
 pub list-spec : {M : Type 1} → statement M
-list-spec = tie.close (tie.spec list-tape-requires same-length returns)
+list-spec = tie.close (tie.spec (λ c κs. search needs) (λ c. search needs) returns)

@@ -8,20 +8,8 @@ use borrow.Author.Needs.{needs}
 use Rattle.command.proofs.values.past_registers.Statement.{statement}
 use Rattle.command.proofs.values.past_registers.Tie as tie
 
-slice-aggregate-result : tie.Need-slice-aggregate-result
-slice-aggregate-result c = search needs
-
 returns : tie.Need-returns
 returns c = sym (drop-of-length-le (c .before .before .args .values .now) {i = 4} (omega arith))
-
-sub-result : tie.Need-sub-result
-sub-result c = search needs
-
-part-result-start : tie.Need-part-result-start
-part-result-start c = search needs
-
-part-result-end : tie.Need-part-result-end
-part-result-end c = search needs
 
 returns-2 : tie.Need-returns-2
 returns-2 c = let v = c .before .before .args .values .now in take-all (length v - 4) (drop 4 v) (omega (arith, length-drop 4 v))
@@ -30,9 +18,9 @@ pub past-registers-spec : {M : Type 1} → statement M
 past-registers-spec =
     tie.close
     (tie.spec
-    slice-aggregate-result
+    (λ c. search needs)
     returns
-    sub-result
-    part-result-start
-    part-result-end
+    (λ c. search needs)
+    (λ c. search needs)
+    (λ c. search needs)
     returns-2)

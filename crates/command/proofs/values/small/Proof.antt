@@ -4,14 +4,8 @@ use borrow.Author.Needs.{needs}
 use Rattle.command.proofs.values.small.Statement.{statement}
 use Rattle.command.proofs.values.small.Tie as tie
 
-large-requires : tie.Need-large-requires
-large-requires c κs = search needs
-
 cast-result : tie.Need-cast-result
 cast-result c = omega (arith, c .large .ensures, c .before .before .pre (c .before .before .args .place))
 
-returns : tie.Need-returns
-returns c = search needs
-
 pub small-spec : {M : Type 1} → statement M
-small-spec = tie.close (tie.spec large-requires cast-result returns)
+small-spec = tie.close (tie.spec (λ c κs. search needs) cast-result (λ c. search needs))

@@ -6,9 +6,6 @@ use Rattle.fibonacci.proofs.Laws.Weights.{weighs-above, above-fits}
 use Rattle.fibonacci.proofs.weights.above.Statement.{statement}
 use Rattle.fibonacci.proofs.weights.above.Tie as tie
 
-add-t2 : tie.Need-add-t2
-add-t2 c = search needs
-
 add-t3 : tie.Need-add-t3
 add-t3 c = omega (arith, above-fits (c .before .before .pre .0) (c .before .before .pre .1))
 
@@ -16,4 +13,4 @@ returns : tie.Need-returns
 returns c = (weighs-above (c .before .before .pre .0), add-one _)
 
 pub above-spec : {M : Type 1} → statement M
-above-spec = tie.close (tie.spec add-t2 add-t3 returns)
+above-spec = tie.close (tie.spec (λ c. search needs) add-t3 returns)

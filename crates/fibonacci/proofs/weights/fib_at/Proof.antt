@@ -11,9 +11,6 @@ use Rattle.fibonacci.proofs.weights.fib_at.Tie as tie
 returns : tie.Need-returns
 returns c = sym (ap fib (c .if1 .taken) ∙ fib-zero)
 
-sub-climb : tie.Need-sub-climb
-sub-climb c = search needs
-
 climb-requires : tie.Need-climb-requires
 climb-requires c κs = (weighs-foot, (omega arith, omega (arith, c .before .pre)))
 
@@ -21,4 +18,4 @@ returns-2 : tie.Need-returns-2
 returns-2 c = c .climb .ensures .0 .weight-is ∙ ap fib (omega (arith, c .climb .ensures .1))
 
 pub fib-at-spec : {M : Type 1} → statement M
-fib-at-spec = tie.close (tie.spec returns sub-climb climb-requires returns-2)
+fib-at-spec = tie.close (tie.spec returns (λ c. search needs) climb-requires returns-2)

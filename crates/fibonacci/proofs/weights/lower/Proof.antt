@@ -5,9 +5,6 @@ use Rattle.fibonacci.proofs.Laws.Weights.{weighs-lower, below-at-most}
 use Rattle.fibonacci.proofs.weights.lower.Statement.{statement}
 use Rattle.fibonacci.proofs.weights.lower.Tie as tie
 
-sub-t2 : tie.Need-sub-t2
-sub-t2 c = search needs
-
 sub-t3 : tie.Need-sub-t3
 sub-t3 c = below-at-most (c .before .before .pre .0)
 
@@ -15,4 +12,4 @@ returns : tie.Need-returns
 returns c = (weighs-lower (c .before .before .pre .0) (c .before .before .pre .1), omega (arith, c .before .before .pre .1))
 
 pub lower-spec : {M : Type 1} → statement M
-lower-spec = tie.close (tie.spec sub-t2 sub-t3 returns)
+lower-spec = tie.close (tie.spec (λ c. search needs) sub-t3 returns)

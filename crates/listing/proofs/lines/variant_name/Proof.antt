@@ -10,21 +10,9 @@ name : (c : tie.After-word) → c .word .result .now ≡ variantName (c .before 
 unfolding wordsOf
 name c = c .word .ensures
 
-slice-aggregate-word : tie.Need-slice-aggregate-word
-slice-aggregate-word c = search needs
-
-word-requires : tie.Need-word-requires
-word-requires c κs = search needs
-
-put-then-requires : tie.Need-put-then-requires
-put-then-requires c κs = search needs
-
-same-length : tie.Need-same-length
-same-length c = search needs
-
 returns : tie.Need-returns
 returns c = rw (name (c .before .before .before)) at (c .before .before .put-then .ensures)
 
 pub variant-name-spec : {M : Type 1} → statement M
 variant-name-spec =
-    tie.close (tie.spec slice-aggregate-word word-requires put-then-requires same-length returns)
+    tie.close (tie.spec (λ c. search needs) (λ c κs. search needs) (λ c κs. search needs) (λ c. search needs) returns)

@@ -10,18 +10,6 @@ returns : tie.Need-returns
 unfolding fromText
 returns c = let args = c .before .before .args in rw (eq-eqb (args .least) (args .most) (c .if1 .taken)) (put-none _ _)
 
-put-number-requires : tie.Need-put-number-requires
-put-number-requires c κs = search needs
-
-slice-aggregate-put : tie.Need-slice-aggregate-put
-slice-aggregate-put c = search needs
-
-put-requires : tie.Need-put-requires
-put-requires c κs = search needs
-
-same-length : tie.Need-same-length
-same-length c = search needs
-
 returns-2 : tie.Need-returns-2
 unfolding fromText
 returns-2 c = let args = c .before .before .before .before .before .before .before .before .before .before .before .args in rw (ne-eqb (args .least) (args .most) (c .before .before .before .before .before .before .before .before .before .if1 .left)) (puts-join (c .before .before .before .before .before .before .before .put-number .ensures) (c .before .before .put .ensures))
@@ -29,4 +17,4 @@ returns-2 c = let args = c .before .before .before .before .before .before .befo
 pub put-from-spec : {M : Type 1} → statement M
 put-from-spec =
     tie.close
-    (tie.spec returns put-number-requires slice-aggregate-put put-requires same-length returns-2)
+    (tie.spec returns (λ c κs. search needs) (λ c. search needs) (λ c κs. search needs) (λ c. search needs) returns-2)

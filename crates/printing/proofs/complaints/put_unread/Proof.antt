@@ -9,44 +9,11 @@ use borrow.Author.Needs.{needs}
 use Rattle.printing.proofs.complaints.put_unread.Statement.{statement}
 use Rattle.printing.proofs.complaints.put_unread.Tie as tie
 
-slice-aggregate-put : tie.Need-slice-aggregate-put
-slice-aggregate-put c = search needs
-
-put-requires : tie.Need-put-requires
-put-requires c κs = search needs
-
-put-quoted-requires : tie.Need-put-quoted-requires
-put-quoted-requires c κs = search needs
-
-is-variant-requires : tie.Need-is-variant-requires
-is-variant-requires c κs = search needs
-
-slice-aggregate-put-then : tie.Need-slice-aggregate-put-then
-slice-aggregate-put-then c = search needs
-
-put-then-requires : tie.Need-put-then-requires
-put-then-requires c κs = search needs
-
-same-length : tie.Need-same-length
-same-length c = search needs
-
 returns : tie.Need-returns
 unfolding unreadText unreadLine variantsText listed decimal decimalWithin
 returns c =
     rw (sym (c .before .before .before .before .before .before .is-variant .ensures) ∙ c .before .before .before .before .before .if1 .taken)
     (puts-then (ascii ": no variant; " ++ variantsText) (newline ∷ []) (puts-join (c .before .before .before .before .before .before .before .before .before .before .before .before .before .put .ensures) (c .before .before .before .before .before .before .before .before .before .put-quoted .ensures)) (c .before .before .put-then .ensures))
-
-slice-aggregate-put-2 : tie.Need-slice-aggregate-put-2
-slice-aggregate-put-2 c = search needs
-
-put-requires-2 : tie.Need-put-requires-2
-put-requires-2 c κs = search needs
-
-put-number-then-requires : tie.Need-put-number-then-requires
-put-number-then-requires c κs = search needs
-
-same-length-2 : tie.Need-same-length-2
-same-length-2 c = search needs
 
 returns-2 : tie.Need-returns-2
 unfolding unreadText unreadLine
@@ -60,16 +27,16 @@ pub put-unread-spec : {M : Type 1} → statement M
 put-unread-spec =
     tie.close
     (tie.spec
-    slice-aggregate-put
-    put-requires
-    put-quoted-requires
-    is-variant-requires
-    slice-aggregate-put-then
-    put-then-requires
-    same-length
+    (λ c. search needs)
+    (λ c κs. search needs)
+    (λ c κs. search needs)
+    (λ c κs. search needs)
+    (λ c. search needs)
+    (λ c κs. search needs)
+    (λ c. search needs)
     returns
-    slice-aggregate-put-2
-    put-requires-2
-    put-number-then-requires
-    same-length-2
+    (λ c. search needs)
+    (λ c κs. search needs)
+    (λ c κs. search needs)
+    (λ c. search needs)
     returns-2)

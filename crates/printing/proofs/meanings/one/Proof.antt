@@ -6,15 +6,6 @@ use borrow.Author.Needs.{needs}
 use Rattle.printing.proofs.meanings.one.Statement.{statement}
 use Rattle.printing.proofs.meanings.one.Tie as tie
 
-put-then-requires : tie.Need-put-then-requires
-put-then-requires c κs = search needs
-
-put-number-then-requires : tie.Need-put-number-then-requires
-put-number-then-requires c κs = search needs
-
-same-length : tie.Need-same-length
-same-length c = search needs
-
 returns : tie.Need-returns
 returns c =
     let name = c .before .before .before .before .before .before .before .before .before .before .args .name .now in
@@ -22,4 +13,4 @@ returns c =
     record { status = refl; text = one-put name n (c .before .before .before .before .before .before .put-then .ensures) (c .before .before .put-number-then .ensures); short = one-short name n (c .before .before .before .before .before .before .before .before .before .before .pre) (omega (arith, c .before .before .before .before .before .before .before .before .before .before .fits .n)) }
 
 pub one-spec : {M : Type 1} → statement M
-one-spec = tie.close (tie.spec put-then-requires put-number-then-requires same-length returns)
+one-spec = tie.close (tie.spec (λ c κs. search needs) (λ c κs. search needs) (λ c. search needs) returns)

@@ -6,18 +6,6 @@ use borrow.Author.Needs.{needs}
 use Rattle.printing.proofs.meanings.two.Statement.{statement}
 use Rattle.printing.proofs.meanings.two.Tie as tie
 
-put-then-requires : tie.Need-put-then-requires
-put-then-requires c κs = search needs
-
-put-number-then-requires : tie.Need-put-number-then-requires
-put-number-then-requires c κs = search needs
-
-put-number-then-requires-2 : tie.Need-put-number-then-requires-2
-put-number-then-requires-2 c κs = search needs
-
-same-length : tie.Need-same-length
-same-length c = search needs
-
 returns : tie.Need-returns
 returns c =
     let start = c .before .before .before .before .before .before .before .before .before .before .before .before .before .before in
@@ -34,8 +22,8 @@ pub two-spec : {M : Type 1} → statement M
 two-spec =
     tie.close
     (tie.spec
-    put-then-requires
-    put-number-then-requires
-    put-number-then-requires-2
-    same-length
+    (λ c κs. search needs)
+    (λ c κs. search needs)
+    (λ c κs. search needs)
+    (λ c. search needs)
     returns)

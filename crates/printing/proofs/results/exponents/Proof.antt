@@ -6,21 +6,6 @@ use borrow.Author.Needs.{needs}
 use Rattle.printing.proofs.results.exponents.Statement.{statement}
 use Rattle.printing.proofs.results.exponents.Tie as tie
 
-put-exponent-requires : tie.Need-put-exponent-requires
-put-exponent-requires c κs = search needs
-
-put-exponent-requires-2 : tie.Need-put-exponent-requires-2
-put-exponent-requires-2 c κs = search needs
-
-put-exponent-requires-3 : tie.Need-put-exponent-requires-3
-put-exponent-requires-3 c κs = search needs
-
-put-exponent-requires-4 : tie.Need-put-exponent-requires-4
-put-exponent-requires-4 c κs = search needs
-
-same-length : tie.Need-same-length
-same-length c = search needs
-
 returns : tie.Need-returns
 returns c =
     let x = c .before .before .before .before .before .before .before .before .before .before .before .before .before .before .before .before .before .before .before .before .before .args .exponents in
@@ -39,9 +24,9 @@ pub exponents-spec : {M : Type 1} → statement M
 exponents-spec =
     tie.close
     (tie.spec
-    put-exponent-requires
-    put-exponent-requires-2
-    put-exponent-requires-3
-    put-exponent-requires-4
-    same-length
+    (λ c κs. search needs)
+    (λ c κs. search needs)
+    (λ c κs. search needs)
+    (λ c κs. search needs)
+    (λ c. search needs)
     returns)

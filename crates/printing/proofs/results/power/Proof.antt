@@ -9,21 +9,6 @@ use borrow.Author.Needs.{needs}
 use Rattle.printing.proofs.results.power.Statement.{statement}
 use Rattle.printing.proofs.results.power.Tie as tie
 
-cast-number-line : tie.Need-cast-number-line
-cast-number-line c = search needs
-
-number-line-requires : tie.Need-number-line-requires
-number-line-requires c κs = search needs
-
-slice-aggregate-numbers-line : tie.Need-slice-aggregate-numbers-line
-slice-aggregate-numbers-line c = search needs
-
-numbers-line-requires : tie.Need-numbers-line-requires
-numbers-line-requires c κs = search needs
-
-same-length : tie.Need-same-length
-same-length c = search needs
-
 returns : tie.Need-returns
 returns c =
     let first = c .before .before .before .before .before .before .before .number-line .ensures in
@@ -35,9 +20,9 @@ pub power-spec : {M : Type 1} → statement M
 power-spec =
     tie.close
     (tie.spec
-    cast-number-line
-    number-line-requires
-    slice-aggregate-numbers-line
-    numbers-line-requires
-    same-length
+    (λ c. search needs)
+    (λ c κs. search needs)
+    (λ c. search needs)
+    (λ c κs. search needs)
+    (λ c. search needs)
     returns)

@@ -6,15 +6,6 @@ use borrow.Author.Needs.{needs}
 use Rattle.printing.proofs.results.put_exponent.Statement.{statement}
 use Rattle.printing.proofs.results.put_exponent.Tie as tie
 
-put-whole-requires : tie.Need-put-whole-requires
-put-whole-requires c κs = search needs
-
-put-byte-requires : tie.Need-put-byte-requires
-put-byte-requires c κs = search needs
-
-same-length : tie.Need-same-length
-same-length c = search needs
-
 returns : tie.Need-returns
 returns c =
     let n = c .before .before .before .before .before .before .before .before .before .args .n in
@@ -22,4 +13,4 @@ returns c =
     (puts-join (rw (from-bits n small) at (c .before .before .before .before .before .before .put-whole .ensures)) (c .before .before .put-byte .ensures), whole-short n small)
 
 pub put-exponent-spec : {M : Type 1} → statement M
-put-exponent-spec = tie.close (tie.spec put-whole-requires put-byte-requires same-length returns)
+put-exponent-spec = tie.close (tie.spec (λ c κs. search needs) (λ c κs. search needs) (λ c. search needs) returns)

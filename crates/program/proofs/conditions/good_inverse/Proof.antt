@@ -14,11 +14,8 @@ returns c = sym (inverse-refused _ _ (bad-exponent _ _ (λ g. omega (arith, g .l
 returns-2 : tie.Need-returns-2
 returns-2 c = sym (inverse-refused _ _ (bad-exponent _ _ (λ g. omega (arith, g .high))))
 
-inverse-or-zero-requires : tie.Need-inverse-or-zero-requires
-inverse-or-zero-requires c κs = search needs
-
 returns-3 : tie.Need-returns-3
 returns-3 c = c .inverse-or-zero .ensures ∙ sym (inverse-between _ _ (omega arith) (omega arith))
 
 pub good-inverse-spec : {M : Type 1} → statement M
-good-inverse-spec = tie.close (tie.spec returns returns-2 inverse-or-zero-requires returns-3)
+good-inverse-spec = tie.close (tie.spec returns returns-2 (λ c κs. search needs) returns-3)

@@ -13,11 +13,8 @@ returns c = sym (modulus-low _ (c .if1 .taken))
 returns-2 : tie.Need-returns-2
 returns-2 c = sym (modulus-high _ (omega arith))
 
-is-prime-requires : tie.Need-is-prime-requires
-is-prime-requires c κs = search needs
-
 returns-3 : tie.Need-returns-3
 returns-3 c = ap not (c .is-prime .ensures) ∙ sym (modulus-between _ (omega arith) (omega arith))
 
 pub is-bad-modulus-spec : {M : Type 1} → statement M
-is-bad-modulus-spec = tie.close (tie.spec returns returns-2 is-prime-requires returns-3)
+is-bad-modulus-spec = tie.close (tie.spec returns returns-2 (λ c κs. search needs) returns-3)

@@ -8,14 +8,8 @@ use Rattle.program.proofs.conditions.is_bad_order.Tie as tie
 returns : tie.Need-returns
 returns c = sym (order-low _ _ (c .if1 .taken))
 
-sub-result : tie.Need-sub-result
-sub-result c = search needs
-
-rem-result : tie.Need-rem-result
-rem-result c = search needs
-
 returns-2 : tie.Need-returns-2
 returns-2 c = sym (order-divides _ _ (c .if1 .left))
 
 pub is-bad-order-spec : {M : Type 1} → statement M
-is-bad-order-spec = tie.close (tie.spec returns sub-result rem-result returns-2)
+is-bad-order-spec = tie.close (tie.spec returns (λ c. search needs) (λ c. search needs) returns-2)

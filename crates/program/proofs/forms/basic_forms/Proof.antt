@@ -6,12 +6,6 @@ use Rattle.program.proofs.Laws.Forms.{bits-of, whole, lone-rows}
 use Rattle.program.proofs.forms.basic_forms.Statement.{statement}
 use Rattle.program.proofs.forms.basic_forms.Tie as tie
 
-bit-string-requires : tie.Need-bit-string-requires
-bit-string-requires c κs = search needs
-
-bit-string-requires-2 : tie.Need-bit-string-requires-2
-bit-string-requires-2 c κs = search needs
-
 add-count : tie.Need-add-count
 add-count c =
     let a = c .before .before .before .before .before .before in
@@ -21,4 +15,4 @@ returns : tie.Need-returns
 returns c = lone-rows Two (whole _ (c .before .before .before .before .before .bit-string .ensures)) (whole _ (c .before .before .before .before .bit-string2 .ensures))
 
 pub basic-forms-spec : {M : Type 1} → statement M
-basic-forms-spec = tie.close (tie.spec bit-string-requires bit-string-requires-2 add-count returns)
+basic-forms-spec = tie.close (tie.spec (λ c κs. search needs) (λ c κs. search needs) add-count returns)

@@ -6,12 +6,6 @@ use Rattle.program.proofs.Laws.Forms.{height-small, weight-fits, produc
 use Rattle.program.proofs.forms.dual_forms.Statement.{statement}
 use Rattle.program.proofs.forms.dual_forms.Tie as tie
 
-height-requires : tie.Need-height-requires
-height-requires c κs = search needs
-
-fibonacci-or-zero-requires : tie.Need-fibonacci-or-zero-requires
-fibonacci-or-zero-requires c κs = search needs
-
 cast-low : tie.Need-cast-low
 cast-low c =
     let small = height-small (c .before .before .pre) (c .before .height .ensures) in
@@ -20,37 +14,10 @@ cast-low c =
 add-fibonacci-or-zero : tie.Need-add-fibonacci-or-zero
 add-fibonacci-or-zero c = omega (arith, height-small (c .before .before .pre) (c .before .height .ensures))
 
-fibonacci-or-zero-requires-2 : tie.Need-fibonacci-or-zero-requires-2
-fibonacci-or-zero-requires-2 c κs = search needs
-
 cast-high : tie.Need-cast-high
 cast-high c =
     let small = height-small (c .before .before .before .pre) (c .before .before .height .ensures) in
     omega (arith, weight-fits (omega arith) (c .fibonacci-or-zero2 .ensures))
-
-residue-requires : tie.Need-residue-requires
-residue-requires c κs = search needs
-
-residue-requires-2 : tie.Need-residue-requires-2
-residue-requires-2 c κs = search needs
-
-residue-requires-3 : tie.Need-residue-requires-3
-residue-requires-3 c κs = search needs
-
-residue-requires-4 : tie.Need-residue-requires-4
-residue-requires-4 c κs = search needs
-
-cast-n : tie.Need-cast-n
-cast-n c = search needs
-
-add-count : tie.Need-add-count
-add-count c = search needs
-
-add-count-2 : tie.Need-add-count-2
-add-count-2 c = search needs
-
-add-count-3 : tie.Need-add-count-3
-add-count-3 c = search needs
 
 returns : tie.Need-returns
 returns c =
@@ -70,18 +37,18 @@ pub dual-forms-spec : {M : Type 1} → statement M
 dual-forms-spec =
     tie.close
     (tie.spec
-    height-requires
-    fibonacci-or-zero-requires
+    (λ c κs. search needs)
+    (λ c κs. search needs)
     cast-low
     add-fibonacci-or-zero
-    fibonacci-or-zero-requires-2
+    (λ c κs. search needs)
     cast-high
-    residue-requires
-    residue-requires-2
-    residue-requires-3
-    residue-requires-4
-    cast-n
-    add-count
-    add-count-2
-    add-count-3
+    (λ c κs. search needs)
+    (λ c κs. search needs)
+    (λ c κs. search needs)
+    (λ c κs. search needs)
+    (λ c. search needs)
+    (λ c. search needs)
+    (λ c. search needs)
+    (λ c. search needs)
     returns)

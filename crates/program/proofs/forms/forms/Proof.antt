@@ -6,15 +6,6 @@ use Rattle.program.proofs.Laws.Forms.{given-basic, given-dual, given-hy
 use Rattle.program.proofs.forms.forms.Statement.{statement}
 use Rattle.program.proofs.forms.forms.Tie as tie
 
-basic-forms-requires : tie.Need-basic-forms-requires
-basic-forms-requires c κs = search needs
-
-dual-forms-requires : tie.Need-dual-forms-requires
-dual-forms-requires c κs = search needs
-
-hybrid-forms-requires : tie.Need-hybrid-forms-requires
-hybrid-forms-requires c κs = search needs
-
 returns : tie.Need-returns
 returns c = given-basic _ _ _ (c .before .before .pre .0 .inverse-is) (c .before .match .keys1) (c .basic-forms .ensures)
 
@@ -31,9 +22,9 @@ pub forms-spec : {M : Type 1} → statement M
 forms-spec =
     tie.close
     (tie.spec
-    basic-forms-requires
-    dual-forms-requires
-    hybrid-forms-requires
+    (λ c κs. search needs)
+    (λ c κs. search needs)
+    (λ c κs. search needs)
     returns
     returns-2
     returns-3)

@@ -7,32 +7,14 @@ use Rattle.program.proofs.Laws.Forms.{bits-of, lone-rows, height-small,
 use Rattle.program.proofs.forms.hybrid_forms.Statement.{statement}
 use Rattle.program.proofs.forms.hybrid_forms.Tie as tie
 
-height-requires : tie.Need-height-requires
-height-requires c κs = search needs
-
 add-l : tie.Need-add-l
 add-l c = omega (arith, height-small (c .before .pre) (c .height .ensures))
-
-sub-l : tie.Need-sub-l
-sub-l c = search needs
 
 add-fibonacci-or-zero : tie.Need-add-fibonacci-or-zero
 add-fibonacci-or-zero c = omega (arith, height-small (c .before .pre) (c .height .ensures))
 
-fibonacci-or-zero-requires : tie.Need-fibonacci-or-zero-requires
-fibonacci-or-zero-requires c κs = search needs
-
 mul-bit-string : tie.Need-mul-bit-string
 mul-bit-string c = omega (arith, multiple-fits (c .before .before .pre) (c .before .height .ensures) (c .fibonacci-or-zero .ensures))
-
-bit-string-requires : tie.Need-bit-string-requires
-bit-string-requires c κs = search needs
-
-bit-string-requires-2 : tie.Need-bit-string-requires-2
-bit-string-requires-2 c κs = search needs
-
-cast-n : tie.Need-cast-n
-cast-n c = search needs
 
 add-count : tie.Need-add-count
 add-count c =
@@ -53,14 +35,14 @@ pub hybrid-forms-spec : {M : Type 1} → statement M
 hybrid-forms-spec =
     tie.close
     (tie.spec
-    height-requires
+    (λ c κs. search needs)
     add-l
-    sub-l
+    (λ c. search needs)
     add-fibonacci-or-zero
-    fibonacci-or-zero-requires
+    (λ c κs. search needs)
     mul-bit-string
-    bit-string-requires
-    bit-string-requires-2
-    cast-n
+    (λ c κs. search needs)
+    (λ c κs. search needs)
+    (λ c. search needs)
     add-count
     returns)

@@ -4,36 +4,6 @@ use borrow.Author.Needs.{needs}
 use Rattle.program.proofs.forms.step_count.Statement.{statement}
 use Rattle.program.proofs.forms.step_count.Tie as tie
 
-add-chains : tie.Need-add-chains
-add-chains c = search needs
-
-mul-chains : tie.Need-mul-chains
-mul-chains c = search needs
-
-add-loops : tie.Need-add-loops
-add-loops c = search needs
-
-enum-told : tie.Need-enum-told
-enum-told c = search needs
-
-add-result : tie.Need-add-result
-add-result c = search needs
-
-add-result-2 : tie.Need-add-result-2
-add-result-2 c = search needs
-
-enum-told-2 : tie.Need-enum-told-2
-enum-told-2 c = search needs
-
-add-result-3 : tie.Need-add-result-3
-add-result-3 c = search needs
-
-enum-told-3 : tie.Need-enum-told-3
-enum-told-3 c = search needs
-
-add-result-4 : tie.Need-add-result-4
-add-result-4 c = search needs
-
 returns : tie.Need-returns
 returns c = rw (c .enum-told .given .1) (omega arith)
 
@@ -47,16 +17,16 @@ pub step-count-spec : {M : Type 1} → statement M
 step-count-spec =
     tie.close
     (tie.spec
-    add-chains
-    mul-chains
-    add-loops
-    enum-told
-    add-result
-    add-result-2
-    enum-told-2
-    add-result-3
-    enum-told-3
-    add-result-4
+    (λ c. search needs)
+    (λ c. search needs)
+    (λ c. search needs)
+    (λ c. search needs)
+    (λ c. search needs)
+    (λ c. search needs)
+    (λ c. search needs)
+    (λ c. search needs)
+    (λ c. search needs)
+    (λ c. search needs)
     returns
     returns-2
     returns-3)

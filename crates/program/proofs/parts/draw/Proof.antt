@@ -42,9 +42,6 @@ slice-aggregate-ascend-back-2 c = sym (length-take-le _ _ (c .before .before .be
 ascend-back-requires : tie.Need-ascend-back-requires
 ascend-back-requires c κs = let w = c .before .before .before .before .before .before .before .before .before .before .before .before .before .before .before .pre in length-take-le _ _ (w .last) ∙ sym (length-take-le _ _ (w .besideLast))
 
-same-length : tie.Need-same-length
-same-length c = search needs
-
 returns : tie.Need-returns
 returns c = writes-more (c .before .before .before .before .before .before .before .before .front .ensures) (c .before .before .ascend-back .ensures)
 
@@ -64,5 +61,5 @@ draw-spec =
     array-share-prefix-beside-last-2
     slice-aggregate-ascend-back-2
     ascend-back-requires
-    same-length
+    (λ c. search needs)
     returns)

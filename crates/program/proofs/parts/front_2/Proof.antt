@@ -12,14 +12,8 @@ ascend-requires c κs = c .before .before .before .before .before .pre
 ascend-back-requires : tie.Need-ascend-back-requires
 ascend-back-requires c κs = refl
 
-put-requires : tie.Need-put-requires
-put-requires c κs = search needs
-
 ascend-requires-2 : tie.Need-ascend-requires-2
 ascend-requires-2 c κs = refl
-
-same-length : tie.Need-same-length
-same-length c = search needs
 
 returns : tie.Need-returns
 unfolding stepWord
@@ -31,7 +25,7 @@ front-2-spec =
     (tie.spec
     ascend-requires
     ascend-back-requires
-    put-requires
+    (λ c κs. search needs)
     ascend-requires-2
-    same-length
+    (λ c. search needs)
     returns)

@@ -5,18 +5,6 @@ use Rattle.program.proofs.Laws.Writing.{writes-more}
 use Rattle.program.proofs.parts.front_6.Statement.{statement}
 use Rattle.program.proofs.parts.front_6.Tie as tie
 
-put-requires : tie.Need-put-requires
-put-requires c κs = search needs
-
-descend-requires : tie.Need-descend-requires
-descend-requires c κs = search needs
-
-put-two-requires : tie.Need-put-two-requires
-put-two-requires c κs = search needs
-
-same-length : tie.Need-same-length
-same-length c = search needs
-
 returns : tie.Need-returns
 unfolding stepWord
 returns c = writes-more (c .before .before .before .before .before .before .before .before .before .before .put .ensures) (writes-more (c .before .before .before .before .before .before .descend .ensures) (c .before .before .put-two .ensures))
@@ -25,8 +13,8 @@ pub front-6-spec : {M : Type 1} → statement M
 front-6-spec =
     tie.close
     (tie.spec
-    put-requires
-    descend-requires
-    put-two-requires
-    same-length
+    (λ c κs. search needs)
+    (λ c κs. search needs)
+    (λ c κs. search needs)
+    (λ c. search needs)
     returns)

@@ -5,18 +5,6 @@ use Rattle.program.proofs.Laws.Writing.{back-words, writes-more}
 use Rattle.program.proofs.writer.place_back.Statement.{statement}
 use Rattle.program.proofs.writer.place_back.Tie as tie
 
-put-if-requires : tie.Need-put-if-requires
-put-if-requires c κs = search needs
-
-put-if-requires-2 : tie.Need-put-if-requires-2
-put-if-requires-2 c κs = search needs
-
-put-two-requires : tie.Need-put-two-requires
-put-two-requires c κs = search needs
-
-same-length : tie.Need-same-length
-same-length c = search needs
-
 returns : tie.Need-returns
 unfolding stepWord
 returns c = rw (back-words _ _) (writes-more (c .before .before .before .before .before .before .before .before .before .before .put-if .ensures) (writes-more (c .before .before .before .before .before .before .put-if2 .ensures) (c .before .before .put-two .ensures)))
@@ -25,8 +13,8 @@ pub place-back-spec : {M : Type 1} → statement M
 place-back-spec =
     tie.close
     (tie.spec
-    put-if-requires
-    put-if-requires-2
-    put-two-requires
-    same-length
+    (λ c κs. search needs)
+    (λ c κs. search needs)
+    (λ c κs. search needs)
+    (λ c. search needs)
     returns)

@@ -5,18 +5,9 @@ use Rattle.program.proofs.Laws.Writing.{down-words, writes-more}
 use Rattle.program.proofs.writer.place_down.Statement.{statement}
 use Rattle.program.proofs.writer.place_down.Tie as tie
 
-put-if-requires : tie.Need-put-if-requires
-put-if-requires c κs = search needs
-
-put-two-requires : tie.Need-put-two-requires
-put-two-requires c κs = search needs
-
-same-length : tie.Need-same-length
-same-length c = search needs
-
 returns : tie.Need-returns
 unfolding stepWord
 returns c = rw (down-words _) (writes-more (c .before .before .before .before .before .before .put-if .ensures) (c .before .before .put-two .ensures))
 
 pub place-down-spec : {M : Type 1} → statement M
-place-down-spec = tie.close (tie.spec put-if-requires put-two-requires same-length returns)
+place-down-spec = tie.close (tie.spec (λ c κs. search needs) (λ c κs. search needs) (λ c. search needs) returns)

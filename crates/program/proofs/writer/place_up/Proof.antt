@@ -5,18 +5,6 @@ use Rattle.program.proofs.Laws.Writing.{up-words, writes-more}
 use Rattle.program.proofs.writer.place_up.Statement.{statement}
 use Rattle.program.proofs.writer.place_up.Tie as tie
 
-put-two-requires : tie.Need-put-two-requires
-put-two-requires c κs = search needs
-
-put-if-requires : tie.Need-put-if-requires
-put-if-requires c κs = search needs
-
-put-if-requires-2 : tie.Need-put-if-requires-2
-put-if-requires-2 c κs = search needs
-
-same-length : tie.Need-same-length
-same-length c = search needs
-
 returns : tie.Need-returns
 unfolding stepWord
 returns c = rw (up-words _ _) (writes-more (c .before .before .before .before .before .before .before .before .before .before .put-two .ensures) (writes-more (c .before .before .before .before .before .before .put-if .ensures) (c .before .before .put-if2 .ensures)))
@@ -25,8 +13,8 @@ pub place-up-spec : {M : Type 1} → statement M
 place-up-spec =
     tie.close
     (tie.spec
-    put-two-requires
-    put-if-requires
-    put-if-requires-2
-    same-length
+    (λ c κs. search needs)
+    (λ c κs. search needs)
+    (λ c κs. search needs)
+    (λ c. search needs)
     returns)

@@ -9,20 +9,8 @@ use Rattle.program.proofs.writer.put.Tie as tie
 returns : tie.Need-returns
 returns c = record { size = refl; wrote = λ room. absurd (omega (arith, c .if1 .taken, room)) }
 
-mul-row : tie.Need-mul-row
-mul-row c = search needs
-
-slice-write-row : tie.Need-slice-write-row
-slice-write-row c = search needs
-
-add-result : tie.Need-add-result
-add-result c = search needs
-
-same-length : tie.Need-same-length
-same-length c = search needs
-
 returns-2 : tie.Need-returns-2
 returns-2 c = record { size = simp length-set; wrote = λ room. record { next-is = refl; after-is = refl } }
 
 pub put-spec : {M : Type 1} → statement M
-put-spec = tie.close (tie.spec returns mul-row slice-write-row add-result same-length returns-2)
+put-spec = tie.close (tie.spec returns (λ c. search needs) (λ c. search needs) (λ c. search needs) (λ c. search needs) returns-2)

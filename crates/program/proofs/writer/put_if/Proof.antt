@@ -4,12 +4,6 @@ use Rattle.program.proofs.Laws.Writing.{chosen-set, chosen-clear, write
 use Rattle.program.proofs.writer.put_if.Statement.{statement}
 use Rattle.program.proofs.writer.put_if.Tie as tie
 
-put-requires : tie.Need-put-requires
-put-requires c κs = search needs
-
-same-length : tie.Need-same-length
-same-length c = search needs
-
 returns : tie.Need-returns
 returns c = rw (chosen-set _ _ (c .before .before .before .before .if1 .taken)) (c .before .before .put .ensures)
 
@@ -17,4 +11,4 @@ returns-2 : tie.Need-returns-2
 returns-2 c = rw (chosen-clear _ _ (c .if1 .left)) (writes-none _ _)
 
 pub put-if-spec : {M : Type 1} → statement M
-put-if-spec = tie.close (tie.spec put-requires same-length returns returns-2)
+put-if-spec = tie.close (tie.spec (λ c κs. search needs) (λ c. search needs) returns returns-2)

@@ -7,35 +7,11 @@ use borrow.Author.Needs.{needs}
 use Rattle.script.proofs.commands.on_numbers.Statement.{statement}
 use Rattle.script.proofs.commands.on_numbers.Tie as tie
 
-as-tool-requires : tie.Need-as-tool-requires
-as-tool-requires c κs = search needs
-
-same-length : tie.Need-same-length
-same-length c = search needs
-
 returns : tie.Need-returns
 returns c = rw (as-asked (length (c .before .before .before .before .before .before .before .before .before .before .args .tapes .now)) (c .before .before .before .before .before .before .before .before .before .before .args .row) (c .before .before .before .before .before .before .before .before .before .before .args .values .now) (c .before .before .before .before .before .before .before .before .before .before .args .marks) (c .before .before .before .before .before .before .before .before .before .before .args .tapes .now) (c .before .before .before .before .before .before .before .before .before .before .pre .1 .1) (numbers-free (length (c .before .before .before .before .before .before .before .before .before .before .args .tapes .now)) (c .before .before .before .before .before .before .before .before .before .before .args .row) (c .before .before .before .before .before .before .before .before .before .before .args .values .now) (c .before .before .before .before .before .before .before .before .before .before .args .marks) (c .before .before .before .before .before .before .before .before .before .before .args .tapes .now) (c .before .before .before .before .before .before .before .before .before .before .args .verb) (c .before .before .before .before .before .before .before .before .before .before .pre .1 .0) (not-true _ (c .before .before .before .before .if1 .taken)))) (c .before .before .as-tool .ensures)
 
-is-places-requires : tie.Need-is-places-requires
-is-places-requires c κs = search needs
-
-as-tool-requires-2 : tie.Need-as-tool-requires-2
-as-tool-requires-2 c κs = search needs
-
-same-length-2 : tie.Need-same-length-2
-same-length-2 c = search needs
-
 returns-2 : tie.Need-returns-2
 returns-2 c = rw (as-asked (length (c .before .before .before .before .before .before .before .before .before .before .before .before .args .tapes .now)) (c .before .before .before .before .before .before .before .before .before .before .before .before .args .row) (c .before .before .before .before .before .before .before .before .before .before .before .before .args .values .now) (c .before .before .before .before .before .before .before .before .before .before .before .before .args .marks) (c .before .before .before .before .before .before .before .before .before .before .before .before .args .tapes .now) (c .before .before .before .before .before .before .before .before .before .before .before .before .pre .1 .1) (numbers-other (length (c .before .before .before .before .before .before .before .before .before .before .before .before .args .tapes .now)) (c .before .before .before .before .before .before .before .before .before .before .before .before .args .row) (c .before .before .before .before .before .before .before .before .before .before .before .before .args .values .now) (c .before .before .before .before .before .before .before .before .before .before .before .before .args .marks) (c .before .before .before .before .before .before .before .before .before .before .before .before .args .tapes .now) (c .before .before .before .before .before .before .before .before .before .before .before .before .args .verb) (c .before .before .before .before .before .before .before .before .before .before .before .before .pre .1 .0) (sym (c .before .before .before .before .before .is-places .ensures) ∙ not-true _ (c .before .before .before .before .if2 .taken)))) (c .before .before .as-tool2 .ensures)
-
-first-requires : tie.Need-first-requires
-first-requires c κs = search needs
-
-places-in-requires : tie.Need-places-in-requires
-places-in-requires c κs = search needs
-
-same-length-3 : tie.Need-same-length-3
-same-length-3 c = search needs
 
 returns-3 : tie.Need-returns-3
 returns-3 c =
@@ -48,14 +24,14 @@ pub on-numbers-spec : {M : Type 1} → statement M
 on-numbers-spec =
     tie.close
     (tie.spec
-    as-tool-requires
-    same-length
+    (λ c κs. search needs)
+    (λ c. search needs)
     returns
-    is-places-requires
-    as-tool-requires-2
-    same-length-2
+    (λ c κs. search needs)
+    (λ c κs. search needs)
+    (λ c. search needs)
     returns-2
-    first-requires
-    places-in-requires
-    same-length-3
+    (λ c κs. search needs)
+    (λ c κs. search needs)
+    (λ c. search needs)
     returns-3)

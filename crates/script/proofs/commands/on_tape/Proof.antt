@@ -7,44 +7,11 @@ use borrow.Author.Needs.{needs}
 use Rattle.script.proofs.commands.on_tape.Statement.{statement}
 use Rattle.script.proofs.commands.on_tape.Tie as tie
 
-as-tool-requires : tie.Need-as-tool-requires
-as-tool-requires c κs = search needs
-
-same-length : tie.Need-same-length
-same-length c = search needs
-
 returns : tie.Need-returns
 returns c = rw (as-asked (length (c .before .before .before .before .before .before .before .before .before .before .args .tapes .now)) (c .before .before .before .before .before .before .before .before .before .before .args .row) (c .before .before .before .before .before .before .before .before .before .before .args .values .now) (c .before .before .before .before .before .before .before .before .before .before .args .marks) (c .before .before .before .before .before .before .before .before .before .before .args .tapes .now) (c .before .before .before .before .before .before .before .before .before .before .pre .1 .1) (tape-free (length (c .before .before .before .before .before .before .before .before .before .before .args .tapes .now)) (c .before .before .before .before .before .before .before .before .before .before .args .row) (c .before .before .before .before .before .before .before .before .before .before .args .values .now) (c .before .before .before .before .before .before .before .before .before .before .args .marks) (c .before .before .before .before .before .before .before .before .before .before .args .tapes .now) (c .before .before .before .before .before .before .before .before .before .before .args .verb) (c .before .before .before .before .before .before .before .before .before .before .pre .1 .0) (not-true _ (c .before .before .before .before .if1 .taken)))) (c .before .before .as-tool .ensures)
 
-is-listing-requires : tie.Need-is-listing-requires
-is-listing-requires c κs = search needs
-
-as-tool-requires-2 : tie.Need-as-tool-requires-2
-as-tool-requires-2 c κs = search needs
-
-same-length-2 : tie.Need-same-length-2
-same-length-2 c = search needs
-
 returns-2 : tie.Need-returns-2
 returns-2 c = rw (as-asked (length (c .before .before .before .before .before .before .before .before .before .before .before .before .args .tapes .now)) (c .before .before .before .before .before .before .before .before .before .before .before .before .args .row) (c .before .before .before .before .before .before .before .before .before .before .before .before .args .values .now) (c .before .before .before .before .before .before .before .before .before .before .before .before .args .marks) (c .before .before .before .before .before .before .before .before .before .before .before .before .args .tapes .now) (c .before .before .before .before .before .before .before .before .before .before .before .before .pre .1 .1) (tape-other (length (c .before .before .before .before .before .before .before .before .before .before .before .before .args .tapes .now)) (c .before .before .before .before .before .before .before .before .before .before .before .before .args .row) (c .before .before .before .before .before .before .before .before .before .before .before .before .args .values .now) (c .before .before .before .before .before .before .before .before .before .before .before .before .args .marks) (c .before .before .before .before .before .before .before .before .before .before .before .before .args .tapes .now) (c .before .before .before .before .before .before .before .before .before .before .before .before .args .verb) (c .before .before .before .before .before .before .before .before .before .before .before .before .pre .1 .0) (sym (c .before .before .before .before .before .is-listing .ensures) ∙ not-true _ (c .before .before .before .before .if2 .taken)))) (c .before .before .as-tool2 .ensures)
-
-mul-list-in : tie.Need-mul-list-in
-mul-list-in c = search needs
-
-sub-list-in : tie.Need-sub-list-in
-sub-list-in c = search needs
-
-part-list-in-start : tie.Need-part-list-in-start
-part-list-in-start c = search needs
-
-part-list-in-end : tie.Need-part-list-in-end
-part-list-in-end c = search needs
-
-list-in-requires : tie.Need-list-in-requires
-list-in-requires c κs = search needs
-
-same-length-3 : tie.Need-same-length-3
-same-length-3 c = search needs
 
 returns-3 : tie.Need-returns-3
 returns-3 c =
@@ -57,17 +24,17 @@ pub on-tape-spec : {M : Type 1} → statement M
 on-tape-spec =
     tie.close
     (tie.spec
-    as-tool-requires
-    same-length
+    (λ c κs. search needs)
+    (λ c. search needs)
     returns
-    is-listing-requires
-    as-tool-requires-2
-    same-length-2
+    (λ c κs. search needs)
+    (λ c κs. search needs)
+    (λ c. search needs)
     returns-2
-    mul-list-in
-    sub-list-in
-    part-list-in-start
-    part-list-in-end
-    list-in-requires
-    same-length-3
+    (λ c. search needs)
+    (λ c. search needs)
+    (λ c. search needs)
+    (λ c. search needs)
+    (λ c κs. search needs)
+    (λ c. search needs)
     returns-3)

@@ -9,39 +9,15 @@ use Rattle.scripting.proofs.Laws.Edits.{did-dropped}
 use Rattle.script.proofs.edits.drop_words.Statement.{statement}
 use Rattle.script.proofs.edits.drop_words.Tie as tie
 
-parameter-requires : tie.Need-parameter-requires
-parameter-requires c κs = search needs
-
-cast-count : tie.Need-cast-count
-cast-count c = search needs
-
-sub-if1 : tie.Need-sub-if1
-sub-if1 c = search needs
-
-ending-requires : tie.Need-ending-requires
-ending-requires c κs = search needs
-
 count-words-requires : tie.Need-count-words-requires
 count-words-requires c κs = omega (arith, ap (λ (m : Marks). m .begin) (c .before .ending .ensures), ap (λ (m : Marks). m .end) (c .before .ending .ensures))
-
-same-length : tie.Need-same-length
-same-length c = search needs
 
 returns : tie.Need-returns
 returns c = let n : c .before .before .before .before .before .before .before .parameter .result ≡ getD (c .before .before .before .before .before .before .before .before .before .before .before .args .values .now) 0 0 = c .before .before .before .before .before .before .before .parameter .ensures in
     did-dropped (c .before .before .before .before .before .before .before .before .before .before .before .pre .0) (c .before .before .before .before .before .before .before .before .before .before .before .args .values .now) (c .before .before .before .before .before .before .before .before .before .before .before .args .marks .begin) (omega (arith, n, c .before .before .before .before .before .if1 .taken)) (c .before .before .before .before .ending .ensures) (c .before .before .count-words .ensures)
 
-sub-ending : tie.Need-sub-ending
-sub-ending c = search needs
-
-ending-requires-2 : tie.Need-ending-requires-2
-ending-requires-2 c κs = search needs
-
 count-words-requires-2 : tie.Need-count-words-requires-2
 count-words-requires-2 c κs = omega (arith, ap (λ (m : Marks). m .begin) (c .before .ending2 .ensures), ap (λ (m : Marks). m .end) (c .before .ending2 .ensures))
-
-same-length-2 : tie.Need-same-length-2
-same-length-2 c = search needs
 
 returns-2 : tie.Need-returns-2
 returns-2 c = let n : c .before .before .before .before .before .before .before .before .parameter .result ≡ getD (c .before .before .before .before .before .before .before .before .before .before .before .before .args .values .now) 0 0 = c .before .before .before .before .before .before .before .before .parameter .ensures in
@@ -51,15 +27,15 @@ pub drop-words-spec : {M : Type 1} → statement M
 drop-words-spec =
     tie.close
     (tie.spec
-    parameter-requires
-    cast-count
-    sub-if1
-    ending-requires
+    (λ c κs. search needs)
+    (λ c. search needs)
+    (λ c. search needs)
+    (λ c κs. search needs)
     count-words-requires
-    same-length
+    (λ c. search needs)
     returns
-    sub-ending
-    ending-requires-2
+    (λ c. search needs)
+    (λ c κs. search needs)
     count-words-requires-2
-    same-length-2
+    (λ c. search needs)
     returns-2)

@@ -8,18 +8,9 @@ use Rattle.script.proofs.edits.parameter.Tie as tie
 returns : tie.Need-returns
 returns c = sym (List·getD-eq-default (c .before .before .args .values .now) 0 (c .if1 .taken))
 
-mul-word : tie.Need-mul-word
-mul-word c = search needs
-
-shared-slice-read-word : tie.Need-shared-slice-read-word
-shared-slice-read-word c = search needs
-
 word-requires : tie.Need-word-requires
 word-requires c κs = c .before .before .before .pre (c .before .before .before .args .place)
 
-returns-2 : tie.Need-returns-2
-returns-2 c = search needs
-
 pub parameter-spec : {M : Type 1} → statement M
 parameter-spec =
-    tie.close (tie.spec returns mul-word shared-slice-read-word word-requires returns-2)
+    tie.close (tie.spec returns (λ c. search needs) (λ c. search needs) word-requires (λ c. search needs))

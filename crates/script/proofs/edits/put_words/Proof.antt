@@ -7,38 +7,11 @@ use Rattle.scripting.proofs.Laws.Edits.{did-no-words, did-words}
 use Rattle.script.proofs.edits.put_words.Statement.{statement}
 use Rattle.script.proofs.edits.put_words.Tie as tie
 
-sub-if1 : tie.Need-sub-if1
-sub-if1 c = search needs
-
-full-requires : tie.Need-full-requires
-full-requires c κs = search needs
-
-same-length : tie.Need-same-length
-same-length c = search needs
-
-same-length-2 : tie.Need-same-length-2
-same-length-2 c = search needs
-
 returns : tie.Need-returns
 returns c = did-no-words (c .before .before .before .before .before .before .before .before .before .pre .0 .0) (c .before .before .before .before .before .before .before .before .before .args .values .now) (c .before .before .before .before .before .before .before .before .before .pre .0 .1) (c .before .before .before .before .before .before .before .before .before .pre .0 .2) (c .before .before .before .before .before .if1 .taken) (c .before .before .full .ensures)
 
-store-requires : tie.Need-store-requires
-store-requires c κs = search needs
-
-add-ending : tie.Need-add-ending
-add-ending c = search needs
-
-ending-requires : tie.Need-ending-requires
-ending-requires c κs = search needs
-
 count-words-requires : tie.Need-count-words-requires
 count-words-requires c κs = omega (arith, c .before .before .before .before .before .before .before .before .before .before .pre .0 .1, ap (λ (m : Marks). m .begin) (c .before .ending .ensures), ap (λ (m : Marks). m .end) (c .before .ending .ensures))
-
-same-length-3 : tie.Need-same-length-3
-same-length-3 c = search needs
-
-same-length-4 : tie.Need-same-length-4
-same-length-4 c = search needs
 
 returns-2 : tie.Need-returns-2
 returns-2 c = did-words (c .before .before .before .before .before .before .before .before .before .before .before .before .before .pre .0 .0) (c .before .before .before .before .before .before .before .before .before .before .before .before .before .pre .0 .1) (omega (arith, c .before .before .before .before .before .before .before .before .before .if1 .left, c .before .before .before .before .before .before .before .before .before .before .before .before .before .pre .0 .2, c .before .before .before .before .before .before .before .before .before .before .before .before .before .pre .0 .0 .end)) (c .before .before .before .before .before .before .before .store .ensures) (c .before .before .before .before .ending .ensures) (c .before .before .count-words .ensures)
@@ -47,15 +20,15 @@ pub put-words-spec : {M : Type 1} → statement M
 put-words-spec =
     tie.close
     (tie.spec
-    sub-if1
-    full-requires
-    same-length
-    same-length-2
+    (λ c. search needs)
+    (λ c κs. search needs)
+    (λ c. search needs)
+    (λ c. search needs)
     returns
-    store-requires
-    add-ending
-    ending-requires
+    (λ c κs. search needs)
+    (λ c. search needs)
+    (λ c κs. search needs)
     count-words-requires
-    same-length-3
-    same-length-4
+    (λ c. search needs)
+    (λ c. search needs)
     returns-2)

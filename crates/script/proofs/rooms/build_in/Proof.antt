@@ -11,23 +11,11 @@ use Rattle.scripting.proofs.Laws.Rooms.{filled-part, did-built-in}
 use Rattle.script.proofs.rooms.build_in.Statement.{statement}
 use Rattle.script.proofs.rooms.build_in.Tie as tie
 
-cast-row : tie.Need-cast-row
-cast-row c = search needs
-
-array-borrow-prefix-row : tie.Need-array-borrow-prefix-row
-array-borrow-prefix-row c = search needs
-
 slice-aggregate-build-into : tie.Need-slice-aggregate-build-into
 slice-aggregate-build-into c = sym (length-take-le (c .before .before .before .before .args .marks .room) (filled mostRoom) (omega (arith, length-replicate {A = ℕ} mostRoom 255, c .before .before .before .before .pre .0 .room)))
 
 build-into-requires : tie.Need-build-into-requires
 build-into-requires c κs = ((c .before .before .before .before .before .before .pre .0, omega (arith, length-take (c .before .before .before .before .before .before .args .marks .room) (filled mostRoom), c .before .before .before .before .before .before .pre .0 .room)), c .before .before .before .before .before .before .pre .1)
-
-same-length : tie.Need-same-length
-same-length c = search needs
-
-same-length-2 : tie.Need-same-length-2
-same-length-2 c = search needs
 
 returns : tie.Need-returns
 returns c = did-built-in _ (c .before .before .before .before .before .before .before .before .before .before .before .before .args .marks .room) (c .before .before .before .before .before .before .before .before .before .before .before .before .args .own) (c .before .before .before .before .before .before .before .before .before .before .before .before .args .values .now) _ _ (filled-part mostRoom (c .before .before .before .before .before .before .before .before .before .before .before .before .args .marks .room) (c .before .before .before .before .before .before .before .before .before .before .before .before .pre .0 .room)) (c .before .before .before .before .before .build-into .ensures)
@@ -36,10 +24,10 @@ pub build-in-spec : {M : Type 1} → statement M
 build-in-spec =
     tie.close
     (tie.spec
-    cast-row
-    array-borrow-prefix-row
+    (λ c. search needs)
+    (λ c. search needs)
     slice-aggregate-build-into
     build-into-requires
-    same-length
-    same-length-2
+    (λ c. search needs)
+    (λ c. search needs)
     returns)

@@ -5,32 +5,8 @@ use Rattle.scripting.proofs.Laws.Rooms.{built-count, did-built-into}
 use Rattle.script.proofs.rooms.build_into.Statement.{statement}
 use Rattle.script.proofs.rooms.build_into.Tie as tie
 
-parameter-requires : tie.Need-parameter-requires
-parameter-requires c κs = search needs
-
-parameter-requires-2 : tie.Need-parameter-requires-2
-parameter-requires-2 c κs = search needs
-
-parameter-requires-3 : tie.Need-parameter-requires-3
-parameter-requires-3 c κs = search needs
-
-parameter-requires-4 : tie.Need-parameter-requires-4
-parameter-requires-4 c κs = search needs
-
-build-requires : tie.Need-build-requires
-build-requires c κs = search needs
-
 show-requires : tie.Need-show-requires
 show-requires c κs = (c .before .before .before .before .before .before .before .before .before .before .before .before .before .before .before .pre .0 .0, (omega (arith, c .before .before .before .before .before .build .kept .1 .1 .1 .1 .0, c .before .before .before .before .before .before .before .before .before .before .before .before .before .before .before .pre .0 .1), omega (arith, built-count _ _ _ _ (c .before .before .before .before .before .before .before .before .before .before .before .before .before .before .before .args .row .now) (c .before .before .before .before .before .build .result) (c .before .before .before .before .before .build .ensures .0), c .before .before .before .before .before .build .kept .1 .1 .1 .1 .0)))
-
-same-length : tie.Need-same-length
-same-length c = search needs
-
-same-length-2 : tie.Need-same-length-2
-same-length-2 c = search needs
-
-same-length-3 : tie.Need-same-length-3
-same-length-3 c = search needs
 
 returns : tie.Need-returns
 returns c = did-built-into _ _ _ _ (c .before .before .before .before .before .before .before .before .before .before .before .before .before .before .before .before .before .before .before .before .args .row .now) _ (c .before .before .before .before .before .before .before .before .before .before .before .before .before .before .before .before .before .before .before .before .args .own) (c .before .before .before .before .before .before .before .before .before .before .before .before .before .before .before .before .before .before .before .before .args .values .now) _ (c .before .before .before .before .before .before .before .before .before .before .build .result) (c .before .before .before .before .before .before .before .before .before .before .before .before .before .before .before .parameter .ensures) (c .before .before .before .before .before .before .before .before .before .before .before .before .before .before .parameter2 .ensures) (c .before .before .before .before .before .before .before .before .before .before .before .before .before .parameter3 .ensures) (c .before .before .before .before .before .before .before .before .before .before .before .before .parameter4 .ensures) (c .before .before .before .before .before .before .before .before .before .before .build .ensures .0) (rw (c .before .before .before .before .before .before .before .before .before .before .build .ensures .1) at (c .before .before .before .before .show .ensures))
@@ -39,13 +15,13 @@ pub build-into-spec : {M : Type 1} → statement M
 build-into-spec =
     tie.close
     (tie.spec
-    parameter-requires
-    parameter-requires-2
-    parameter-requires-3
-    parameter-requires-4
-    build-requires
+    (λ c κs. search needs)
+    (λ c κs. search needs)
+    (λ c κs. search needs)
+    (λ c κs. search needs)
+    (λ c κs. search needs)
     show-requires
-    same-length
-    same-length-2
-    same-length-3
+    (λ c. search needs)
+    (λ c. search needs)
+    (λ c. search needs)
     returns)

@@ -8,35 +8,8 @@ use Rattle.scripting.proofs.Laws.Rooms.{built-count, did-built-line}
 use Rattle.script.proofs.rooms.build_line.Statement.{statement}
 use Rattle.script.proofs.rooms.build_line.Tie as tie
 
-parameter-requires : tie.Need-parameter-requires
-parameter-requires c κs = search needs
-
-parameter-requires-2 : tie.Need-parameter-requires-2
-parameter-requires-2 c κs = search needs
-
-parameter-requires-3 : tie.Need-parameter-requires-3
-parameter-requires-3 c κs = search needs
-
-parameter-requires-4 : tie.Need-parameter-requires-4
-parameter-requires-4 c κs = search needs
-
-slice-aggregate-build : tie.Need-slice-aggregate-build
-slice-aggregate-build c = search needs
-
-build-requires : tie.Need-build-requires
-build-requires c κs = search needs
-
-slice-aggregate-built : tie.Need-slice-aggregate-built
-slice-aggregate-built c = search needs
-
 built-requires : tie.Need-built-requires
 built-requires c κs = (c .before .before .before .before .before .before .before .before .before .before .before .before .before .pre .0, (omega (arith, c .before .before .before .before .build .kept .1 .1 .1 .1 .0), omega (arith, built-count _ _ _ _ (replicate {A = ℕ} mostWords 0) (c .before .before .before .before .build .result) (c .before .before .before .before .build .ensures .0), c .before .before .before .before .build .kept .1 .1 .1 .1 .0)))
-
-same-length : tie.Need-same-length
-same-length c = search needs
-
-same-length-2 : tie.Need-same-length-2
-same-length-2 c = search needs
 
 returns : tie.Need-returns
 returns c = did-built-line _ _ _ _ (replicate {A = ℕ} mostWords 0) _ (c .before .before .before .before .before .before .before .before .before .before .before .before .before .before .before .before .before .before .args .own) (c .before .before .before .before .before .before .before .before .before .before .before .before .before .before .before .before .before .before .args .values .now) _ (c .before .before .before .before .before .before .before .before .before .build .result) (length-replicate {A = ℕ} mostWords 0) (c .before .before .before .before .before .before .before .before .before .before .before .before .before .before .parameter .ensures) (c .before .before .before .before .before .before .before .before .before .before .before .before .before .parameter2 .ensures) (c .before .before .before .before .before .before .before .before .before .before .before .before .parameter3 .ensures) (c .before .before .before .before .before .before .before .before .before .before .before .parameter4 .ensures) (c .before .before .before .before .before .before .before .before .before .build .ensures .0) (rw (c .before .before .before .before .before .before .before .before .before .build .ensures .1) at (c .before .before .before .before .built .ensures))
@@ -45,14 +18,14 @@ pub build-line-spec : {M : Type 1} → statement M
 build-line-spec =
     tie.close
     (tie.spec
-    parameter-requires
-    parameter-requires-2
-    parameter-requires-3
-    parameter-requires-4
-    slice-aggregate-build
-    build-requires
-    slice-aggregate-built
+    (λ c κs. search needs)
+    (λ c κs. search needs)
+    (λ c κs. search needs)
+    (λ c κs. search needs)
+    (λ c. search needs)
+    (λ c κs. search needs)
+    (λ c. search needs)
     built-requires
-    same-length
-    same-length-2
+    (λ c. search needs)
+    (λ c. search needs)
     returns)

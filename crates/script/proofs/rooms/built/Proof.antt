@@ -8,35 +8,14 @@ use Rattle.scripting.proofs.Laws.Tapes.{did-print}
 use Rattle.script.proofs.rooms.built.Statement.{statement}
 use Rattle.script.proofs.rooms.built.Tie as tie
 
-enum-known-answer : tie.Need-enum-known-answer
-enum-known-answer c = search needs
-
 slice-aggregate-leave : tie.Need-slice-aggregate-leave
 slice-aggregate-leave c = sym (length-take-le (c .before .before .answer .given .0 .0) (c .before .before .before .before .before .before .before .args .row .now) (rw (c .before .before .answer .given .1) at (c .before .before .before .before .before .before .before .pre .1 .1)))
 
 leave-requires : tie.Need-leave-requires
 leave-requires c κs = (c .before .before .before .before .before .before .before .before .before .pre .0, omega (arith, length-take (c .before .before .before .before .answer .given .0 .0) (c .before .before .before .before .before .before .before .before .before .args .row .now), c .before .before .before .before .before .before .before .before .before .pre .1 .0))
 
-enum-known-answer-2 : tie.Need-enum-known-answer-2
-enum-known-answer-2 c = search needs
-
-number-requires : tie.Need-number-requires
-number-requires c κs = search needs
-
-refuse-requires : tie.Need-refuse-requires
-refuse-requires c κs = search needs
-
-same-length : tie.Need-same-length
-same-length c = search needs
-
-same-length-2 : tie.Need-same-length-2
-same-length-2 c = search needs
-
 returns : tie.Need-returns
 returns c = rw (c .before .before .before .before .before .before .before .before .before .answer .given .1) (c .before .before .before .before .leave .ensures)
-
-same-length-3 : tie.Need-same-length-3
-same-length-3 c = search needs
 
 returns-2 : tie.Need-returns-2
 returns-2 c = rw (c .before .before .before .before .before .before .answer2 .given .1, ← c .before .before .before .number .ensures) (did-print _ (c .before .before .before .before .before .before .before .before .before .before .before .pre .0) refl (c .before .before .refuse .ensures .text) (omega (arith, c .before .before .refuse .ensures .short)))
@@ -45,14 +24,14 @@ pub built-spec : {M : Type 1} → statement M
 built-spec =
     tie.close
     (tie.spec
-    enum-known-answer
+    (λ c. search needs)
     slice-aggregate-leave
     leave-requires
-    enum-known-answer-2
-    number-requires
-    refuse-requires
-    same-length
-    same-length-2
+    (λ c. search needs)
+    (λ c κs. search needs)
+    (λ c κs. search needs)
+    (λ c. search needs)
+    (λ c. search needs)
     returns
-    same-length-3
+    (λ c. search needs)
     returns-2)

@@ -12,17 +12,11 @@ use Rattle.scripting.proofs.Laws.Rooms.{filled-part, put-places-in}
 use Rattle.script.proofs.rooms.places_in.Statement.{statement}
 use Rattle.script.proofs.rooms.places_in.Tie as tie
 
-array-borrow-prefix-row : tie.Need-array-borrow-prefix-row
-array-borrow-prefix-row c = search needs
-
 slice-aggregate-places-into : tie.Need-slice-aggregate-places-into
 slice-aggregate-places-into c = sym (length-take-le (c .before .before .args .room) (filled mostRoom) (omega (arith, length-replicate {A = ℕ} mostRoom 255, c .before .before .pre)))
 
 places-into-requires : tie.Need-places-into-requires
 places-into-requires c κs = omega (arith, length-take (c .before .before .before .args .room) (filled mostRoom), c .before .before .before .pre)
-
-same-length : tie.Need-same-length
-same-length c = search needs
 
 returns : tie.Need-returns
 returns c = put-places-in (c .before .before .before .before .before .before .before .args .room) (c .before .before .before .before .before .before .before .args .own) (c .before .before .before .before .before .before .before .args .n ∷ []) _ (filled-part mostRoom (c .before .before .before .before .before .before .before .args .room) (c .before .before .before .before .before .before .before .pre)) (c .before .before .before .places-into .ensures)
@@ -31,8 +25,8 @@ pub places-in-spec : {M : Type 1} → statement M
 places-in-spec =
     tie.close
     (tie.spec
-    array-borrow-prefix-row
+    (λ c. search needs)
     slice-aggregate-places-into
     places-into-requires
-    same-length
+    (λ c. search needs)
     returns)

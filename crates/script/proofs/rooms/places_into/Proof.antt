@@ -7,21 +7,6 @@ use Rattle.scripting.proofs.Laws.Rooms.{put-places-into}
 use Rattle.script.proofs.rooms.places_into.Statement.{statement}
 use Rattle.script.proofs.rooms.places_into.Tie as tie
 
-places-requires : tie.Need-places-requires
-places-requires c κs = search needs
-
-answer-requires : tie.Need-answer-requires
-answer-requires c κs = search needs
-
-bytes-line-requires : tie.Need-bytes-line-requires
-bytes-line-requires c κs = search needs
-
-same-length : tie.Need-same-length
-same-length c = search needs
-
-same-length-2 : tie.Need-same-length-2
-same-length-2 c = search needs
-
 returns : tie.Need-returns
 returns c = put-places-into (c .before .before .before .before .before .before .before .before .before .before .before .before .before .before .before .args .row .now) (c .before .before .before .before .before .before .before .before .before .before .before .before .before .before .before .args .n) (c .before .before .before .before .before .before .before .before .before .before .before .before .before .before .before .args .own) (c .before .before .before .before .before .before .before .before .before .before .before .places .result) (omega (arith, ap length (c .before .before .before .before .before .before .before .before .before .before .before .places .ensures .1), c .before .before .before .before .before .before .before .before .before .before .before .places .kept .1 .0, c .before .before .before .before .before .before .before .before .before .before .before .before .before .before .before .pre)) (c .before .before .before .before .before .before .before .before .before .before .before .places .ensures .0) (c .before .before .before .before .before .before .before .answer .ensures) (rw (c .before .before .before .before .before .before .before .before .before .before .before .places .ensures .1) at (c .before .before .bytes-line .ensures .0)) (rw (c .before .before .before .before .before .before .before .before .before .before .before .places .ensures .1) at (c .before .before .bytes-line .ensures .1))
 
@@ -29,9 +14,9 @@ pub places-into-spec : {M : Type 1} → statement M
 places-into-spec =
     tie.close
     (tie.spec
-    places-requires
-    answer-requires
-    bytes-line-requires
-    same-length
-    same-length-2
+    (λ c κs. search needs)
+    (λ c κs. search needs)
+    (λ c κs. search needs)
+    (λ c. search needs)
+    (λ c. search needs)
     returns)

@@ -12,21 +12,6 @@ use Rattle.scripting.proofs.Laws.Rooms.{did-left}
 use Rattle.script.proofs.rooms.show.Statement.{statement}
 use Rattle.script.proofs.rooms.show.Tie as tie
 
-enum-known-answer : tie.Need-enum-known-answer
-enum-known-answer c = search needs
-
-sub-if1 : tie.Need-sub-if1
-sub-if1 c = search needs
-
-full-requires : tie.Need-full-requires
-full-requires c κs = search needs
-
-same-length : tie.Need-same-length
-same-length c = search needs
-
-same-length-2 : tie.Need-same-length-2
-same-length-2 c = search needs
-
 returns : tie.Need-returns
 returns c = rw (c .before .before .before .before .before .before .before .answer .given .1) (did-full (c .before .before .before .before .before .before .before .before .before .before .before .before .pre .0) (take (c .before .before .before .before .before .before .before .answer .given .0 .0) (c .before .before .before .before .before .before .before .before .before .before .before .before .args .row .now)) _ (omega (arith, c .before .before .before .before .before .if1 .taken, length-take-le (c .before .before .before .before .before .before .before .answer .given .0 .0) (c .before .before .before .before .before .before .before .before .before .before .before .before .args .row .now) (rw (c .before .before .before .before .before .before .before .answer .given .1) at (c .before .before .before .before .before .before .before .before .before .before .before .before .pre .1 .1)))) (c .before .before .full .ensures))
 
@@ -36,41 +21,11 @@ slice-aggregate-copy c = sym (length-take-le (c .before .before .before .answer 
 copy-requires : tie.Need-copy-requires
 copy-requires c κs = omega (arith, c .before .before .if1 .left, c .before .before .before .before .before .before .before .before .before .pre .0 .begin, c .before .before .before .before .before .before .before .before .before .pre .0 .end, length-take-le (c .before .before .before .before .answer .given .0 .0) (c .before .before .before .before .before .before .before .before .before .args .row .now) (rw (c .before .before .before .before .answer .given .1) at (c .before .before .before .before .before .before .before .before .before .pre .1 .1)))
 
-number-line-requires : tie.Need-number-line-requires
-number-line-requires c κs = search needs
-
-ending-requires : tie.Need-ending-requires
-ending-requires c κs = search needs
-
-numbers-line-requires : tie.Need-numbers-line-requires
-numbers-line-requires c κs = search needs
-
-enum-known-answer-2 : tie.Need-enum-known-answer-2
-enum-known-answer-2 c = search needs
-
-number-requires : tie.Need-number-requires
-number-requires c κs = search needs
-
-refuse-requires : tie.Need-refuse-requires
-refuse-requires c κs = search needs
-
-numbers-line-requires-2 : tie.Need-numbers-line-requires-2
-numbers-line-requires-2 c κs = search needs
-
-same-length-3 : tie.Need-same-length-3
-same-length-3 c = search needs
-
-same-length-4 : tie.Need-same-length-4
-same-length-4 c = search needs
-
 returns-2 : tie.Need-returns-2
 returns-2 c = let row = c .before .before .before .before .before .before .before .before .before .before .before .before .before .before .before .before .before .before .before .before .before .args .row .now in
     rw (c .before .before .before .before .before .before .before .before .before .before .before .before .before .before .before .before .answer .given .1)
     (did-left (c .before .before .before .before .before .before .before .before .before .before .before .before .before .before .before .before .before .before .before .before .before .pre .0) (take (c .before .before .before .before .before .before .before .before .before .before .before .before .before .before .before .before .answer .given .0 .0) row) _ (omega (arith, c .before .before .before .before .before .before .before .before .before .before .before .before .before .before .if1 .left, c .before .before .before .before .before .before .before .before .before .before .before .before .before .before .before .before .before .before .before .before .before .pre .0 .begin, c .before .before .before .before .before .before .before .before .before .before .before .before .before .before .before .before .before .before .before .before .before .pre .0 .end, length-take-le (c .before .before .before .before .before .before .before .before .before .before .before .before .before .before .before .before .answer .given .0 .0) row (rw (c .before .before .before .before .before .before .before .before .before .before .before .before .before .before .before .before .answer .given .1) at (c .before .before .before .before .before .before .before .before .before .before .before .before .before .before .before .before .before .before .before .before .before .pre .1 .1)))) (c .before .before .before .before .before .before .before .before .before .before .before .copy .ensures) (c .before .before .before .before .ending .ensures) (puts-join (c .before .before .before .before .before .before .before .number-line .ensures .0) (c .before .before .numbers-line .ensures .0))
     (omega (arith, c .before .before .before .before .before .before .before .number-line .ensures .1, c .before .before .numbers-line .ensures .1, c .before .before .before .before .before .before .before .before .before .before .before .before .before .before .before .before .before .before .before .before .before .pre .1 .0, length-append (numberLine (c .before .before .before .before .before .before .before .before .before .before .before .before .before .before .before .before .answer .given .0 .0)) (numbersLine row))))
-
-same-length-5 : tie.Need-same-length-5
-same-length-5 c = search needs
 
 returns-3 : tie.Need-returns-3
 returns-3 c = rw (c .before .before .before .before .before .before .before .before .before .before .answer2 .given .1, ← c .before .before .before .before .before .before .before .number .ensures)
@@ -81,23 +36,23 @@ pub show-spec : {M : Type 1} → statement M
 show-spec =
     tie.close
     (tie.spec
-    enum-known-answer
-    sub-if1
-    full-requires
-    same-length
-    same-length-2
+    (λ c. search needs)
+    (λ c. search needs)
+    (λ c κs. search needs)
+    (λ c. search needs)
+    (λ c. search needs)
     returns
     slice-aggregate-copy
     copy-requires
-    number-line-requires
-    ending-requires
-    numbers-line-requires
-    enum-known-answer-2
-    number-requires
-    refuse-requires
-    numbers-line-requires-2
-    same-length-3
-    same-length-4
+    (λ c κs. search needs)
+    (λ c κs. search needs)
+    (λ c κs. search needs)
+    (λ c. search needs)
+    (λ c κs. search needs)
+    (λ c κs. search needs)
+    (λ c κs. search needs)
+    (λ c. search needs)
+    (λ c. search needs)
     returns-2
-    same-length-5
+    (λ c. search needs)
     returns-3)

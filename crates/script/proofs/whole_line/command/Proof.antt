@@ -9,26 +9,11 @@ use Rattle.scripting.proofs.Laws.Judging.{did-command}
 use Rattle.script.proofs.whole_line.command.Statement.{statement}
 use Rattle.script.proofs.whole_line.command.Tie as tie
 
-slice-aggregate-to-arguments : tie.Need-slice-aggregate-to-arguments
-slice-aggregate-to-arguments c = search needs
-
-to-arguments-requires : tie.Need-to-arguments-requires
-to-arguments-requires c κs = search needs
-
 array-share-prefix-row : tie.Need-array-share-prefix-row
 array-share-prefix-row c = omega (arith, c .before .to-arguments .ensures .next-is, arguments-length (c .before .before .before .before .before .before .args .line .now), wrote-length (c .before .to-arguments .ensures), c .before .before .before .before .before .before .pre .1)
 
 slice-aggregate-commanded : tie.Need-slice-aggregate-commanded
 slice-aggregate-commanded c = sym (length-take-le (c .before .before .to-arguments .result) (c .before .before .to-arguments .last .1 .0) (omega (arith, c .before .before .to-arguments .ensures .next-is, arguments-length (c .before .before .before .before .before .before .before .args .line .now), wrote-length (c .before .before .to-arguments .ensures), c .before .before .before .before .before .before .before .pre .1)))
-
-commanded-requires : tie.Need-commanded-requires
-commanded-requires c κs = search needs
-
-same-length : tie.Need-same-length
-same-length c = search needs
-
-same-length-2 : tie.Need-same-length-2
-same-length-2 c = search needs
 
 returns : tie.Need-returns
 returns c = did-command _ (c .before .before .before .before .before .before .before .before .before .before .before .before .before .before .args .line .now) _ (wrote-taken (c .before .before .before .before .before .before .before .before .before .to-arguments .ensures) (omega (arith, arguments-length (c .before .before .before .before .before .before .before .before .before .before .before .before .before .before .args .line .now), c .before .before .before .before .before .before .before .before .before .before .before .before .before .before .pre .1))) (c .before .before .before .before .commanded .ensures)
@@ -37,11 +22,11 @@ pub command-spec : {M : Type 1} → statement M
 command-spec =
     tie.close
     (tie.spec
-    slice-aggregate-to-arguments
-    to-arguments-requires
+    (λ c. search needs)
+    (λ c κs. search needs)
     array-share-prefix-row
     slice-aggregate-commanded
-    commanded-requires
-    same-length
-    same-length-2
+    (λ c κs. search needs)
+    (λ c. search needs)
+    (λ c. search needs)
     returns)

@@ -11,55 +11,16 @@ use Rattle.scripting.proofs.Laws.Judging.{line-long, line-copied, line-judged, 
 use Rattle.script.proofs.whole_line.done.Statement.{statement}
 use Rattle.script.proofs.whole_line.done.Tie as tie
 
-slice-aggregate-put-then : tie.Need-slice-aggregate-put-then
-slice-aggregate-put-then c = search needs
-
-put-then-requires : tie.Need-put-then-requires
-put-then-requires c κs = search needs
-
-same-length : tie.Need-same-length
-same-length c = search needs
-
 returns : tie.Need-returns
 returns c = rw (line-long _ (c .before .before .before .before .before .before .before .before .before .args .line .now) _ (c .before .before .before .before .before .if1 .taken)) (did-print longLine (c .before .before .before .before .before .before .before .before .before .pre) refl (c .before .before .put-then .ensures) (omega arith))
-
-is-copied-requires : tie.Need-is-copied-requires
-is-copied-requires c κs = search needs
-
-put-then-requires-2 : tie.Need-put-then-requires-2
-put-then-requires-2 c κs = search needs
-
-same-length-2 : tie.Need-same-length-2
-same-length-2 c = search needs
 
 returns-2 : tie.Need-returns-2
 returns-2 c = rw (line-copied _ (c .before .before .before .before .before .before .before .before .before .before .args .line .now) _ (c .before .before .before .before .before .before .if1 .left) (sym (c .before .before .before .before .before .is-copied .ensures) ∙ c .before .before .before .before .if2 .taken))
     (did-print (c .before .before .before .before .before .before .before .before .before .before .args .line .now ++ newline ∷ []) (c .before .before .before .before .before .before .before .before .before .before .pre) refl (c .before .before .put-then2 .ensures) (omega (arith, c .before .before .before .before .before .before .if1 .left, length-append (c .before .before .before .before .before .before .before .before .before .before .args .line .now) (newline ∷ []))))
 
-equals-in-requires : tie.Need-equals-in-requires
-equals-in-requires c κs = search needs
-
-judge-requires : tie.Need-judge-requires
-judge-requires c κs = search needs
-
-same-length-3 : tie.Need-same-length-3
-same-length-3 c = search needs
-
-same-length-4 : tie.Need-same-length-4
-same-length-4 c = search needs
-
 returns-3 : tie.Need-returns-3
 returns-3 c = let at : c .before .before .before .before .before .before .before .before .equals-in .result ≡ equalsIn (c .before .before .before .before .before .before .before .before .before .before .before .before .before .before .before .args .line .now) = c .before .before .before .before .before .before .before .before .equals-in .ensures in
     rw (line-judged _ (c .before .before .before .before .before .before .before .before .before .before .before .before .before .before .before .args .line .now) _ (c .before .before .before .before .before .before .before .before .before .before .before .if1 .left) (sym (c .before .before .before .before .before .before .before .before .before .before .is-copied .ensures) ∙ c .before .before .before .before .before .before .before .before .before .if2 .left) (omega (arith, at, c .before .before .before .before .before .before .before .if3 .taken))) (rw at at (c .before .before .before .before .judge .ensures))
-
-command-requires : tie.Need-command-requires
-command-requires c κs = search needs
-
-same-length-5 : tie.Need-same-length-5
-same-length-5 c = search needs
-
-same-length-6 : tie.Need-same-length-6
-same-length-6 c = search needs
 
 returns-4 : tie.Need-returns-4
 returns-4 c = rw (line-command _ (c .before .before .before .before .before .before .before .before .before .before .before .before .before .before .before .args .line .now) _ (c .before .before .before .before .before .before .before .before .before .before .before .if1 .left) (sym (c .before .before .before .before .before .before .before .before .before .before .is-copied .ensures) ∙ c .before .before .before .before .before .before .before .before .before .if2 .left) (omega (arith, c .before .before .before .before .before .before .before .before .equals-in .ensures, c .before .before .before .before .before .before .before .if3 .left))) (did-line (c .before .before .before .before .command .ensures))
@@ -68,20 +29,20 @@ pub done-spec : {M : Type 1} → statement M
 done-spec =
     tie.close
     (tie.spec
-    slice-aggregate-put-then
-    put-then-requires
-    same-length
+    (λ c. search needs)
+    (λ c κs. search needs)
+    (λ c. search needs)
     returns
-    is-copied-requires
-    put-then-requires-2
-    same-length-2
+    (λ c κs. search needs)
+    (λ c κs. search needs)
+    (λ c. search needs)
     returns-2
-    equals-in-requires
-    judge-requires
-    same-length-3
-    same-length-4
+    (λ c κs. search needs)
+    (λ c κs. search needs)
+    (λ c. search needs)
+    (λ c. search needs)
     returns-3
-    command-requires
-    same-length-5
-    same-length-6
+    (λ c κs. search needs)
+    (λ c. search needs)
+    (λ c. search needs)
     returns-4)

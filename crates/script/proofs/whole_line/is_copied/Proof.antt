@@ -9,11 +9,8 @@ use Rattle.script.proofs.whole_line.is_copied.Tie as tie
 returns : tie.Need-returns
 returns c = sym (copied-none (c .before .args .line .now) (c .if1 .taken))
 
-shared-slice-read-result : tie.Need-shared-slice-read-result
-shared-slice-read-result c = search needs
-
 returns-2 : tie.Need-returns-2
 returns-2 c = sym (copied-by (c .before .before .args .line .now) (omega (arith, c .before .if1 .left)))
 
 pub is-copied-spec : {M : Type 1} → statement M
-is-copied-spec = tie.close (tie.spec returns shared-slice-read-result returns-2)
+is-copied-spec = tie.close (tie.spec returns (λ c. search needs) returns-2)

@@ -6,32 +6,14 @@ use Rattle.scripting.proofs.Laws.Equals.{equals-short, equals-first, equals-sec
 use Rattle.script.proofs.whole_line.is_equals.Statement.{statement}
 use Rattle.script.proofs.whole_line.is_equals.Tie as tie
 
-sub-if1 : tie.Need-sub-if1
-sub-if1 c = search needs
-
 returns : tie.Need-returns
 returns c = sym (equals-short (c .before .args .line .now) (c .before .args .at) (omega arith))
-
-shared-slice-read-if2 : tie.Need-shared-slice-read-if2
-shared-slice-read-if2 c = search needs
 
 returns-2 : tie.Need-returns-2
 returns-2 c = sym (equals-first (c .before .before .before .args .line .now) (c .before .before .before .args .at) (c .if2 .taken))
 
-add-if3 : tie.Need-add-if3
-add-if3 c = search needs
-
-shared-slice-read-if3 : tie.Need-shared-slice-read-if3
-shared-slice-read-if3 c = search needs
-
 returns-3 : tie.Need-returns-3
 returns-3 c = sym (equals-second (c .before .before .before .before .before .args .line .now) (c .before .before .before .before .before .args .at) (c .before .before .if2 .left) (c .if3 .taken))
-
-add-result : tie.Need-add-result
-add-result c = search needs
-
-shared-slice-read-result : tie.Need-shared-slice-read-result
-shared-slice-read-result c = search needs
 
 returns-4 : tie.Need-returns-4
 returns-4 c = sym (equals-third (c .before .before .before .before .before .before .args .line .now) (c .before .before .before .before .before .before .args .at) (c .before .before .before .if2 .left) (omega (arith, c .before .before .before .before .before .if1 .left, c .before .before .before .before .before .before .pre)) (c .before .if3 .left))
@@ -40,13 +22,13 @@ pub is-equals-spec : {M : Type 1} → statement M
 is-equals-spec =
     tie.close
     (tie.spec
-    sub-if1
+    (λ c. search needs)
     returns
-    shared-slice-read-if2
+    (λ c. search needs)
     returns-2
-    add-if3
-    shared-slice-read-if3
+    (λ c. search needs)
+    (λ c. search needs)
     returns-3
-    add-result
-    shared-slice-read-result
+    (λ c. search needs)
+    (λ c. search needs)
     returns-4)

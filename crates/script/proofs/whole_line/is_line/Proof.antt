@@ -11,23 +11,14 @@ use Rattle.script.proofs.whole_line.is_line.Tie as tie
 returns : tie.Need-returns
 returns c = sym (line-length (c .before .before .before .args .text .now) (c .before .before .before .args .line .now) (λ e. omega (arith, e, c .if1 .taken)))
 
-sub-if2 : tie.Need-sub-if2
-sub-if2 c = search needs
-
 returns-2 : tie.Need-returns-2
 returns-2 c = sym (line-length (c .before .before .before .before .args .text .now) (c .before .before .before .before .args .line .now) (λ e. c .if2 .taken (omega (arith, e))))
-
-shared-slice-read-if3 : tie.Need-shared-slice-read-if3
-shared-slice-read-if3 c = search needs
 
 returns-3 : tie.Need-returns-3
 returns-3 c = sym (line-end (c .before .before .before .before .before .before .args .text .now) (c .before .before .before .before .before .before .args .line .now) (c .if3 .taken))
 
 slice-aggregate-same : tie.Need-slice-aggregate-same
 slice-aggregate-same c = sym (length-take-le (length (c .before .before .before .before .before .before .before .args .line .now)) (c .before .before .before .before .before .before .before .args .text .now) (omega (arith, c .before .before .before .before .if1 .left)))
-
-same-requires : tie.Need-same-requires
-same-requires c κs = search needs
 
 returns-4 : tie.Need-returns-4
 returns-4 c = line-same (c .before .before .before .before .before .before .before .before .args .text .now) (c .before .before .before .before .before .before .before .before .args .line .now) (omega (arith, c .before .before .before .before .if2 .left, c .before .before .before .before .before .if1 .left)) (c .before .before .if3 .left) (c .same .result) (c .same .ensures)
@@ -37,10 +28,10 @@ is-line-spec =
     tie.close
     (tie.spec
     returns
-    sub-if2
+    (λ c. search needs)
     returns-2
-    shared-slice-read-if3
+    (λ c. search needs)
     returns-3
     slice-aggregate-same
-    same-requires
+    (λ c κs. search needs)
     returns-4)

@@ -19,26 +19,11 @@ use Rattle.script.proofs.whole_line.judge.Tie as tie
 slice-aggregate-command : tie.Need-slice-aggregate-command
 slice-aggregate-command c = sym (length-take-le (c .before .before .before .before .args .at) (c .before .before .before .before .args .line .now) (omega (arith, c .before .before .before .before .pre .1)))
 
-slice-aggregate-command-2 : tie.Need-slice-aggregate-command-2
-slice-aggregate-command-2 c = search needs
-
 command-requires : tie.Need-command-requires
 command-requires c κs = (c .before .before .before .before .before .before .pre .0, omega (arith, length-take (c .before .before .before .before .before .before .args .at) (c .before .before .before .before .before .before .args .line .now), c .before .before .before .before .before .before .pre .1))
 
-add-said : tie.Need-add-said
-add-said c = search needs
-
-array-share-prefix-space : tie.Need-array-share-prefix-space
-array-share-prefix-space c = search needs
-
 slice-aggregate-put : tie.Need-slice-aggregate-put
 slice-aggregate-put c = sym (length-take-le (c .before .before .before .before .before .before .command .result .length) (c .before .before .before .before .before .before .command .last .1 .1 .1 .0) (put-inside (c .before .before .before .before .before .before .command .ensures .printed) (omega arith)))
-
-put-requires : tie.Need-put-requires
-put-requires c κs = search needs
-
-array-share-prefix-space-2 : tie.Need-array-share-prefix-space-2
-array-share-prefix-space-2 c = search needs
 
 slice-aggregate-put-verdict : tie.Need-slice-aggregate-put-verdict
 slice-aggregate-put-verdict c = sym (length-take-le (c .before .before .before .before .before .before .before .before .before .before .before .command .result .length) (c .before .before .before .before .before .before .before .before .before .before .before .command .last .1 .1 .1 .0) (put-inside (c .before .before .before .before .before .before .before .before .before .before .before .command .ensures .printed) (omega arith)))
@@ -49,18 +34,6 @@ sub-put-verdict c = omega (arith, equals-whole (c .before .before .before .befor
 part-put-verdict-start : tie.Need-part-put-verdict-start
 part-put-verdict-start c = omega (arith, equals-whole (c .before .before .before .before .before .before .before .before .before .before .before .before .before .before .before .before .before .before .args .line .now) (omega (arith, c .before .before .before .before .before .before .before .before .before .before .before .before .before .before .before .before .before .before .pre .1)), c .before .before .before .before .before .before .before .before .before .before .before .before .before .before .before .before .before .before .pre .1)
 
-part-put-verdict-end : tie.Need-part-put-verdict-end
-part-put-verdict-end c = search needs
-
-put-verdict-requires : tie.Need-put-verdict-requires
-put-verdict-requires c κs = search needs
-
-same-length : tie.Need-same-length
-same-length c = search needs
-
-same-length-2 : tie.Need-same-length-2
-same-length-2 c = search needs
-
 returns : tie.Need-returns
 returns c = did-judged _ (drop (c .before .before .before .before .before .before .before .before .before .before .before .before .before .before .before .before .before .before .before .before .before .before .args .at + 3) (c .before .before .before .before .before .before .before .before .before .before .before .before .before .before .before .before .before .before .before .before .before .before .args .line .now)) (c .before .before .before .before .before .before .before .before .before .before .before .before .before .before .before .command .ensures) (length-replicate {A = ℕ} mostPrinted 0) (omega (arith, length-drop (c .before .before .before .before .before .before .before .before .before .before .before .before .before .before .before .before .before .before .before .before .before .before .args .at + 3) (c .before .before .before .before .before .before .before .before .before .before .before .before .before .before .before .before .before .before .before .before .before .before .args .line .now), c .before .before .before .before .before .before .before .before .before .before .before .before .before .before .before .before .before .before .before .before .before .before .pre .1)) refl (c .before .before .before .before .before .before .before .before .put .ensures) (rw (take-all (length (c .before .before .before .before .before .before .before .before .before .before .before .before .before .before .before .before .before .before .before .before .before .before .args .line .now) - (c .before .before .before .before .before .before .before .before .before .before .before .before .before .before .before .before .before .before .before .before .before .before .args .at + 3)) (drop (c .before .before .before .before .before .before .before .before .before .before .before .before .before .before .before .before .before .before .before .before .before .before .args .at + 3) (c .before .before .before .before .before .before .before .before .before .before .before .before .before .before .before .before .before .before .before .before .before .before .args .line .now)) (omega (arith, length-drop (c .before .before .before .before .before .before .before .before .before .before .before .before .before .before .before .before .before .before .before .before .before .before .args .at + 3) (c .before .before .before .before .before .before .before .before .before .before .before .before .before .before .before .before .before .before .before .before .before .before .args .line .now)))) at (c .before .before .put-verdict .ensures))
 
@@ -69,18 +42,18 @@ judge-spec =
     tie.close
     (tie.spec
     slice-aggregate-command
-    slice-aggregate-command-2
+    (λ c. search needs)
     command-requires
-    add-said
-    array-share-prefix-space
+    (λ c. search needs)
+    (λ c. search needs)
     slice-aggregate-put
-    put-requires
-    array-share-prefix-space-2
+    (λ c κs. search needs)
+    (λ c. search needs)
     slice-aggregate-put-verdict
     sub-put-verdict
     part-put-verdict-start
-    part-put-verdict-end
-    put-verdict-requires
-    same-length
-    same-length-2
+    (λ c. search needs)
+    (λ c κs. search needs)
+    (λ c. search needs)
+    (λ c. search needs)
     returns)

@@ -12,13 +12,10 @@ use Rattle.sequencer.proofs.conditions.is_bad_base.Tie as tie
 returns : tie.Need-returns
 returns c = sym (base-free _ _ (c .if1 .taken))
 
-power-requires : tie.Need-power-requires
-power-requires c κs = search needs
-
 returns-2 : tie.Need-returns-2
 returns-2 c =
     ap (λ (n : ℕ). not (eqb n 1)) (c .power .ensures ∙ remainder-is _ _ (c .before .before .before .pre))
     ∙ sym (base-named _ _ (c .before .if1 .left))
 
 pub is-bad-base-spec : {M : Type 1} → statement M
-is-bad-base-spec = tie.close (tie.spec returns power-requires returns-2)
+is-bad-base-spec = tie.close (tie.spec returns (λ c κs. search needs) returns-2)

@@ -5,14 +5,8 @@ use borrow.Author.Needs.{needs}
 use Rattle.sequencer.proofs.conditions.is_some_bad.Statement.{statement}
 use Rattle.sequencer.proofs.conditions.is_some_bad.Tie as tie
 
-is-bad-register-requires : tie.Need-is-bad-register-requires
-is-bad-register-requires c κs = search needs
-
 returns : tie.Need-returns
 returns c = sym (registers-first _ _ _ (sym (c .before .is-bad-register .ensures) ∙ c .if1 .taken))
-
-is-bad-register-requires-2 : tie.Need-is-bad-register-requires-2
-is-bad-register-requires-2 c κs = search needs
 
 returns-2 : tie.Need-returns-2
 returns-2 c =
@@ -20,18 +14,12 @@ returns-2 c =
     (registers-others _ _ _ (sym (c .before .before .before .is-bad-register .ensures) ∙ c .before .before .if1 .left)
     ∙ registers-first _ _ _ (sym (c .before .is-bad-register2 .ensures) ∙ c .if2 .taken))
 
-is-bad-register-requires-3 : tie.Need-is-bad-register-requires-3
-is-bad-register-requires-3 c κs = search needs
-
 returns-3 : tie.Need-returns-3
 returns-3 c =
     sym
     (registers-others _ _ _ (sym (c .before .before .before .before .before .is-bad-register .ensures) ∙ c .before .before .before .before .if1 .left)
     ∙ registers-others _ _ _ (sym (c .before .before .before .is-bad-register2 .ensures) ∙ c .before .before .if2 .left)
     ∙ registers-first _ _ _ (sym (c .before .is-bad-register3 .ensures) ∙ c .if3 .taken))
-
-is-bad-register-requires-4 : tie.Need-is-bad-register-requires-4
-is-bad-register-requires-4 c κs = search needs
 
 returns-4 : tie.Need-returns-4
 returns-4 c =
@@ -46,11 +34,11 @@ pub is-some-bad-spec : {M : Type 1} → statement M
 is-some-bad-spec =
     tie.close
     (tie.spec
-    is-bad-register-requires
+    (λ c κs. search needs)
     returns
-    is-bad-register-requires-2
+    (λ c κs. search needs)
     returns-2
-    is-bad-register-requires-3
+    (λ c κs. search needs)
     returns-3
-    is-bad-register-requires-4
+    (λ c κs. search needs)
     returns-4)

@@ -8,12 +8,6 @@ use Rattle.sequencer.specs.Services.{registersOutcomeOf}
 use Rattle.sequencer.proofs.requests.after_run.Statement.{statement}
 use Rattle.sequencer.proofs.requests.after_run.Tie as tie
 
-enum-known-answer : tie.Need-enum-known-answer
-enum-known-answer c = search needs
-
-enum-known-answer-2 : tie.Need-enum-known-answer-2
-enum-known-answer-2 c = search needs
-
 returns : tie.Need-returns
 returns c = sym (ap (λ (s : RegistersAnswer). after (registersOutcomeOf s) (valuesOf (c .before .before .before .args .registers))) (c .before .answer .given .1))
 
@@ -21,4 +15,4 @@ returns-2 : tie.Need-returns-2
 returns-2 c = sym (ap (λ (s : RegistersAnswer). after (registersOutcomeOf s) (valuesOf (c .before .before .before .args .registers))) (c .before .answer2 .given .1))
 
 pub after-run-spec : {M : Type 1} → statement M
-after-run-spec = tie.close (tie.spec enum-known-answer enum-known-answer-2 returns returns-2)
+after-run-spec = tie.close (tie.spec (λ c. search needs) (λ c. search needs) returns returns-2)

@@ -6,18 +6,6 @@ use lib.Seq.{set-out}
 use Rattle.sequencer.proofs.requests.note.Statement.{statement}
 use Rattle.sequencer.proofs.requests.note.Tie as tie
 
-number-of-requires : tie.Need-number-of-requires
-number-of-requires c κs = search needs
-
-mul-numbers : tie.Need-mul-numbers
-mul-numbers c = search needs
-
-slice-write-numbers : tie.Need-slice-write-numbers
-slice-write-numbers c = search needs
-
-same-length : tie.Need-same-length
-same-length c = search needs
-
 returns : tie.Need-returns
 returns c = let start = c .before .before .before .args in ap (set (start .numbers .now) (start .at)) (c .number-of .ensures)
 
@@ -27,4 +15,4 @@ returns-2 c = sym (set-out _ _ _ (c .if1 .left))
 pub note-spec : {M : Type 1} → statement M
 note-spec =
     tie.close
-    (tie.spec number-of-requires mul-numbers slice-write-numbers same-length returns returns-2)
+    (tie.spec (λ c κs. search needs) (λ c. search needs) (λ c. search needs) (λ c. search needs) returns returns-2)

@@ -7,21 +7,6 @@ use Rattle.sequencer.proofs.Laws.Travel.{carried-next}
 use Rattle.sequencer.proofs.travel.carry.Statement.{statement}
 use Rattle.sequencer.proofs.travel.carry.Tie as tie
 
-nth-step-requires : tie.Need-nth-step-requires
-nth-step-requires c κs = search needs
-
-turned-requires : tie.Need-turned-requires
-turned-requires c κs = search needs
-
-apply-with-requires : tie.Need-apply-with-requires
-apply-with-requires c κs = search needs
-
-same-length : tie.Need-same-length
-same-length c = search needs
-
-same-length-2 : tie.Need-same-length-2
-same-length-2 c = search needs
-
 returns : tie.Need-returns
 returns c =
     let done = c .before .before .before .before in
@@ -34,9 +19,9 @@ pub carry-spec : {M : Type 1} → statement M
 carry-spec =
     tie.close
     (tie.spec
-    nth-step-requires
-    turned-requires
-    apply-with-requires
-    same-length
-    same-length-2
+    (λ c κs. search needs)
+    (λ c κs. search needs)
+    (λ c κs. search needs)
+    (λ c. search needs)
+    (λ c. search needs)
     returns)

@@ -19,26 +19,11 @@ end c =
 sort : (c : tie.After-sort-of) → c .sort-of .result ≡ sortOf (decoded (endAt (c .before .before .before .before .args .tape .now)))
 sort c = c .sort-of .ensures ∙ ap sortOf (end (c .before))
 
-step-count-requires : tie.Need-step-count-requires
-step-count-requires c κs = search needs
-
 add-means-at : tie.Need-add-means-at
 add-means-at c = omega (arith, c .step-count .ensures, c .before .before .good)
 
-means-at-requires : tie.Need-means-at-requires
-means-at-requires c κs = search needs
-
-sort-of-requires : tie.Need-sort-of-requires
-sort-of-requires c κs = search needs
-
 returns : tie.Need-returns
 returns c = sym (end-sort _ _ (λ e. c .if1 .taken (sort (c .before) ∙ e)))
-
-value-of-requires : tie.Need-value-of-requires
-value-of-requires c κs = search needs
-
-cast-result : tie.Need-cast-result
-cast-result c = search needs
 
 returns-2 : tie.Need-returns-2
 returns-2 c =
@@ -51,11 +36,11 @@ pub is-end-spec : {M : Type 1} → statement M
 is-end-spec =
     tie.close
     (tie.spec
-    step-count-requires
+    (λ c κs. search needs)
     add-means-at
-    means-at-requires
-    sort-of-requires
+    (λ c κs. search needs)
+    (λ c κs. search needs)
     returns
-    value-of-requires
-    cast-result
+    (λ c κs. search needs)
+    (λ c. search needs)
     returns-2)

@@ -24,40 +24,16 @@ sort-3 : (c : tie.After-sort-of3)
     → c .sort-of3 .result ≡ sortOf (meansAt (c .before .before .before .before .before .before .before .before .before .args .tape .now) 2)
 sort-3 c = c .sort-of3 .ensures ∙ ap sortOf (c .before .means-at3 .ensures)
 
-means-at-requires : tie.Need-means-at-requires
-means-at-requires c κs = search needs
-
-sort-of-requires : tie.Need-sort-of-requires
-sort-of-requires c κs = search needs
-
 returns : tie.Need-returns
 returns c = sym (header-not-1 _ (λ e. c .if1 .taken (sort-1 (c .before) ∙ e)))
 
-means-at-requires-2 : tie.Need-means-at-requires-2
-means-at-requires-2 c κs = search needs
-
-sort-of-requires-2 : tie.Need-sort-of-requires-2
-sort-of-requires-2 c κs = search needs
-
 returns-2 : tie.Need-returns-2
 returns-2 c = sym (header-not-2 _ (is-1 (c .before .before .before)) (λ e. c .if2 .taken (sort-2 (c .before) ∙ e)))
-
-means-at-requires-3 : tie.Need-means-at-requires-3
-means-at-requires-3 c κs = search needs
-
-sort-of-requires-3 : tie.Need-sort-of-requires-3
-sort-of-requires-3 c κs = search needs
 
 returns-3 : tie.Need-returns-3
 returns-3 c =
     let second = c .before .before .before in
     sym (header-not-3 _ (is-1 (second .before .before .before)) (is-2 second) (λ e. c .if3 .taken (sort-3 (c .before) ∙ e)))
-
-means-at-requires-4 : tie.Need-means-at-requires-4
-means-at-requires-4 c κs = search needs
-
-sort-of-requires-4 : tie.Need-sort-of-requires-4
-sort-of-requires-4 c κs = search needs
 
 returns-4 : tie.Need-returns-4
 returns-4 c =
@@ -70,15 +46,15 @@ pub is-header-spec : {M : Type 1} → statement M
 is-header-spec =
     tie.close
     (tie.spec
-    means-at-requires
-    sort-of-requires
+    (λ c κs. search needs)
+    (λ c κs. search needs)
     returns
-    means-at-requires-2
-    sort-of-requires-2
+    (λ c κs. search needs)
+    (λ c κs. search needs)
     returns-2
-    means-at-requires-3
-    sort-of-requires-3
+    (λ c κs. search needs)
+    (λ c κs. search needs)
     returns-3
-    means-at-requires-4
-    sort-of-requires-4
+    (λ c κs. search needs)
+    (λ c κs. search needs)
     returns-4)

@@ -10,18 +10,6 @@ returns c =
     let args = c .before .before .args in
     sym (means-past (args .tape .now) (args .i) (c .if1 .taken))
 
-mul-decode : tie.Need-mul-decode
-mul-decode c = search needs
-
-shared-slice-read-decode : tie.Need-shared-slice-read-decode
-shared-slice-read-decode c = search needs
-
-decode-requires : tie.Need-decode-requires
-decode-requires c κs = search needs
-
-returns-2 : tie.Need-returns-2
-returns-2 c = search needs
-
 pub means-at-spec : {M : Type 1} → statement M
 means-at-spec =
-    tie.close (tie.spec returns mul-decode shared-slice-read-decode decode-requires returns-2)
+    tie.close (tie.spec returns (λ c. search needs) (λ c. search needs) (λ c κs. search needs) (λ c. search needs))

@@ -17,9 +17,6 @@ returns c =
     let word = c .before .args .word in
     sym (ne-eqb (sortOf (decoded word)) 5 (λ e. omega (arith, c .if1 .taken, step-shape word e .pair)))
 
-kinds-of-requires : tie.Need-kinds-of-requires
-kinds-of-requires c κs = search needs
-
 returns-2 : tie.Need-returns-2
 returns-2 c =
     let word = c .before .before .before .args .word in
@@ -42,4 +39,4 @@ returns-3 c =
     (λ t. t ∙ sym (ne-eqb (sortOf (decoded word)) 5 (λ e. omega (arith, are, ltb-false past kinds t, step-shape word e .taken, c .if2 .left))))
 
 pub is-step-spec : {M : Type 1} → statement M
-is-step-spec = tie.close (tie.spec returns kinds-of-requires returns-2 returns-3)
+is-step-spec = tie.close (tie.spec returns (λ c κs. search needs) returns-2 returns-3)

@@ -6,9 +6,6 @@ use Rattle.tape.proofs.Laws.Payloads.{action-apart, action-bad}
 use Rattle.tape.proofs.words.multiplication_in.Statement.{statement}
 use Rattle.tape.proofs.words.multiplication_in.Tie as tie
 
-are-apart-requires : tie.Need-are-apart-requires
-are-apart-requires c κs = search needs
-
 returns : tie.Need-returns
 returns c = sym (action-bad _ _ (sym (c .before .are-apart .ensures) ∙ not-true _ (c .if1 .taken)))
 
@@ -16,4 +13,4 @@ returns-2 : tie.Need-returns-2
 returns-2 c = sym (action-apart _ _ (sym (c .before .are-apart .ensures) ∙ not-false _ (c .if1 .left)))
 
 pub multiplication-in-spec : {M : Type 1} → statement M
-multiplication-in-spec = tie.close (tie.spec are-apart-requires returns returns-2)
+multiplication-in-spec = tie.close (tie.spec (λ c κs. search needs) returns returns-2)

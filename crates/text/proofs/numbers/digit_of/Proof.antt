@@ -6,21 +6,6 @@ use Rattle.text.proofs.Laws.Digits.{digit-decimal, digit-lower, digit-u
 use Rattle.text.proofs.numbers.digit_of.Statement.{statement}
 use Rattle.text.proofs.numbers.digit_of.Tie as tie
 
-cast-result : tie.Need-cast-result
-cast-result c = search needs
-
-add-result : tie.Need-add-result
-add-result c = search needs
-
-cast-result-2 : tie.Need-cast-result-2
-cast-result-2 c = search needs
-
-add-result-2 : tie.Need-add-result-2
-add-result-2 c = search needs
-
-cast-result-3 : tie.Need-cast-result-3
-cast-result-3 c = search needs
-
 returns : tie.Need-returns
 returns c = sym (digit-decimal _ (omega arith) (omega arith))
 
@@ -46,11 +31,11 @@ pub digit-of-spec : {M : Type 1} → statement M
 digit-of-spec =
     tie.close
     (tie.spec
-    cast-result
-    add-result
-    cast-result-2
-    add-result-2
-    cast-result-3
+    (λ c. search needs)
+    (λ c. search needs)
+    (λ c. search needs)
+    (λ c. search needs)
+    (λ c. search needs)
     returns
     returns-2
     returns-3

@@ -8,18 +8,12 @@ use Rattle.text.proofs.numbers.is_hexadecimal.Tie as tie
 returns : tie.Need-returns
 returns c = sym (hexadecimal-short _ (c .if1 .taken))
 
-shared-slice-read-if2 : tie.Need-shared-slice-read-if2
-shared-slice-read-if2 c = search needs
-
 returns-2 : tie.Need-returns-2
 returns-2 c = sym (hexadecimal-not _ (c .if2 .taken))
-
-shared-slice-read-result : tie.Need-shared-slice-read-result
-shared-slice-read-result c = search needs
 
 returns-3 : tie.Need-returns-3
 returns-3 c = sym (hexadecimal-by _ (c .before .if2 .left))
 
 pub is-hexadecimal-spec : {M : Type 1} → statement M
 is-hexadecimal-spec =
-    tie.close (tie.spec returns shared-slice-read-if2 returns-2 shared-slice-read-result returns-3)
+    tie.close (tie.spec returns (λ c. search needs) returns-2 (λ c. search needs) returns-3)

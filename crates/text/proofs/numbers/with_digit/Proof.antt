@@ -10,9 +10,6 @@ use Rattle.text.proofs.Laws.Digits.{number-stop, number-next, number-pa
 use Rattle.text.proofs.numbers.with_digit.Statement.{statement}
 use Rattle.text.proofs.numbers.with_digit.Tie as tie
 
-digit-of-requires : tie.Need-digit-of-requires
-digit-of-requires c κs = search needs
-
 returns : tie.Need-returns
 returns c = sym (number-stop _ _ _ _ _ (omega arith))
 
@@ -24,9 +21,6 @@ next c = rw (c .before .digit-of .ensures) (number-next _ _ _ _ _ (omega arith))
 
 returns-2 : tie.Need-returns-2
 returns-2 c = sym (next (c .before) ∙ number-past _ (c .before .before .before .pre .0) _ _ _ (omega arith))
-
-div-if3 : tie.Need-div-if3
-div-if3 c = search needs
 
 returns-3 : tie.Need-returns-3
 returns-3 c =
@@ -49,4 +43,4 @@ returns-4 c = sym (next (c .before .before) ∙ number-end _ _ _ (fits c))
 pub with-digit-spec : {M : Type 1} → statement M
 with-digit-spec =
     tie.close
-    (tie.spec digit-of-requires returns returns-2 div-if3 returns-3 mul-t7 add-t8 returns-4)
+    (tie.spec (λ c κs. search needs) returns returns-2 (λ c. search needs) returns-3 mul-t7 add-t8 returns-4)

@@ -7,18 +7,6 @@ use borrow.Author.Needs.{needs}
 use Rattle.text.proofs.quoting.put_quoted.Statement.{statement}
 use Rattle.text.proofs.quoting.put_quoted.Tie as tie
 
-put-byte-requires : tie.Need-put-byte-requires
-put-byte-requires c κs = search needs
-
-put-escapes-requires : tie.Need-put-escapes-requires
-put-escapes-requires c κs = search needs
-
-put-byte-requires-2 : tie.Need-put-byte-requires-2
-put-byte-requires-2 c κs = search needs
-
-same-length : tie.Need-same-length
-same-length c = search needs
-
 returns : tie.Need-returns
 returns c =
     let short = c .before .before .before .before .before .before .before .before in
@@ -28,21 +16,6 @@ slice-aggregate-put-escapes : tie.Need-slice-aggregate-put-escapes
 slice-aggregate-put-escapes c =
     let start = c .before .before .before .before .before .before .before .before .before in
     sym (length-take-le 64 (start .args .word .now) (omega arith))
-
-put-escapes-requires-2 : tie.Need-put-escapes-requires-2
-put-escapes-requires-2 c κs = search needs
-
-slice-aggregate-put : tie.Need-slice-aggregate-put
-slice-aggregate-put c = search needs
-
-put-requires : tie.Need-put-requires
-put-requires c κs = search needs
-
-put-byte-requires-3 : tie.Need-put-byte-requires-3
-put-byte-requires-3 c κs = search needs
-
-same-length-2 : tie.Need-same-length-2
-same-length-2 c = search needs
 
 returns-2 : tie.Need-returns-2
 returns-2 c =
@@ -55,15 +28,15 @@ pub put-quoted-spec : {M : Type 1} → statement M
 put-quoted-spec =
     tie.close
     (tie.spec
-    put-byte-requires
-    put-escapes-requires
-    put-byte-requires-2
-    same-length
+    (λ c κs. search needs)
+    (λ c κs. search needs)
+    (λ c κs. search needs)
+    (λ c. search needs)
     returns
     slice-aggregate-put-escapes
-    put-escapes-requires-2
-    slice-aggregate-put
-    put-requires
-    put-byte-requires-3
-    same-length-2
+    (λ c κs. search needs)
+    (λ c. search needs)
+    (λ c κs. search needs)
+    (λ c κs. search needs)
+    (λ c. search needs)
     returns-2)

@@ -4,12 +4,6 @@ use Rattle.text.proofs.Laws.Words.{next-past, next-last}
 use Rattle.text.proofs.words.next_word.Statement.{statement}
 use Rattle.text.proofs.words.next_word.Tie as tie
 
-word-end-requires : tie.Need-word-end-requires
-word-end-requires c κs = search needs
-
-add-result : tie.Need-add-result
-add-result c = search needs
-
 returns : tie.Need-returns
 returns c = next-past _ _ (c .before .before .before .pre) _ (c .before .word-end .ensures) (c .if1 .taken)
 
@@ -17,4 +11,4 @@ returns-2 : tie.Need-returns-2
 returns-2 c = next-last _ _ (c .before .before .before .pre) _ (c .before .word-end .ensures) (c .if1 .left)
 
 pub next-word-spec : {M : Type 1} → statement M
-next-word-spec = tie.close (tie.spec word-end-requires add-result returns returns-2)
+next-word-spec = tie.close (tie.spec (λ c κs. search needs) (λ c. search needs) returns returns-2)
