@@ -229,7 +229,7 @@ fn reasons_of_numbers() {
     let exponent = "3: k must be from 1 to r-1 and share no factor with r";
     refuses(&[], "build 5 4 2 basic", exponent);
     refuses(&[], "inverse 2 4", exponent);
-    let variant = "4: the variant must be basic, dual or hybrid, 1 to 3";
+    let variant = "4: the variant is none of those known";
     refuses(&[], "build 3 2 1 free", variant);
     refuses(&[], "build 3 2 1 4", variant);
     refuses(&[], "inverse 1 1", "2: r must be at least 2");
@@ -271,7 +271,7 @@ fn reasons_of_tapes() {
     refuses(
         &with(0, 0x10000401),
         "check",
-        "4: the tape's variant is above 3",
+        "4: the tape's variant is none of those known",
     );
     refuses(
         &with(1, 0x20000009),

@@ -165,7 +165,7 @@ fn rooms() {
         "room 2\nbuild 3 2 1 1\nbuild 3 2 1 4\nbuild 3 2 1 x\ncheck\n",
         &format!(
             "2\n{short}255 255\n\
-             fibexp: refused 4: the variant must be basic, dual or hybrid, 1 to 3\n255 255\n\
+             fibexp: refused 4: the variant is none of those known\n255 255\n\
              fibexp: \"x\": no variant; basic, dual, hybrid or 1 to 3\n\
              fibexp: refused 6: a tape has 5 to 512 words\n"
         ),

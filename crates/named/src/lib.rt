@@ -7,6 +7,9 @@ pub enum Figure {
     Six,
 }
 
+// The variants of named programs go up to this.
+pub const LAST_VARIANT: u32 = 3;
+
 // The variants' names by their numbers, a zero byte after each.
 pub const VARIANT_NAMES: [u8; 23] = *b"free\0basic\0dual\0hybrid\0";
 

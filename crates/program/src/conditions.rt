@@ -4,9 +4,6 @@ ghost use Prim.Native.Nat.{_≤_};
 ghost use Rattle.named.specs.Parameters.{badModulus, badOrder, goodInverse, unnamed};
 ghost use Rattle.program.specs.Same.{sameWords};
 
-// The variants of named programs go from 1 up to this.
-const LAST_VARIANT: u32 = 3;
-
 // Refusal 1: p isn't a prime from 3 to 268435455.
 pub(crate) fn is_bad_modulus(p: u32) -> bool
     ensures { λ bad. ⌜ bad ≡ badModulus p ⌝ }
@@ -51,7 +48,7 @@ pub(crate) fn is_unnamed(variant: u32) -> bool
     if variant == 0 {
         return true;
     }
-    LAST_VARIANT < variant
+    named::LAST_VARIANT < variant
 }
 
 // Whether two rows hold the same words.

@@ -42,7 +42,7 @@ pub(super) const NO_WHOLE_WORDS: &str = "standard input isn't whole words of 4 b
 pub(super) fn reason(verb: Verb, number: u32) -> &'static str {
     match (number, verb) {
         (refusal::ORDER, Verb::Inverse) => "r must be at least 2",
-        (refusal::VARIANT, Verb::Build) => "the variant must be basic, dual or hybrid, 1 to 3",
+        (refusal::VARIANT, Verb::Build) => "the variant is none of those known",
         (refusal::REGISTER, Verb::Run) => "each register must be from 1 to p-1",
         (refusal::POSITION, Verb::Cut) => {
             "first and last must be positions up to the step count, first at most last"
@@ -58,7 +58,7 @@ fn common_reason(number: u32) -> &'static str {
         refusal::MODULUS => "p must be a prime from 3 to 268435455",
         refusal::ORDER => "r must be at least 2 and divide p-1",
         refusal::EXPONENT => "k must be from 1 to r-1 and share no factor with r",
-        refusal::VARIANT => "the tape's variant is above 3",
+        refusal::VARIANT => "the tape's variant is none of those known",
         refusal::TAPE => "the buffer is shorter than the result",
         refusal::LENGTH => "a tape has 5 to 512 words",
         refusal::WORD => "a word, its place or the end's count breaks the layout",
