@@ -2,7 +2,6 @@
 mod whole;
 
 ghost use mathlib.Core.Path.{_≡_};
-ghost use mathlib.Core.List.{[], _∷_};
 ghost use lib.ListN.{set};
 ghost use Rattle.modular.specs.Residues.{times};
 ghost use Rattle.machine.specs.Machine.{valuesOf, reg, opposite};

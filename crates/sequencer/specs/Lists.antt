@@ -45,12 +45,14 @@ requestsOf row (begin ∷ end ∷ []) = []
 requestsOf row (begin ∷ end ∷ from ∷ []) = []
 requestsOf row (begin ∷ end ∷ from ∷ goal ∷ words) = record { tape = part row begin end; from = from; goal = goal } ∷ requestsOf row words
 
+-- ---- requests that words can give
+
 -- numbers below a limit
 unfoldable pub AllBelow : ℕ → List ℕ → Type 0
 AllBelow limit [] = Unit {0}
 AllBelow limit (x ∷ xs) = (x < limit) × AllBelow limit xs
 
--- a list of requests as a row and words of 32 bits
+-- a row and words of 32 bits that give a list
 pub record Given (qs : List Request) : Type 0 where
   pub row : List ℕ
   pub words : List ℕ
@@ -58,7 +60,8 @@ pub record Given (qs : List Request) : Type 0 where
   pub words-fit : AllBelow (2 ^ 32) words
   pub requests : requestsOf row words ≡ qs
 
--- every list can be given so whose tapes and positions are 32-bit numbers, and whose tapes, one behind another, are below 2^32 long
+-- Every list is given so whose tapes and positions are 32-bit numbers, and whose tapes have below 2^32 words in all: `requests-given`
+-- of proofs/Laws/Requests. Here are its tapes one behind another, and what it says of the positions.
 unfoldable pub tapesOf : List Request → List ℕ
 tapesOf [] = []
 tapesOf (q ∷ qs) = q .tape ++ tapesOf qs

@@ -1,7 +1,7 @@
 -- Integers congruent modulo r: a multiple of r added to each makes them the same. Each is congruent to its residue, and two
 -- residues that are congruent are the same number, since both are below r.
 use mathlib.Core.Path.{_≡_, refl, sym, _∙_, ap}
-use Prim.Native.Nat.{ℕ, suc, _+_, _*_, _-_, _/_, _%_, _<_}
+use Prim.Native.Nat.{ℕ, suc, _+_, _*_, _/_, _%_, _<_}
 use native.Mathlib.Nat.{add-mul-mod-self-right, mod-add-div', mod-eq-of-lt, mod-lt}
 use native.Mathlib.Omega.{arith}
 use lib.IntN.{ℤ, pos, negsuc, _-ℤ_}

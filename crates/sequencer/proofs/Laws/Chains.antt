@@ -47,8 +47,8 @@ module _ (p : ℕ) (pr : Prime p) (r a : ℕ) (ra : Residue p a) (ord : a ^ r % 
     residue : Residue p b
     residue = residue-pow p pr a E ra
 
-    program : IsProgram r k xs
-    program =
+    is-program : IsProgram r k xs
+    is-program =
         subst (λ (n : ℕ). IsProgram n k xs) (end .order)
         (accepted-program (q .tape) (accepted-named 0 (q .tape) (end .accepted) (eqb-false _ 0 (not-true _ (end .named)))))
 
@@ -57,10 +57,10 @@ module _ (p : ℕ) (pr : Prime p) (r a : ℕ) (ra : Residue p a) (ord : a ^ r % 
 
     forward : q .from ≡ 0 → q .goal ≡ length xs → run p xs (q .from) (q .goal) (start b) ≡ start (a ^ (E * factor r q % r) % p)
     forward e f =
-        let up : ltb (q .from) (q .goal) ≡ true = lt-ltb (q .from) (q .goal) (omega (arith, program .some)) in
+        let up : ltb (q .from) (q .goal) ≡ true = lt-ltb (q .from) (q .goal) (omega (arith, is-program .some)) in
         ap₂ (λ (i j : ℕ). run p xs i j (start b)) e f
         ∙ run-forward p pr xs (steps-sound (q .tape)) (start b) (good-start p pr b residue)
-        ∙ program .raises p pr b residue (order-power p pr a r E ord)
+        ∙ is-program .raises p pr b residue (order-power p pr a r E ord)
         ∙ rw up (reduced E k)
 
     backward : q .from ≡ length xs → q .goal ≡ 0 → run p xs (q .from) (q .goal) (start b) ≡ start (a ^ (E * factor r q % r) % p)
@@ -68,7 +68,7 @@ module _ (p : ℕ) (pr : Prime p) (r a : ℕ) (ra : Residue p a) (ord : a ^ r % 
         let down : ltb (q .from) (q .goal) ≡ false = le-ltb (q .from) (q .goal) (omega arith) in
         ap₂ (λ (i j : ℕ). run p xs i j (start b)) e f
         ∙ run-backward p pr xs (steps-sound (q .tape)) (start b) (good-start p pr b residue)
-        ∙ program .lowers p pr b residue (order-power p pr a r E ord)
+        ∙ is-program .lowers p pr b residue (order-power p pr a r E ord)
         ∙ rw down (reduced E (inverse r k))
 
     pub linked : run (headerOf (q .tape) .modulus) xs (q .from) (q .goal) (start b) ≡ start (a ^ (E * factor r q % r) % p)

@@ -1,12 +1,12 @@
--- What a trace's answers say. An accepted named program's steps are those built for its numbers, whose exponents never leave the range
--- and end at (0, k, 0, 0) modulo r; and the exponents of any accepted program are those of the registers.
+-- What a trace's answers say. An accepted named program's exponents never leave the range and end at (0, k, 0, 0) modulo r; and the
+-- exponents of any accepted program are those of the registers.
 use mathlib.Core.Path.{_≡_, sym, ap, _∙_}
 use mathlib.Core.Bool.{true, not}
 use mathlib.Core.List.{List, [], _∷_, map}
 use Prim.Native.Nat.{ℕ, _≤_}
 use native.Mathlib.Omega.{arith}
 use lib.Dec.{ltb}
-use lib.ListN.{length, take}
+use lib.ListN.{take}
 use borrow.Author.Tests.{eqb-false, not-true, ltb-false, le-ltb}
 use Rattle.refusal.specs.Outcomes.{answered, gives, passes, answers}
 use Rattle.refusal.proofs.Laws.Rules.{still-answered}
@@ -14,11 +14,10 @@ use Rattle.refusal.proofs.Laws.Tests.{by-test}
 use Rattle.tape.specs.Layout.{headerOf, stepsOf}
 use Rattle.tape.proofs.Laws.Layout.{steps-count}
 use Rattle.machine.specs.Exponents.{startExponents, exponentsAt, staysInRange, residueOf}
-use Rattle.machine.proofs.Laws.Exponents.{run-exponents}
 use Rattle.machine.proofs.Laws.Ranges.{stays-take}
-use Rattle.named.specs.Promises.{IsProgram}
+use Rattle.machine.proofs.Laws.Exponents.{run-exponents}
 use Rattle.program.specs.Services.{isNamed, checkRules, checkOutcome, acceptOutcome}
-use Rattle.program.proofs.Laws.Checking.{accepted-named}
+use Rattle.program.proofs.Laws.Checking.{AcceptedNamed, accepted-named}
 use Rattle.program.proofs.Laws.Accepting.{accepted-program}
 use Rattle.program.proofs.Laws.Door.{answered-tape, answered-with}
 use Rattle.sequencer.specs.Services.{traceRules, traceOutcome}
@@ -36,14 +35,14 @@ trace-powers tape position z e a ra =
 -- ---- an accepted named program
 
 module _ (tape : List ℕ) (named : isNamed (headerOf tape) ≡ true) (check : checkOutcome tape ≡ answered 0) where
-  program : IsProgram (headerOf tape .order) (headerOf tape .exponent) (stepsOf tape)
-  program = accepted-program tape (accepted-named 0 tape check (eqb-false _ 0 (not-true _ named)))
+  is-named : AcceptedNamed tape
+  is-named = accepted-named 0 tape check (eqb-false _ 0 (not-true _ named))
 
   accept : acceptOutcome tape ≡ answered (headerOf tape)
   accept = still-answered 0 (headerOf tape) (checkRules tape) check
 
   stays : (position : ℕ) → staysInRange (take position (stepsOf tape)) startExponents ≡ true
-  stays position = stays-take position (stepsOf tape) startExponents (program .stays)
+  stays position = stays-take position (stepsOf tape) startExponents (accepted-program tape is-named .stays)
 
   -- its trace is answered at every position
   pub trace-answered : (position : ℕ) → position ≤ headerOf tape .steps → traceOutcome tape position ≡ answered (exponentsAt (stepsOf tape) position)
@@ -54,7 +53,7 @@ module _ (tape : List ℕ) (named : isNamed (headerOf tape) ≡ true) (check : c
   -- and at the last the exponents are (0, k, 0, 0) modulo r
   pub trace-ends : map (residueOf (headerOf tape .order)) (exponentsAt (stepsOf tape) (headerOf tape .steps)) ≡ 0 ∷ headerOf tape .exponent ∷ 0 ∷ 0 ∷ []
   trace-ends =
-      ap (λ (i : ℕ). map (residueOf (headerOf tape .order)) (exponentsAt (stepsOf tape) i)) (sym (steps-count tape)) ∙ program .ends
+      ap (λ (i : ℕ). map (residueOf (headerOf tape .order)) (exponentsAt (stepsOf tape) i)) (sym (steps-count tape)) ∙ accepted-program tape is-named .ends
 
 -- so it is refused with 10 or not at all
 pub trace-inside : (tape : List ℕ) (position : ℕ) → NeverOutside tape (traceOutcome tape position)

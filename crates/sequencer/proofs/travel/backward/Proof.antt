@@ -22,14 +22,8 @@ abbrev μ-loop : tie.MeasureT-loop
 loop-holds : tie.Need-loop-holds Inv-loop μ-loop
 loop-holds c = let start = c .before .before .before in (omega arith, backward-all (start .args .words .now) _ _, start .pre .1)
 
-sub-i : tie.Need-sub-i Inv-loop μ-loop
-sub-i c = search needs
-
 carry-requires : tie.Need-carry-requires Inv-loop μ-loop
 carry-requires c κs = let at = c .before .before .before in (at .before .before .before .before .pre .0, at .loop .inv .2)
-
-loop-less : tie.Need-loop-less Inv-loop μ-loop
-loop-less c = search needs
 
 loop-again : tie.Need-loop-again Inv-loop μ-loop
 loop-again c =
@@ -68,9 +62,9 @@ backward-spec =
     Inv-loop
     μ-loop
     loop-holds
-    sub-i
+    (λ c. search needs)
     carry-requires
-    loop-less
+    (λ c. search needs)
     loop-again
     same-length
     same-length-2

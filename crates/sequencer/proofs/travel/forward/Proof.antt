@@ -25,12 +25,6 @@ loop-holds c = (omega arith, refl, c .before .before .before .pre .1)
 carry-requires : tie.Need-carry-requires Inv-loop μ-loop
 carry-requires c κs = let at = c .before .before .before in (at .before .before .before .before .pre .0, at .loop .inv .2)
 
-add-i : tie.Need-add-i Inv-loop μ-loop
-add-i c = search needs
-
-loop-less : tie.Need-loop-less Inv-loop μ-loop
-loop-less c = search needs
-
 loop-again : tie.Need-loop-again Inv-loop μ-loop
 loop-again c =
     let done = c .before .before .before .before in
@@ -64,8 +58,8 @@ forward-spec =
     μ-loop
     loop-holds
     carry-requires
-    add-i
-    loop-less
+    (λ c. search needs)
+    (λ c. search needs)
     loop-again
     same-length
     same-length-2

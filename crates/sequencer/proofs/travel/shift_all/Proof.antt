@@ -24,12 +24,6 @@ abbrev μ-loop : tie.MeasureT-loop
 loop-holds : tie.Need-loop-holds Inv-loop μ-loop
 loop-holds c = (omega arith, refl, all-left _ _ (c .before .pre))
 
-nth-step-requires : tie.Need-nth-step-requires Inv-loop μ-loop
-nth-step-requires c κs = search needs
-
-shift-requires : tie.Need-shift-requires Inv-loop μ-loop
-shift-requires c κs = search needs
-
 same-length : tie.Need-same-length Inv-loop μ-loop
 same-length c = let shifted = c .before .before in shifted .shift .kept .0 ∙ shifted .before .before .before .before .loop .inv .1
 
@@ -41,12 +35,6 @@ returns c =
     let read = shifted .before .nth-step .ensures ∙ sym (steps-nth words (at .loop .i)) in
     let gone = leaves _ _ _ _ read (omega (arith, count-in words)) (at .loop .inv .2) (sym (not-true _ (c .if1 .taken)) ∙ shifted .shift .ensures .0) in
     (gone, λ e. absurd (true≢false (sym e)))
-
-add-i : tie.Need-add-i Inv-loop μ-loop
-add-i c = search needs
-
-loop-less : tie.Need-loop-less Inv-loop μ-loop
-loop-less c = search needs
 
 loop-again : tie.Need-loop-again Inv-loop μ-loop
 loop-again c =
@@ -75,12 +63,12 @@ shift-all-spec =
     Inv-loop
     μ-loop
     loop-holds
-    nth-step-requires
-    shift-requires
+    (λ c κs. search needs)
+    (λ c κs. search needs)
     same-length
     returns
-    add-i
-    loop-less
+    (λ c. search needs)
+    (λ c. search needs)
     loop-again
     same-length-2
     returns-2)
