@@ -1,18 +1,17 @@
 // The verbs on a tape.
-ghost use Prim.Native.Nat.{_≤_};
+ghost use Prim.Native.Nat.{_+_, _/_, _≤_};
 ghost use mathlib.Core.Path.{_≡_};
-ghost use mathlib.Core.List.{_++_};
 ghost use lib.ListN.{length, getD};
-ghost use lib.Seq.{sets};
+ghost use Rattle.refusal.specs.Rows.{Wrote};
 ghost use Rattle.text.specs.Text.{numbersLine};
 ghost use Rattle.tape.specs.Layout.{stepsOf};
 ghost use Rattle.program.specs.Services.{acceptOutcome};
 ghost use Rattle.sequencer.specs.Services.{runOutcome, cutOutcome};
 ghost use Rattle.machine.specs.Machine.{valuesOf};
-ghost use Rattle.sequencer.specs.Lists.{afterAll, numbersAll, requestsOf};
+ghost use Rattle.sequencer.specs.Lists.{requestsOf};
 ghost use Rattle.listing.specs.Listing.{linesFor};
 ghost use Rattle.tool.specs.Verbs.{largest32, mostParameters};
-ghost use Rattle.tool.specs.Replies.{answers, printed, registersIn, played, tapeReply};
+ghost use Rattle.tool.specs.Replies.{answers, printed, registersIn, runsTold, played, tapeReply};
 ghost use Rattle.tool.specs.Rows.{Told, Within};
 use crate::values::past_registers;
 use crate::values::registers;
@@ -105,21 +104,23 @@ fn play(values: &[u64], tapes: &[u32], text: &mut [u8]) -> Reply
     let count = words(values, &mut row);
     let requests = past_registers(&row[..count]);
     let mut told = [0u32; MOST_PARAMETERS];
-    runs(tapes, requests, registers(values), &mut told);
+    let length = runs(tapes, requests, registers(values), &mut told);
     Reply {
         status: ANSWERED,
-        length: numbers_line(text, 0, &told[..REGISTERS + requests.len() / REQUEST_WORDS]),
+        length: numbers_line(text, 0, &told[..length]),
     }
 }
 
-// The registers after a list of runs, then each run's number.
-fn runs(tapes: &[u32], requests: &[u32], registers: Registers, told: &mut [u32])
-    requires { ⌜ 4 ≤ length (now told) ⌝ }
-    ensures { λ _. ⌜ now (told .exit) ≡ sets (now (told .entry)) 0 (afterAll (requestsOf (now (tapes .entry)) (now (requests .entry))) (valuesOf registers) ++ numbersAll (requestsOf (now (tapes .entry)) (now (requests .entry))) (valuesOf registers)) ⌝ }
+// The registers after a list of runs, then each run's number, and how many these are.
+fn runs(tapes: &[u32], requests: &[u32], registers: Registers, told: &mut [u32]) -> usize
+    requires { ⌜ 4 + length (now requests) / 4 ≤ length (now told) ⌝ }
+    ensures { λ count. ⌜ Wrote (now (told .entry)) 0 (runsTold (requestsOf (now (tapes .entry)) (now (requests .entry))) (valuesOf registers)) count (now (told .exit)) ⌝ }
+    ensures { λ count. ⌜ count ≡ 4 + length (now (requests .entry)) / 4 ⌝ }
 {
     let after = sequencer::play(tapes, requests, registers, &mut told[REGISTERS..]);
     told[0] = after.c;
     told[1] = after.d;
     told[2] = after.e;
     told[3] = after.f;
+    REGISTERS + requests.len() / REQUEST_WORDS
 }

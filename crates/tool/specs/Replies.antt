@@ -19,7 +19,7 @@ use Rattle.encoding.specs.Encoding.{bytesOf, tapeIn, wordBytes}
 use Rattle.named.specs.Named.{namedWords}
 use Rattle.program.specs.Services.{buildOutcome, checkOutcome, acceptOutcome}
 use Rattle.sequencer.specs.Services.{loadOutcome, runOutcome, forwardOutcome, traceOutcome, cutOutcome}
-use Rattle.sequencer.specs.Lists.{afterAll, numbersAll, requestsOf}
+use Rattle.sequencer.specs.Lists.{Request, afterAll, numbersAll, requestsOf}
 use Rattle.listing.specs.Listing.{linesFor}
 use Rattle.tool.specs.declared.TapeVerb.{TapeVerb}
 use Rattle.tool.specs.declared.TapeVerb.the-variants.{Check, Listing, Load, Run, Power, Trace, Cut, Play}
@@ -100,10 +100,11 @@ numberReply MulMod own v = answers (numberLine (remainder (at v 0 * at v 1) (at 
 numberReply PowMod own v = answers (numberLine (remainder (at v 0 ^ at v 1) (at v 2)))
 
 -- a list of runs: the registers at its end, then each run's number
+abbrev pub runsTold : List Request → List ℕ → List ℕ
+runsTold requests registers = afterAll requests registers ++ numbersAll requests registers
+
 abbrev pub played : List ℕ → List ℕ → Replied
-played v tapes =
-    let requests = requestsOf tapes (drop 4 v) in
-    answers (numbersLine (afterAll requests (registersIn v) ++ numbersAll requests (registersIn v)))
+played v tapes = answers (numbersLine (runsTold (requestsOf tapes (drop 4 v)) (registersIn v)))
 
 -- on a tape; a list of runs is on a row of tapes
 unfoldable pub tapeReply : TapeVerb → ℕ → List ℕ → List ℕ → List ℕ → Replied
