@@ -18,17 +18,8 @@ Inv-loop word names count i₀ i = (i ≤ length (wordsOf names)) × (indexIn wo
 abbrev μ-loop : tie.MeasureT-loop
 μ-loop word names count i₀ i = length (wordsOf names) - i
 
-word-count-requires : tie.Need-word-count-requires Inv-loop μ-loop
-word-count-requires c κs = search needs
-
 loop-holds : tie.Need-loop-holds Inv-loop μ-loop
 loop-holds c = (omega arith, omega arith)
-
-word-requires : tie.Need-word-requires Inv-loop μ-loop
-word-requires c κs = search needs
-
-same-requires : tie.Need-same-requires Inv-loop μ-loop
-same-requires c κs = search needs
 
 returns : tie.Need-returns Inv-loop μ-loop
 returns c =
@@ -61,10 +52,10 @@ find-spec =
     (tie.spec
     Inv-loop
     μ-loop
-    word-count-requires
+    (λ c κs. search needs)
     loop-holds
-    word-requires
-    same-requires
+    (λ c κs. search needs)
+    (λ c κs. search needs)
     returns
     add-i
     loop-less

@@ -32,23 +32,11 @@ loop-holds c = (omega arith, refl, at-first (c .before .args .row) (wordsOf (c .
 add-index : tie.Need-add-index Inv-loop μ-loop
 add-index c = omega arith
 
-word-requires : tie.Need-word-requires Inv-loop μ-loop
-word-requires c κs = search needs
-
-parameter-requires : tie.Need-parameter-requires Inv-loop μ-loop
-parameter-requires c κs = search needs
-
-enum-known-n : tie.Need-enum-known-n Inv-loop μ-loop
-enum-known-n c = search needs
-
 mul-values : tie.Need-mul-values Inv-loop μ-loop
 mul-values c = omega arith
 
 array-write-values : tie.Need-array-write-values Inv-loop μ-loop
 array-write-values c = omega (arith, c .before .before .before .before .before .before .before .before .pre)
-
-enum-told : tie.Need-enum-told Inv-loop μ-loop
-enum-told c = search needs
 
 returns : tie.Need-returns Inv-loop μ-loop
 returns c =
@@ -97,12 +85,12 @@ parameters-spec =
     μ-loop
     loop-holds
     add-index
-    word-requires
-    parameter-requires
-    enum-known-n
+    (λ c κs. search needs)
+    (λ c κs. search needs)
+    (λ c. search needs)
     mul-values
     array-write-values
-    enum-told
+    (λ c. search needs)
     returns
     add-i
     loop-less

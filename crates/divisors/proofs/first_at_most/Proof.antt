@@ -19,15 +19,6 @@ abbrev μ-loop : tie.MeasureT-loop
 loop-holds : tie.Need-loop-holds Inv-loop μ-loop
 loop-holds c = (omega arith, omega arith, λ j low high. absurd (omega arith))
 
-mul-quotient : tie.Need-mul-quotient Inv-loop μ-loop
-mul-quotient c = search needs
-
-shared-slice-read-quotient : tie.Need-shared-slice-read-quotient Inv-loop μ-loop
-shared-slice-read-quotient c = search needs
-
-quotient-requires : tie.Need-quotient-requires Inv-loop μ-loop
-quotient-requires c κs = search needs
-
 returns : tie.Need-returns Inv-loop μ-loop
 returns c =
     let inv = c .before .before .before .before .loop .inv in
@@ -63,9 +54,9 @@ first-at-most-spec =
     Inv-loop
     μ-loop
     loop-holds
-    mul-quotient
-    shared-slice-read-quotient
-    quotient-requires
+    (λ c. search needs)
+    (λ c. search needs)
+    (λ c κs. search needs)
     returns
     add-i
     loop-less

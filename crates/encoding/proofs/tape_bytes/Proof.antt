@@ -27,9 +27,6 @@ mul-word-bytes c = omega arith
 shared-slice-read-word-bytes : tie.Need-shared-slice-read-word-bytes Inv-loop μ-loop
 shared-slice-read-word-bytes c = omega arith
 
-word-bytes-requires : tie.Need-word-bytes-requires Inv-loop μ-loop
-word-bytes-requires c κs = search needs
-
 add-i : tie.Need-add-i Inv-loop μ-loop
 add-i c = omega arith
 
@@ -54,7 +51,7 @@ tape-bytes-spec =
     loop-holds
     mul-word-bytes
     shared-slice-read-word-bytes
-    word-bytes-requires
+    (λ c κs. search needs)
     add-i
     loop-less
     loop-again

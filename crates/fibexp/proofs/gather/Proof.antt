@@ -13,14 +13,8 @@ Inv-loop row₀ words at₀ i₀ row at i = (at ≤ length row) × (length row �
 abbrev μ-loop : tie.MeasureT-loop
 μ-loop row₀ words at₀ i₀ row at i = words - i
 
-arg-count-requires : tie.Need-arg-count-requires Inv-loop μ-loop
-arg-count-requires c κs = search needs
-
 loop-holds : tie.Need-loop-holds Inv-loop μ-loop
 loop-holds c = omega arith
-
-add-requires : tie.Need-add-requires Inv-loop μ-loop
-add-requires c κs = search needs
 
 same-length : tie.Need-same-length Inv-loop μ-loop
 same-length c = omega (arith, c .before .before .before .add .kept .0, c .before .before .before .before .before .before .loop .inv .1)
@@ -55,9 +49,9 @@ gather-spec =
     (tie.spec
     Inv-loop
     μ-loop
-    arg-count-requires
+    (λ c κs. search needs)
     loop-holds
-    add-requires
+    (λ c κs. search needs)
     same-length
     returns
     slice-write-row

@@ -17,14 +17,8 @@ Inv-loop n places count bits₀ length₀ i₀ bits length i = Setting n bits le
 abbrev μ-loop : tie.MeasureT-loop
 μ-loop n places count bits₀ length₀ i₀ bits length i = i
 
-zeckendorf-requires : tie.Need-zeckendorf-requires Inv-loop μ-loop
-zeckendorf-requires c κs = search needs
-
 loop-holds : tie.Need-loop-holds Inv-loop μ-loop
 loop-holds c = setting-starts _ _ (omega arith) (c .before .zeckendorf .ensures .0)
-
-sub-i : tie.Need-sub-i Inv-loop μ-loop
-sub-i c = search needs
 
 -- in the loop, the row holds the list of n at the index before i
 index : (c : tie.In-loop Inv-loop μ-loop) → c .before .loop .i - 1 < length (placesOf (c .before .before .before .before .args .n))
@@ -48,9 +42,6 @@ sub-bits c = omega (arith, setting-place (c .before .loop .inv) (c .loop-test .t
 array-write-bits : tie.Need-array-write-bits Inv-loop μ-loop
 array-write-bits c = omega (arith, setting-place (c .before .loop .inv) (c .loop-test .taken) (place c))
 
-loop-less : tie.Need-loop-less Inv-loop μ-loop
-loop-less c = search needs
-
 loop-again : tie.Need-loop-again Inv-loop μ-loop
 loop-again c = setting-next (c .before .loop .inv) (c .loop-test .taken) (place c)
 
@@ -65,13 +56,13 @@ bit-string-spec =
     (tie.spec
     Inv-loop
     μ-loop
-    zeckendorf-requires
+    (λ c κs. search needs)
     loop-holds
-    sub-i
+    (λ c. search needs)
     array-read-length
     cast-length
     sub-bits
     array-write-bits
-    loop-less
+    (λ c. search needs)
     loop-again
     returns)

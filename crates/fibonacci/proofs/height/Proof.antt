@@ -16,15 +16,6 @@ abbrev μ-loop : tie.MeasureT-loop
 loop-holds : tie.Need-loop-holds Inv-loop μ-loop
 loop-holds c = climbing-starts _
 
-cast-loop : tie.Need-cast-loop Inv-loop μ-loop
-cast-loop c = search needs
-
-add-loop : tie.Need-add-loop Inv-loop μ-loop
-add-loop c = search needs
-
-add-next : tie.Need-add-next Inv-loop μ-loop
-add-next c = search needs
-
 add-h : tie.Need-add-h Inv-loop μ-loop
 add-h c = omega (arith, climbing-goes-on (c .before .loop .inv) (c .loop-test .taken), height-32 (c .before .before .args .r) (omega arith))
 
@@ -44,9 +35,9 @@ height-spec =
     Inv-loop
     μ-loop
     loop-holds
-    cast-loop
-    add-loop
-    add-next
+    (λ c. search needs)
+    (λ c. search needs)
+    (λ c. search needs)
     add-h
     loop-less
     loop-again

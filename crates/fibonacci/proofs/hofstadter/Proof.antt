@@ -27,14 +27,8 @@ abbrev μ-loop : tie.MeasureT-loop
 sum-is : (n : ℕ) → weighed fib (placesOf n) ≡ G n
 sum-is n = G-places (zeckendorf n) ∙ ap G (zeckendorf-sum n)
 
-zeckendorf-requires : tie.Need-zeckendorf-requires Inv-loop μ-loop
-zeckendorf-requires c κs = search needs
-
 loop-holds : tie.Need-loop-holds Inv-loop μ-loop
 loop-holds c = rw (c .before .zeckendorf .ensures .0) (summing-starts fib _)
-
-sub-i : tie.Need-sub-i Inv-loop μ-loop
-sub-i c = search needs
 
 -- in the loop, i - 1 is an index of the list
 index : (c : tie.In-loop Inv-loop μ-loop) → c .before .loop .i - 1 < length (placesOf (c .before .before .before .before .args .n))
@@ -75,9 +69,6 @@ add-sum c =
     let n = c .before .before .before .before .before .before .args .n in
     omega (arith, summing-below (c .before .before .before .loop .inv) (c .before .before .loop-test .taken) (weighs (c .before)), sum-is n, G-le n)
 
-loop-less : tie.Need-loop-less Inv-loop μ-loop
-loop-less c = search needs
-
 loop-again : tie.Need-loop-again Inv-loop μ-loop
 loop-again c =
     let n = c .before .before .before .before .before .before .args .n in
@@ -93,13 +84,13 @@ hofstadter-spec =
     (tie.spec
     Inv-loop
     μ-loop
-    zeckendorf-requires
+    (λ c κs. search needs)
     loop-holds
-    sub-i
+    (λ c. search needs)
     array-read-climb
     cast-climb
     climb-requires
     add-sum
-    loop-less
+    (λ c. search needs)
     loop-again
     returns)

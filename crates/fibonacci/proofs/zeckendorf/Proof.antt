@@ -15,9 +15,6 @@ Inv-loop n places₀ count₀ rest₀ at₀ places count rest at = Weighs at × 
 abbrev μ-loop : tie.MeasureT-loop
 μ-loop n places₀ count₀ rest₀ at₀ places count rest at = at .place
 
-highest-requires : tie.Need-highest-requires Inv-loop μ-loop
-highest-requires c κs = search needs
-
 loop-holds : tie.Need-loop-holds Inv-loop μ-loop
 loop-holds c = (c .highest .ensures .0, taking-starts _ _ (omega arith) (c .highest .ensures .1 .0) (c .highest .ensures .1 .1))
 
@@ -64,7 +61,7 @@ zeckendorf-spec =
     (tie.spec
     Inv-loop
     μ-loop
-    highest-requires
+    (λ c κs. search needs)
     loop-holds
     cast-places
     array-write-places

@@ -21,12 +21,6 @@ done c =
     let values = c .before .before .before .before .before .before .before .before .before .before .before .before .args .values .now in
     numbers-line values (omega arith) (c .before .before .before .before .before .before .put-small .ensures) (last-left values (c .before .before .before .loop .i) (c .before .before .before .loop .inv .1) (omega arith) (c .put-byte3 .ensures))
 
-put-byte-requires : tie.Need-put-byte-requires Inv-loop μ-loop
-put-byte-requires c κs = search needs
-
-same-length : tie.Need-same-length Inv-loop μ-loop
-same-length c = search needs
-
 returns : tie.Need-returns Inv-loop μ-loop
 returns c =
     let values = c .before .before .before .before .before .before .before .args .values .now in
@@ -36,20 +30,11 @@ returns c =
 shared-slice-read-put-small : tie.Need-shared-slice-read-put-small Inv-loop μ-loop
 shared-slice-read-put-small c = omega arith
 
-put-small-requires : tie.Need-put-small-requires Inv-loop μ-loop
-put-small-requires c κs = search needs
-
 loop-holds : tie.Need-loop-holds Inv-loop μ-loop
 loop-holds c = (omega arith, all-left _ _ _)
 
-put-byte-requires-2 : tie.Need-put-byte-requires-2 Inv-loop μ-loop
-put-byte-requires-2 c κs = search needs
-
 shared-slice-read-put-small-2 : tie.Need-shared-slice-read-put-small-2 Inv-loop μ-loop
 shared-slice-read-put-small-2 c = omega arith
-
-put-small-requires-2 : tie.Need-put-small-requires-2 Inv-loop μ-loop
-put-small-requires-2 c κs = search needs
 
 add-i : tie.Need-add-i Inv-loop μ-loop
 add-i c = omega arith
@@ -59,9 +44,6 @@ loop-less c = omega arith
 
 loop-again : tie.Need-loop-again Inv-loop μ-loop
 loop-again c = (omega arith, next-left _ (c .before .before .before .before .before .before .before .before .before .before .loop .i) (c .before .before .before .before .before .before .before .before .before .before .loop .inv .1) (omega arith) (c .before .before .before .before .before .before .before .put-byte2 .ensures) (c .before .before .put-small2 .ensures))
-
-put-byte-requires-3 : tie.Need-put-byte-requires-3 Inv-loop μ-loop
-put-byte-requires-3 c κs = search needs
 
 same-length-2 : tie.Need-same-length-2 Inv-loop μ-loop
 same-length-2 c = put-length (done (c .before .before))
@@ -77,18 +59,18 @@ bytes-line-spec =
     (tie.spec
     Inv-loop
     μ-loop
-    put-byte-requires
-    same-length
+    (λ c κs. search needs)
+    (λ c. search needs)
     returns
     shared-slice-read-put-small
-    put-small-requires
+    (λ c κs. search needs)
     loop-holds
-    put-byte-requires-2
+    (λ c κs. search needs)
     shared-slice-read-put-small-2
-    put-small-requires-2
+    (λ c κs. search needs)
     add-i
     loop-less
     loop-again
-    put-byte-requires-3
+    (λ c κs. search needs)
     same-length-2
     returns-2)

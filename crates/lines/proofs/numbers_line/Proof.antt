@@ -21,12 +21,6 @@ done c =
     let values = c .before .before .before .before .before .before .before .before .before .before .before .before .args .values .now in
     numbers-line values (omega arith) (c .before .before .before .before .before .before .put-word .ensures) (last-left values (c .before .before .before .loop .i) (c .before .before .before .loop .inv .1) (omega arith) (c .put-byte3 .ensures))
 
-put-byte-requires : tie.Need-put-byte-requires Inv-loop μ-loop
-put-byte-requires c κs = search needs
-
-same-length : tie.Need-same-length Inv-loop μ-loop
-same-length c = search needs
-
 returns : tie.Need-returns Inv-loop μ-loop
 returns c =
     let values = c .before .before .before .before .before .before .before .args .values .now in
@@ -36,23 +30,14 @@ returns c =
 shared-slice-read-put-word : tie.Need-shared-slice-read-put-word Inv-loop μ-loop
 shared-slice-read-put-word c = omega arith
 
-put-word-requires : tie.Need-put-word-requires Inv-loop μ-loop
-put-word-requires c κs = search needs
-
 loop-holds : tie.Need-loop-holds Inv-loop μ-loop
 loop-holds c = (omega arith, all-left _ _ _)
-
-put-byte-requires-2 : tie.Need-put-byte-requires-2 Inv-loop μ-loop
-put-byte-requires-2 c κs = search needs
 
 mul-put-word : tie.Need-mul-put-word Inv-loop μ-loop
 mul-put-word c = omega arith
 
 shared-slice-read-put-word-2 : tie.Need-shared-slice-read-put-word-2 Inv-loop μ-loop
 shared-slice-read-put-word-2 c = omega arith
-
-put-word-requires-2 : tie.Need-put-word-requires-2 Inv-loop μ-loop
-put-word-requires-2 c κs = search needs
 
 add-i : tie.Need-add-i Inv-loop μ-loop
 add-i c = omega arith
@@ -62,9 +47,6 @@ loop-less c = omega arith
 
 loop-again : tie.Need-loop-again Inv-loop μ-loop
 loop-again c = (omega arith, next-left _ (c .before .before .before .before .before .before .before .before .before .before .loop .i) (c .before .before .before .before .before .before .before .before .before .before .loop .inv .1) (omega arith) (c .before .before .before .before .before .before .before .put-byte2 .ensures) (c .before .before .put-word2 .ensures))
-
-put-byte-requires-3 : tie.Need-put-byte-requires-3 Inv-loop μ-loop
-put-byte-requires-3 c κs = search needs
 
 same-length-2 : tie.Need-same-length-2 Inv-loop μ-loop
 same-length-2 c = put-length (done (c .before .before))
@@ -80,19 +62,19 @@ numbers-line-spec =
     (tie.spec
     Inv-loop
     μ-loop
-    put-byte-requires
-    same-length
+    (λ c κs. search needs)
+    (λ c. search needs)
     returns
     shared-slice-read-put-word
-    put-word-requires
+    (λ c κs. search needs)
     loop-holds
-    put-byte-requires-2
+    (λ c κs. search needs)
     mul-put-word
     shared-slice-read-put-word-2
-    put-word-requires-2
+    (λ c κs. search needs)
     add-i
     loop-less
     loop-again
-    put-byte-requires-3
+    (λ c κs. search needs)
     same-length-2
     returns-2)

@@ -47,20 +47,11 @@ module _ (c : tie.In-loop Inv-loop μ-loop) where
 returns : tie.Need-returns Inv-loop μ-loop
 returns c = sym (inverse-small _ _ (omega arith))
 
-rem-b : tie.Need-rem-b Inv-loop μ-loop
-rem-b c = search needs
-
 loop-holds : tie.Need-loop-holds Inv-loop μ-loop
 loop-holds c = kept-start _ _ (omega arith)
 
-div-q : tie.Need-div-q Inv-loop μ-loop
-div-q c = search needs
-
 cast-q : tie.Need-cast-q Inv-loop μ-loop
 cast-q c = record { sfits = omega (arith, div-le-self (c .before .loop .a) (c .before .loop .b)) }
-
-rem-rest : tie.Need-rem-rest Inv-loop μ-loop
-rem-rest c = search needs
 
 mul-next : tie.Need-mul-next Inv-loop μ-loop
 mul-next c = product-fits c
@@ -121,11 +112,11 @@ inverse-or-zero-spec =
     Inv-loop
     μ-loop
     returns
-    rem-b
+    (λ c. search needs)
     loop-holds
-    div-q
+    (λ c. search needs)
     cast-q
-    rem-rest
+    (λ c. search needs)
     mul-next
     sub-next
     loop-less

@@ -33,9 +33,6 @@ returns-3 c = sym (divisor-composite _ 2 (omega arith) (omega arith) (dvd-of-mod
 returns-4 : tie.Need-returns-4 Inv-loop μ-loop
 returns-4 c = sym (divisor-composite _ 3 (omega arith) (omega arith) (dvd-of-mod-eq-zero 3 (c .if4 .taken)))
 
-has-small-divisor-requires : tie.Need-has-small-divisor-requires Inv-loop μ-loop
-has-small-divisor-requires c κs = search needs
-
 returns-5 : tie.Need-returns-5 Inv-loop μ-loop
 returns-5 c = sym (small-divisor-composite _ (sym (c .before .has-small-divisor .ensures) ∙ c .if6 .taken))
 
@@ -100,7 +97,7 @@ is-prime-spec =
     returns-2
     returns-3
     returns-4
-    has-small-divisor-requires
+    (λ c κs. search needs)
     returns-5
     loop-holds
     cast-loop

@@ -17,20 +17,8 @@ abbrev μ-loop : tie.MeasureT-loop
 returns : tie.Need-returns Inv-loop μ-loop
 returns c = sym (remainder-zero _ _ (c .if1 .taken))
 
-rem-result : tie.Need-rem-result Inv-loop μ-loop
-rem-result c = search needs
-
-rem-square : tie.Need-rem-square Inv-loop μ-loop
-rem-square c = search needs
-
 loop-holds : tie.Need-loop-holds Inv-loop μ-loop
 loop-holds c = squared-start _ _ _ (omega arith)
-
-product-requires : tie.Need-product-requires Inv-loop μ-loop
-product-requires c κs = search needs
-
-product-requires-2 : tie.Need-product-requires-2 Inv-loop μ-loop
-product-requires-2 c κs = search needs
 
 loop-less : tie.Need-loop-less Inv-loop μ-loop
 loop-less c = omega arith
@@ -53,11 +41,11 @@ power-spec =
     Inv-loop
     μ-loop
     returns
-    rem-result
-    rem-square
+    (λ c. search needs)
+    (λ c. search needs)
     loop-holds
-    product-requires
-    product-requires-2
+    (λ c κs. search needs)
+    (λ c κs. search needs)
     loop-less
     loop-again
     returns-2)

@@ -24,20 +24,8 @@ same-length c = put-length (c .before .before .loop .inv .1)
 returns : tie.Need-returns Inv-loop μ-loop
 returns c = put-rest _ (c .before .before .loop .i) (c .if1 .taken) (c .before .before .loop .inv .1)
 
-shared-slice-read-row : tie.Need-shared-slice-read-row Inv-loop μ-loop
-shared-slice-read-row c = search needs
-
-slice-write-row : tie.Need-slice-write-row Inv-loop μ-loop
-slice-write-row c = search needs
-
 add-next : tie.Need-add-next Inv-loop μ-loop
 add-next c = omega (arith, put-length (c .before .before .before .loop .inv .1))
-
-add-i : tie.Need-add-i Inv-loop μ-loop
-add-i c = search needs
-
-loop-less : tie.Need-loop-less Inv-loop μ-loop
-loop-less c = search needs
 
 loop-again : tie.Need-loop-again Inv-loop μ-loop
 loop-again c = (omega arith, put-next _ _ (c .before .before .loop-test .taken) (c .before .if1 .left) (c .before .before .before .loop .inv .1))
@@ -57,11 +45,11 @@ put-spec =
     loop-holds
     same-length
     returns
-    shared-slice-read-row
-    slice-write-row
+    (λ c. search needs)
+    (λ c. search needs)
     add-next
-    add-i
-    loop-less
+    (λ c. search needs)
+    (λ c. search needs)
     loop-again
     same-length-2
     returns-2)

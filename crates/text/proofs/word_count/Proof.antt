@@ -16,15 +16,6 @@ abbrev μ-loop : tie.MeasureT-loop
 loop-holds : tie.Need-loop-holds Inv-loop μ-loop
 loop-holds c = begins-first _
 
-next-word-requires : tie.Need-next-word-requires Inv-loop μ-loop
-next-word-requires c κs = search needs
-
-add-count : tie.Need-add-count Inv-loop μ-loop
-add-count c = search needs
-
-loop-less : tie.Need-loop-less Inv-loop μ-loop
-loop-less c = search needs
-
 loop-again : tie.Need-loop-again Inv-loop μ-loop
 loop-again c = begins-next (c .before .before .loop .inv) (c .before .loop-test .taken) (c .next-word .ensures)
 
@@ -34,4 +25,4 @@ returns c = sym (begins-count (c .before .loop .inv) (c .loop-test .left))
 pub word-count-spec : {M : Type 1} → statement M
 word-count-spec =
     tie.close
-    (tie.spec Inv-loop μ-loop loop-holds next-word-requires add-count loop-less loop-again returns)
+    (tie.spec Inv-loop μ-loop loop-holds (λ c κs. search needs) (λ c. search needs) (λ c. search needs) loop-again returns)

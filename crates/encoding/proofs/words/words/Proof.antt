@@ -46,9 +46,6 @@ add-word-3 c = omega arith
 shared-slice-read-word-4 : tie.Need-shared-slice-read-word-4 Inv-loop μ-loop
 shared-slice-read-word-4 c = omega arith
 
-word-requires : tie.Need-word-requires Inv-loop μ-loop
-word-requires c κs = search needs
-
 mul-row : tie.Need-mul-row Inv-loop μ-loop
 mul-row c = omega arith
 
@@ -113,7 +110,7 @@ words-spec =
     shared-slice-read-word-3
     add-word-3
     shared-slice-read-word-4
-    word-requires
+    (λ c κs. search needs)
     mul-row
     slice-write-row
     add-i

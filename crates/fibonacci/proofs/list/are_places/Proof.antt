@@ -19,9 +19,6 @@ abbrev μ-loop : tie.MeasureT-loop
 loop-holds : tie.Need-loop-holds Inv-loop μ-loop
 loop-holds c = (omega arith, refl)
 
-shared-slice-read-place : tie.Need-shared-slice-read-place Inv-loop μ-loop
-shared-slice-read-place c = search needs
-
 cast-place : tie.Need-cast-place Inv-loop μ-loop
 cast-place c = omega (arith, c .shared-slice-known .given (c .before .before .loop .i))
 
@@ -33,12 +30,6 @@ add-if2 c = omega (arith, c .before .shared-slice-known .given (c .before .befor
 
 returns-2 : tie.Need-returns-2 Inv-loop μ-loop
 returns-2 c = sym (sym (c .before .before .before .before .loop .inv .1) ∙ are-places-high _ _ _ (c .before .before .before .loop-test .taken) (omega arith))
-
-add-i : tie.Need-add-i Inv-loop μ-loop
-add-i c = search needs
-
-loop-less : tie.Need-loop-less Inv-loop μ-loop
-loop-less c = search needs
 
 loop-again : tie.Need-loop-again Inv-loop μ-loop
 loop-again c = (omega arith, sym (are-places-on _ _ _ (c .before .before .before .loop-test .taken) (omega arith) (omega arith)) ∙ c .before .before .before .before .loop .inv .1)
@@ -53,12 +44,12 @@ are-places-spec =
     Inv-loop
     μ-loop
     loop-holds
-    shared-slice-read-place
+    (λ c. search needs)
     cast-place
     returns
     add-if2
     returns-2
-    add-i
-    loop-less
+    (λ c. search needs)
+    (λ c. search needs)
     loop-again
     returns-3)

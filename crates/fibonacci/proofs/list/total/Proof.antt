@@ -25,9 +25,6 @@ abbrev μ-loop : tie.MeasureT-loop
 loop-holds : tie.Need-loop-holds Inv-loop μ-loop
 loop-holds c = (summing-starts _ _, omega arith)
 
-sub-i : tie.Need-sub-i Inv-loop μ-loop
-sub-i c = search needs
-
 -- in the loop, i - 1 is an index of the list
 index : (c : tie.After-shared-slice-known2 Inv-loop μ-loop) → c .before .before .loop .i - 1 < length (c .before .before .before .before .args .list .now)
 index c = omega (arith, c .before .before .loop .inv .0 .within, c .before .loop-test .taken)
@@ -47,9 +44,6 @@ cast-climb c = omega (arith, place-small c)
 climb-requires : tie.Need-climb-requires Inv-loop μ-loop
 climb-requires c κs = (c .before .before .loop .inv .0 .weighs, (c .before .before .loop .inv .0 .ahead (c .before .loop-test .taken), place-small c))
 
-sub-if1 : tie.Need-sub-if1 Inv-loop μ-loop
-sub-if1 c = search needs
-
 -- `climb` comes to the place at index i, and its weight
 weighs : (c : tie.After-climb Inv-loop μ-loop)
     → c .climb .result .weight ≡ fib (suc (getD (c .before .before .before .before .before .args .list .now) (c .before .before .before .loop .i - 1) 0))
@@ -61,12 +55,6 @@ returns c =
     let below = summing-below (c .before .before .before .before .before .loop .inv .0) (c .before .before .before .before .loop-test .taken) (weighs (c .before .before)) in
     let list = c .before .before .before .before .before .before .before .args .list .now in
     sym (gives Range [] (weight list) (le-leb (2 ^ 64) (weight list) (omega (arith, below))))
-
-add-sum : tie.Need-add-sum Inv-loop μ-loop
-add-sum c = search needs
-
-loop-less : tie.Need-loop-less Inv-loop μ-loop
-loop-less c = search needs
 
 loop-again : tie.Need-loop-again Inv-loop μ-loop
 loop-again c =
@@ -87,13 +75,13 @@ total-spec =
     Inv-loop
     μ-loop
     loop-holds
-    sub-i
+    (λ c. search needs)
     shared-slice-read-climb
     cast-climb
     climb-requires
-    sub-if1
+    (λ c. search needs)
     returns
-    add-sum
-    loop-less
+    (λ c. search needs)
+    (λ c. search needs)
     loop-again
     returns-2)

@@ -24,9 +24,6 @@ loop-holds c = all-left _ _ _
 add-step-line : tie.Need-add-step-line Inv-loop μ-loop
 add-step-line c = omega arith
 
-nth-step-requires : tie.Need-nth-step-requires Inv-loop μ-loop
-nth-step-requires c κs = search needs
-
 -- the line of the step that is read comes next
 coming : (c : tie.After-nth-step Inv-loop μ-loop)
     → let l = c .before .before .before in
@@ -37,14 +34,8 @@ coming c =
     let l = c .before .before .before in
     rw (c .nth-step .ensures, ← lines-next (l .before .before .before .args .words .now) (l .loop .i) (c .before .before .loop-test .taken)) (l .loop .inv)
 
-step-line-requires : tie.Need-step-line-requires Inv-loop μ-loop
-step-line-requires c κs = search needs
-
 add-i : tie.Need-add-i Inv-loop μ-loop
 add-i c = omega arith
-
-loop-less : tie.Need-loop-less Inv-loop μ-loop
-loop-less c = search needs
 
 loop-again : tie.Need-loop-again Inv-loop μ-loop
 loop-again c = left-next _ _ (coming (c .before .before .before)) (c .before .before .step-line .ensures)
@@ -67,10 +58,10 @@ step-lines-spec =
     μ-loop
     loop-holds
     add-step-line
-    nth-step-requires
-    step-line-requires
+    (λ c κs. search needs)
+    (λ c κs. search needs)
     add-i
-    loop-less
+    (λ c. search needs)
     loop-again
     same-length
     returns)

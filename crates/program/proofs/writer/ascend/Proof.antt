@@ -20,21 +20,6 @@ loop-holds : tie.Need-loop-holds Inv-loop μ-loop
 unfolding ascend
 loop-holds c = (omega arith, writes-none _ _)
 
-shared-slice-read-place-up : tie.Need-shared-slice-read-place-up Inv-loop μ-loop
-shared-slice-read-place-up c = search needs
-
-shared-slice-read-place-up-2 : tie.Need-shared-slice-read-place-up-2 Inv-loop μ-loop
-shared-slice-read-place-up-2 c = search needs
-
-place-up-requires : tie.Need-place-up-requires Inv-loop μ-loop
-place-up-requires c κs = search needs
-
-add-i : tie.Need-add-i Inv-loop μ-loop
-add-i c = search needs
-
-loop-less : tie.Need-loop-less Inv-loop μ-loop
-loop-less c = search needs
-
 loop-again : tie.Need-loop-again Inv-loop μ-loop
 loop-again c =
     let l = c .before .before .before .before .before .before .before in
@@ -60,11 +45,11 @@ ascend-spec =
     Inv-loop
     μ-loop
     loop-holds
-    shared-slice-read-place-up
-    shared-slice-read-place-up-2
-    place-up-requires
-    add-i
-    loop-less
+    (λ c. search needs)
+    (λ c. search needs)
+    (λ c κs. search needs)
+    (λ c. search needs)
+    (λ c. search needs)
     loop-again
     same-length
     returns)

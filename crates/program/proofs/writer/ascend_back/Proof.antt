@@ -24,21 +24,6 @@ loop-holds c =
     let a = c .before .before .before in
     (omega arith, rw (drop-length (a .args .firsts .now)) (writes-none _ _))
 
-sub-i : tie.Need-sub-i Inv-loop μ-loop
-sub-i c = search needs
-
-shared-slice-read-place-back : tie.Need-shared-slice-read-place-back Inv-loop μ-loop
-shared-slice-read-place-back c = search needs
-
-shared-slice-read-place-back-2 : tie.Need-shared-slice-read-place-back-2 Inv-loop μ-loop
-shared-slice-read-place-back-2 c = search needs
-
-place-back-requires : tie.Need-place-back-requires Inv-loop μ-loop
-place-back-requires c κs = search needs
-
-loop-less : tie.Need-loop-less Inv-loop μ-loop
-loop-less c = search needs
-
 loop-again : tie.Need-loop-again Inv-loop μ-loop
 loop-again c =
     let l = c .before .before .before .before .before .before .before in
@@ -63,11 +48,11 @@ ascend-back-spec =
     Inv-loop
     μ-loop
     loop-holds
-    sub-i
-    shared-slice-read-place-back
-    shared-slice-read-place-back-2
-    place-back-requires
-    loop-less
+    (λ c. search needs)
+    (λ c. search needs)
+    (λ c. search needs)
+    (λ c κs. search needs)
+    (λ c. search needs)
     loop-again
     same-length
     returns)

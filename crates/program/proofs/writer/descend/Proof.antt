@@ -21,18 +21,6 @@ loop-holds : tie.Need-loop-holds Inv-loop μ-loop
 unfolding descend
 loop-holds c = (omega arith, rw (drop-length (c .before .before .args .bits .now)) (writes-none _ _))
 
-sub-i : tie.Need-sub-i Inv-loop μ-loop
-sub-i c = search needs
-
-shared-slice-read-place-down : tie.Need-shared-slice-read-place-down Inv-loop μ-loop
-shared-slice-read-place-down c = search needs
-
-place-down-requires : tie.Need-place-down-requires Inv-loop μ-loop
-place-down-requires c κs = search needs
-
-loop-less : tie.Need-loop-less Inv-loop μ-loop
-loop-less c = search needs
-
 loop-again : tie.Need-loop-again Inv-loop μ-loop
 loop-again c =
     let l = c .before .before .before .before .before .before in
@@ -57,10 +45,10 @@ descend-spec =
     Inv-loop
     μ-loop
     loop-holds
-    sub-i
-    shared-slice-read-place-down
-    place-down-requires
-    loop-less
+    (λ c. search needs)
+    (λ c. search needs)
+    (λ c κs. search needs)
+    (λ c. search needs)
     loop-again
     same-length
     returns)

@@ -24,9 +24,6 @@ loop-holds c = (omega arith, wrote-none _ 0)
 shared-slice-read-to-argument : tie.Need-shared-slice-read-to-argument Inv-loop μ-loop
 shared-slice-read-to-argument c = omega arith
 
-to-argument-requires : tie.Need-to-argument-requires Inv-loop μ-loop
-to-argument-requires c κs = search needs
-
 slice-write-row : tie.Need-slice-write-row Inv-loop μ-loop
 slice-write-row c = omega (arith, c .before .before .before .before .before .before .pre, wrote-length (c .before .before .before .loop .inv .1))
 
@@ -53,7 +50,7 @@ to-arguments-spec =
     μ-loop
     loop-holds
     shared-slice-read-to-argument
-    to-argument-requires
+    (λ c κs. search needs)
     slice-write-row
     add-i
     loop-less

@@ -18,25 +18,10 @@ abbrev μ-loop : tie.MeasureT-loop
 loop-holds : tie.Need-loop-holds Inv-loop μ-loop
 loop-holds c = refl
 
-mul-is-step : tie.Need-mul-is-step Inv-loop μ-loop
-mul-is-step c = search needs
-
-shared-slice-read-is-step : tie.Need-shared-slice-read-is-step Inv-loop μ-loop
-shared-slice-read-is-step c = search needs
-
-is-step-requires : tie.Need-is-step-requires Inv-loop μ-loop
-is-step-requires c κs = search needs
-
 returns : tie.Need-returns Inv-loop μ-loop
 returns c =
     let in-loop = c .before .before .before in
     sym (sym (in-loop .before .loop .inv) ∙ steps-stop _ _ (in-loop .loop-test .taken) (sym (c .before .is-step .ensures) ∙ not-true _ (c .if1 .taken)))
-
-add-i : tie.Need-add-i Inv-loop μ-loop
-add-i c = search needs
-
-loop-less : tie.Need-loop-less Inv-loop μ-loop
-loop-less c = search needs
 
 loop-again : tie.Need-loop-again Inv-loop μ-loop
 loop-again c =
@@ -53,11 +38,11 @@ are-steps-spec =
     Inv-loop
     μ-loop
     loop-holds
-    mul-is-step
-    shared-slice-read-is-step
-    is-step-requires
+    (λ c. search needs)
+    (λ c. search needs)
+    (λ c κs. search needs)
     returns
-    add-i
-    loop-less
+    (λ c. search needs)
+    (λ c. search needs)
     loop-again
     returns-2)

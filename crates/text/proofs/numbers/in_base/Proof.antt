@@ -22,18 +22,6 @@ returns c = sym (base-none _ _ _ (c .if1 .taken))
 loop-holds : tie.Need-loop-holds Inv-loop μ-loop
 loop-holds c = (omega arith, omega arith, base-some _ _ _ (omega arith))
 
-shared-slice-read-with-digit : tie.Need-shared-slice-read-with-digit Inv-loop μ-loop
-shared-slice-read-with-digit c = search needs
-
-with-digit-requires : tie.Need-with-digit-requires Inv-loop μ-loop
-with-digit-requires c κs = search needs
-
-enum-known-read : tie.Need-enum-known-read Inv-loop μ-loop
-enum-known-read c = search needs
-
-enum-told : tie.Need-enum-told Inv-loop μ-loop
-enum-told c = search needs
-
 -- the digit at i: what reading it gave decides what the text comes to
 step : (c : tie.After-with-digit Inv-loop μ-loop)
     → let l = c .before .before .before in
@@ -48,12 +36,6 @@ step c =
 
 returns-2 : tie.Need-returns-2 Inv-loop μ-loop
 returns-2 c = sym (rw (c .enum-told .given .1) at (step (c .before .before)))
-
-add-i : tie.Need-add-i Inv-loop μ-loop
-add-i c = search needs
-
-loop-less : tie.Need-loop-less Inv-loop μ-loop
-loop-less c = search needs
 
 loop-again : tie.Need-loop-again Inv-loop μ-loop
 loop-again c =
@@ -75,12 +57,12 @@ in-base-spec =
     μ-loop
     returns
     loop-holds
-    shared-slice-read-with-digit
-    with-digit-requires
-    enum-known-read
-    enum-told
+    (λ c. search needs)
+    (λ c κs. search needs)
+    (λ c. search needs)
+    (λ c. search needs)
     returns-2
-    add-i
-    loop-less
+    (λ c. search needs)
+    (λ c. search needs)
     loop-again
     returns-3)

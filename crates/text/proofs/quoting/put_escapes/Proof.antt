@@ -21,18 +21,6 @@ loop-holds : tie.Need-loop-holds Inv-loop μ-loop
 unfolding escapes
 loop-holds c = (omega arith, put-none _ _)
 
-shared-slice-read-put-escaped : tie.Need-shared-slice-read-put-escaped Inv-loop μ-loop
-shared-slice-read-put-escaped c = search needs
-
-put-escaped-requires : tie.Need-put-escaped-requires Inv-loop μ-loop
-put-escaped-requires c κs = search needs
-
-add-i : tie.Need-add-i Inv-loop μ-loop
-add-i c = search needs
-
-loop-less : tie.Need-loop-less Inv-loop μ-loop
-loop-less c = search needs
-
 loop-again : tie.Need-loop-again Inv-loop μ-loop
 loop-again c =
     let l = c .before .before .before .before .before .before in
@@ -51,10 +39,10 @@ put-escapes-spec =
     Inv-loop
     μ-loop
     loop-holds
-    shared-slice-read-put-escaped
-    put-escaped-requires
-    add-i
-    loop-less
+    (λ c. search needs)
+    (λ c κs. search needs)
+    (λ c. search needs)
+    (λ c. search needs)
     loop-again
     same-length
     returns)

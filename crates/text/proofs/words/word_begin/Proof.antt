@@ -21,15 +21,6 @@ returns c =
     let b = c .before .before .loop .inv .1 in
     (b .inside, rw (c .if1 .taken) at (b .rest))
 
-next-word-requires : tie.Need-next-word-requires Inv-loop μ-loop
-next-word-requires c κs = search needs
-
-add-i : tie.Need-add-i Inv-loop μ-loop
-add-i c = search needs
-
-loop-less : tie.Need-loop-less Inv-loop μ-loop
-loop-less c = search needs
-
 loop-again : tie.Need-loop-again Inv-loop μ-loop
 loop-again c =
     let l = c .before .before .before in
@@ -48,8 +39,8 @@ word-begin-spec =
     μ-loop
     loop-holds
     returns
-    next-word-requires
-    add-i
-    loop-less
+    (λ c κs. search needs)
+    (λ c. search needs)
+    (λ c. search needs)
     loop-again
     returns-2)
