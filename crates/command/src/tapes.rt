@@ -2,6 +2,7 @@
 ghost use Prim.Native.Nat.{_+_, _/_, _≤_};
 ghost use mathlib.Core.Path.{_≡_};
 ghost use lib.ListN.{length, getD};
+ghost use lib.Seq.{sets};
 ghost use Rattle.refusal.specs.Rows.{Wrote};
 ghost use Rattle.text.specs.Text.{numbersLine};
 ghost use Rattle.tape.specs.Layout.{stepsOf};
@@ -118,9 +119,17 @@ fn runs(tapes: &[u32], requests: &[u32], registers: Registers, told: &mut [u32])
     ensures { λ count. ⌜ count ≡ 4 + length (now (requests .entry)) / 4 ⌝ }
 {
     let after = sequencer::play(tapes, requests, registers, &mut told[REGISTERS..]);
-    told[0] = after.c;
-    told[1] = after.d;
-    told[2] = after.e;
-    told[3] = after.f;
+    put_registers(after, told);
     REGISTERS + requests.len() / REQUEST_WORDS
+}
+
+// The registers in the first four places.
+fn put_registers(registers: Registers, told: &mut [u32])
+    requires { ⌜ 4 ≤ length (now told) ⌝ }
+    ensures { λ _. ⌜ now (told .exit) ≡ sets (now (told .entry)) 0 (valuesOf registers) ⌝ }
+{
+    told[0] = registers.c;
+    told[1] = registers.d;
+    told[2] = registers.e;
+    told[3] = registers.f;
 }

@@ -6,7 +6,7 @@ use Prim.Native.Nat.{ℕ}
 use Prim.Native.String.{String}
 use Rattle.text.specs.Text.{ascii, decimalWithin, decimal, line}
 use Rattle.text.specs.Reading.{digitOf, allDigits, valueFrom, numberFrom, inBase, isHexadecimal, numberIn, wordsOf}
-use Rattle.program.specs.Services.{sameWords}
+use Rattle.program.specs.Same.{sameWords}
 use Rattle.tool.specs.Verbs.{entries, names, rows, indexIn, rowNamed, parameterIn}
 use Rattle.tool.specs.Calls.{numbersFrom, askedBy}
 use Rattle.scripting.specs.Script.{State, Done, mostTapes, atHand, withTape, inScript, commanded, commandDone, equalsIn, lineDone}
