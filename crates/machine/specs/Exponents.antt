@@ -68,7 +68,7 @@ makesInRange (Swp t s) z = true
 unfoldable pub shiftInRange : Step → List ℤ → List ℤ
 shiftInRange x z = cond (makesInRange x z) (shift x z) z
 
--- the outcome that a `ExponentsAnswer` of the code stands for
+-- the outcome that an `ExponentsAnswer` of the code stands for
 abbrev pub exponentsOutcomeOf : ExponentsAnswer → Outcome (List ℤ)
 exponentsOutcomeOf (Answered exponents) = answered (exponentsOf exponents)
 exponentsOutcomeOf (Refused e) = refused (numberOf e)

@@ -62,7 +62,7 @@ fn place_back(row: &mut [u32], at: usize, first: u8, second: u8) -> usize
     put_two(row, c, SWP_0_1, DIV_0_1)
 }
 
-// A place of the first loop of the hybrid program.
+// A place of the first loop of Figure 6.
 fn place_down(row: &mut [u32], at: usize, bit: u8) -> usize
     ensures { λ next. ⌜ Writes (now (row .entry)) at (downWords bit) next (now (row .exit)) ⌝ }
 {

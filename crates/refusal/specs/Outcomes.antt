@@ -30,7 +30,7 @@ unfoldable pub applies : List Rule → Bool
 applies [] = false
 applies ((e given-if t) ∷ rules) = t || applies rules
 
--- the outcome that an `NumberAnswer` of the code stands for
+-- the outcome that a `NumberAnswer` of the code stands for
 abbrev pub numberOutcomeOf : NumberAnswer → Outcome ℕ
 numberOutcomeOf (Answered n) = answered n
 numberOutcomeOf (Refused e) = refused (numberOf e)
