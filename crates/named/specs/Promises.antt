@@ -9,6 +9,7 @@ use Rattle.modular.specs.Inverses.{inverse}
 use Rattle.fibonacci.specs.Services.{lastPlace}
 use Rattle.tape.specs.declared.Step.{Step}
 use Rattle.tape.specs.Steps.{AllSound}
+use Rattle.tape.specs.Words.{numberLimit}
 use Rattle.tape.specs.Layout.{mostSteps}
 use Rattle.machine.specs.Exponents.{startExponents, exponentsAt, staysInRange, residueOf}
 use Rattle.named.specs.declared.Figure.{Figure}
@@ -36,14 +37,14 @@ pub record Fits (f : Forms) : Type 0 where
 
 -- xs is a program for the k-th power of what has order r, or an order that divides r
 pub record IsProgram (r k : ℕ) (xs : List Step) : Type 0 where
-  -- each step has two different registers
-  pub sound : AllSound xs
-  -- never empty, and short enough for a tape
+  -- never empty, and each step has two different registers
   pub some : 0 < length xs
-  pub short : length xs ≤ mostSteps
+  pub sound : AllSound xs
   -- done, it takes (1, a, 1, 1) to (1, a^k, 1, 1); undone, (1, b, 1, 1) to (1, b^K, 1, 1)
   pub raises : (p : ℕ) → Prime p → Raises p r k xs
   pub lowers : (p : ℕ) → Prime p → Lowers p r (inverse r k) xs
-  -- at no position an exponent leaves its range, and the last ones are (0, k, 0, 0) modulo r
-  pub stays : staysInRange xs startExponents ≡ true
+  -- the last exponents are (0, k, 0, 0) modulo r
   pub ends : map (residueOf r) (exponentsAt xs (length xs)) ≡ 0 ∷ k ∷ 0 ∷ 0 ∷ []
+  -- where a word holds r, it is short enough for a tape and at no position an exponent leaves its range
+  pub short : r < numberLimit → length xs ≤ mostSteps
+  pub stays : r < numberLimit → staysInRange xs startExponents ≡ true

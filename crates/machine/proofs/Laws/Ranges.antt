@@ -1,9 +1,9 @@
--- Exponents that stay in range: steps that take exponents to exponents, in range at every position, go on one after another, and
--- taken back they come through the positions that they went through.
-use mathlib.Core.Path.{_≡_, refl, sym, _∙_, ap, ap₂, subst}
+-- Exponents that stay in range: steps that take exponents to exponents, within a bound at every position, go on one after another,
+-- and taken back they come through the positions that they went through.
+use mathlib.Core.Path.{_≡_, refl, sym, _∙_, ap, ap₂}
 use mathlib.Core.Bool.{true, _&&_}
 use mathlib.Core.List.{List, [], _∷_, _++_}
-use Prim.Native.Nat.{ℕ, zero, suc, _^_}
+use Prim.Native.Nat.{ℕ, zero, suc, _≤_, _^_}
 use native.Mathlib.Omega.{arith}
 use lib.IntN.{ℤ, pos, negsuc, negℤ}
 use lib.Signed.{leZ}
@@ -12,9 +12,9 @@ use lib.Seq.{take-length}
 use Rattle.refusal.proofs.Laws.Tests.{both}
 use Rattle.tape.specs.declared.Step.{Step}
 use Rattle.tape.specs.Steps.{AllSound}
-use Rattle.machine.specs.Machine.{back}
+use Rattle.machine.specs.Machine.{opposite, back}
 use Rattle.machine.specs.Exponents.{shift, shiftAll, startExponents, exponentsAt, inRange, allInRange, staysInRange}
-use Rattle.machine.proofs.Laws.Integers.{Within, le-leZ, leZ-true}
+use Rattle.machine.proofs.Laws.Integers.{Within, within-more, le-leZ, leZ-true}
 use Rattle.machine.proofs.Laws.Exponents.{length-shift, shift-opposite}
 
 -- ---- the tests
@@ -32,12 +32,6 @@ range-within (negsuc n) r =
     let least = leZ-true (negℤ (pos (2 ^ 62))) (negsuc n) (both (leZ (negℤ (pos (2 ^ 62))) (negsuc n)) (leZ (negsuc n) (pos (2 ^ 62))) r .0) in
     record { high = omega arith; low = omega arith }
 
--- four exponents in range
-pub four-range : (c d e f : ℤ) → Within (2 ^ 62) c → Within (2 ^ 62) d → Within (2 ^ 62) e → Within (2 ^ 62) f
-    → allInRange (c ∷ d ∷ e ∷ f ∷ []) ≡ true
-unfolding allInRange
-four-range c d e f vc vd ve vf = rw (within-range c vc, within-range d vd, within-range e ve, within-range f vf)
-
 pub stays-first : (xs : List Step) (z : List ℤ) → staysInRange xs z ≡ true → allInRange z ≡ true
 unfolding staysInRange
 stays-first [] z s = s
@@ -52,38 +46,51 @@ stays-take (suc n) (x ∷ xs) z s =
     let t = both (allInRange z) (staysInRange xs (shift x z)) s in
     ap₂ _&&_ (t .0) (stays-take n xs (shift x z) (t .1))
 
--- ---- the steps xs take the exponents z to w, in range at every position
+-- ---- the steps xs take the exponents z to w, within c at every position
 
-pub record Goes (xs : List Step) (z w : List ℤ) : Type 0 where
-  pub stays : staysInRange xs z ≡ true
-  pub ends : shiftAll xs z ≡ w
+abbrev pub AllWithin : ℕ → List ℤ → Type 0
+AllWithin c [] = Unit {0}
+AllWithin c (e ∷ z) = Within c e × AllWithin c z
 
-pub goes-none : {z : List ℤ} → allInRange z ≡ true → Goes [] z z
-unfolding staysInRange shiftAll
-goes-none r = record { stays = r; ends = refl }
+pub four-within : {l : ℕ} {c d e f : ℤ} → Within l c → Within l d → Within l e → Within l f → AllWithin l (c ∷ d ∷ e ∷ f ∷ [])
+four-within vc vd ve vf = (vc, (vd, (ve, (vf, tt))))
 
-pub goes-step : {x : Step} {xs : List Step} {z y w : List ℤ} → allInRange z ≡ true → shift x z ≡ y → Goes xs y w → Goes (x ∷ xs) z w
-unfolding staysInRange shiftAll
-goes-step {x} {xs} {z} r e g = record {
-  stays = ap₂ _&&_ r (ap (staysInRange xs) e ∙ g .stays);
-  ends = ap (shiftAll xs) e ∙ g .ends;
-}
+pub data Goes (c : ℕ) : List Step → List ℤ → List ℤ → Type 0 where
+  goes-none : {z : List ℤ} → AllWithin c z → Goes c [] z z
+  goes-step : {x : Step} {xs : List Step} {z y w : List ℤ} → AllWithin c z → shift x z ≡ y → Goes c xs y w → Goes c (x ∷ xs) z w
 
-pub goes-append : (xs : List Step) {ys : List Step} {z y w : List ℤ} → Goes xs z y → Goes ys y w → Goes (xs ++ ys) z w
-unfolding staysInRange shiftAll
-goes-append [] {ys} {w = w} g h = subst (λ (v : List ℤ). Goes ys v w) (sym (g .ends)) h
-goes-append (x ∷ xs) {z = z} g h =
-    let s = both (allInRange z) (staysInRange xs (shift x z)) (g .stays) in
-    goes-step (s .0) refl (goes-append xs (record { stays = s .1; ends = g .ends }) h)
+pub goes-append : {c : ℕ} (xs : List Step) {ys : List Step} {z y w : List ℤ} → Goes c xs z y → Goes c ys y w → Goes c (xs ++ ys) z w
+goes-append [] (goes-none v) h = h
+goes-append (x ∷ xs) (goes-step v e g) h = goes-step v e (goes-append xs g h)
 
-pub goes-back : (xs : List Step) {z w : List ℤ} → AllSound xs → length z ≡ 4 → Goes xs z w → Goes (back xs) w z
-unfolding staysInRange shiftAll back
-goes-back [] {z} a n g = subst (λ (v : List ℤ). Goes [] v z) (g .ends) (goes-none (g .stays))
-goes-back (x ∷ xs) {z} a n g =
-    let s = both (allInRange z) (staysInRange xs (shift x z)) (g .stays) in
-    goes-append (back xs) (goes-back xs {z = shift x z} (a .1) (length-shift x z ∙ n) (record { stays = s .1; ends = g .ends }))
-    (goes-step (stays-first xs (shift x z) (s .1)) (shift-opposite x z (a .0) n) (goes-none (s .0)))
+goes-first : {c : ℕ} {xs : List Step} {z w : List ℤ} → Goes c xs z w → AllWithin c z
+goes-first (goes-none v) = v
+goes-first (goes-step v e g) = v
+
+pub goes-back : {c : ℕ} (xs : List Step) {z w : List ℤ} → AllSound xs → length z ≡ 4 → Goes c xs z w → Goes c (back xs) w z
+unfolding back
+goes-back [] a n (goes-none v) = goes-none v
+goes-back (x ∷ xs) {z} a n (goes-step v e g) =
+    goes-append (back xs) (goes-back xs (a .1) (ap length (sym e) ∙ length-shift x z ∙ n) g)
+    (goes-step (goes-first g) (ap (shift (opposite x)) (sym e) ∙ shift-opposite x z (a .0) n) (goes-none v))
+
+goes-shifts : {c : ℕ} (xs : List Step) {z w : List ℤ} → Goes c xs z w → shiftAll xs z ≡ w
+unfolding shiftAll
+goes-shifts [] (goes-none v) = refl
+goes-shifts (x ∷ xs) (goes-step v e g) = ap (shiftAll xs) e ∙ goes-shifts xs g
 
 -- from the exponents that a trace starts from, w is where it ends
-pub goes-end : {xs : List Step} {w : List ℤ} → Goes xs startExponents w → exponentsAt xs (length xs) ≡ w
-goes-end {xs} g = ap (λ (l : List Step). shiftAll l startExponents) (take-length xs) ∙ g .ends
+pub goes-end : {c : ℕ} {xs : List Step} {w : List ℤ} → Goes c xs startExponents w → exponentsAt xs (length xs) ≡ w
+goes-end {xs = xs} g = ap (λ (l : List Step). shiftAll l startExponents) (take-length xs) ∙ goes-shifts xs g
+
+-- in range, where c is
+module _ {c : ℕ} (small : c ≤ 2 ^ 62) where
+  all-range : (z : List ℤ) → AllWithin c z → allInRange z ≡ true
+  unfolding allInRange
+  all-range [] v = refl
+  all-range (e ∷ z) v = ap₂ _&&_ (within-range e (within-more small (v .0))) (all-range z (v .1))
+
+  pub goes-stays : (xs : List Step) {z w : List ℤ} → Goes c xs z w → staysInRange xs z ≡ true
+  unfolding staysInRange
+  goes-stays [] {z} (goes-none v) = all-range z v
+  goes-stays (x ∷ xs) {z} (goes-step v e g) = ap₂ _&&_ (all-range z v) (ap (staysInRange xs) e ∙ goes-stays xs g)

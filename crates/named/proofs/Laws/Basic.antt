@@ -2,7 +2,7 @@
 use mathlib.Core.Path.{_≡_, refl, ap, _∙_}
 use mathlib.Core.Bool.{false}
 use mathlib.Core.List.{[]}
-use Prim.Native.Nat.{ℕ, suc, _+_, _*_, _%_, _≤_, _<_, _^_}
+use Prim.Native.Nat.{ℕ, suc, _+_, _*_, _%_, _≤_, _<_}
 use native.Mathlib.Omega.{arith}
 use lib.ListN.{length}
 use Rattle.modular.specs.Inverses.{inverse, badExponent}
@@ -16,8 +16,7 @@ use Rattle.named.specs.Generators.{generated}
 use Rattle.named.specs.Named.{basicForms}
 use Rattle.named.specs.Promises.{Fits, IsProgram}
 use Rattle.named.proofs.Laws.Lengths.{drawn-count, lone-fits}
-use Rattle.named.proofs.Laws.Sequences.{multiple-28}
-use Rattle.named.proofs.Laws.Forms.{form-ones}
+use Rattle.named.proofs.Laws.Forms.{form-ones, mostTerm, mostOnes, most-term, reach-28}
 use Rattle.named.proofs.Laws.Programs.{below, inverse-is, two-program}
 
 module _ (r k : ℕ) (good : badExponent k r ≡ false) where
@@ -35,20 +34,18 @@ module _ (r k : ℕ) (good : badExponent k r ≡ false) where
   basic-bound =
       omega (arith, drawn-count Two (zeckendorf k) [] (zeckendorf K) [] (omega arith) (omega arith) refl refl, zeckendorf-height r k h, zeckendorf-height r K H, form-ones r k h, form-ones r K H)
 
-  module _ (small : r < numberLimit) where
-    low : height r ≤ 41
-    low = height-28 r small
+  pub basic-fits : r < numberLimit → Fits (basicForms r k)
+  unfolding basicForms
+  basic-fits small =
+      let low = height-28 r small in
+      lone-fits Two (zeckendorf k) (zeckendorf K) (omega (arith, low, zeckendorf-height r k h)) (omega (arith, low, zeckendorf-height r K H))
 
-    pub basic-fits : Fits (basicForms r k)
-    unfolding basicForms
-    basic-fits = lone-fits Two (zeckendorf k) (zeckendorf K) (omega (arith, low, zeckendorf-height r k h)) (omega (arith, low, zeckendorf-height r K H))
-
-    pub basic-program : IsProgram r k (generated (basicForms r k))
-    unfolding basicForms
-    basic-program =
-        two-program r k good (2 ^ 57) 21 (omega arith) (zeckendorf k) (zeckendorf K)
-        (zeckendorf-sum k) (ap (λ (n : ℕ). k * n % r) (zeckendorf-sum K) ∙ inverse-is r k good .one)
-        (omega (arith, low, form-ones r k h)) (omega (arith, low, form-ones r K H))
-        (multiple-28 1 (suc (length (zeckendorf k))) (omega arith) (omega (arith, low, zeckendorf-height r k h)))
-        (multiple-28 k (suc (length (zeckendorf K))) (omega (arith, h)) (omega (arith, low, zeckendorf-height r K H)))
-        (omega (arith, low, basic-bound))
+  pub basic-program : IsProgram r k (generated (basicForms r k))
+  unfolding basicForms
+  basic-program =
+      two-program r k good (mostTerm r) (mostOnes r) (reach-28 r) (zeckendorf k) (zeckendorf K)
+      (zeckendorf-sum k) (ap (λ (n : ℕ). k * n % r) (zeckendorf-sum K) ∙ inverse-is r k good .one)
+      (form-ones r k h) (form-ones r K H)
+      (most-term r 1 (suc (length (zeckendorf k))) (omega (arith, h)) (omega (arith, zeckendorf-height r k h)))
+      (most-term r k (suc (length (zeckendorf K))) (omega (arith, h)) (omega (arith, zeckendorf-height r K H)))
+      (λ small. omega (arith, height-28 r small, basic-bound))

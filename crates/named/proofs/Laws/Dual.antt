@@ -1,7 +1,7 @@
 -- The dual program: figure 4 on four forms of numbers below r, each padded to h.
 use mathlib.Core.Path.{_≡_, ap, _∙_}
 use mathlib.Core.Bool.{false}
-use Prim.Native.Nat.{ℕ, suc, _+_, _*_, _%_, _≤_, _<_, _^_}
+use Prim.Native.Nat.{ℕ, suc, _+_, _*_, _%_, _≤_, _<_}
 use native.Mathlib.Nat.{mod-lt, mod-mod, mul-le-mul-left}
 use native.Mathlib.Omega.{arith}
 use lib.IntN.{pos}
@@ -19,8 +19,8 @@ use Rattle.named.specs.Generators.{generated}
 use Rattle.named.specs.Named.{dualForm, dualForms}
 use Rattle.named.specs.Promises.{Fits, IsProgram}
 use Rattle.named.proofs.Laws.Lengths.{drawn-count}
-use Rattle.named.proofs.Laws.Sequences.{multiple-28, reaching}
-use Rattle.named.proofs.Laws.Forms.{padded-sum, padded-length, padded-ones}
+use Rattle.named.proofs.Laws.Sequences.{reaching}
+use Rattle.named.proofs.Laws.Forms.{padded-sum, padded-length, padded-ones, mostTerm, mostOnes, most-term, reach-28}
 use Rattle.named.proofs.Laws.Programs.{FormOf, below, four-program}
 
 module _ (r k : ℕ) (good : badExponent k r ≡ false) where
@@ -39,7 +39,7 @@ module _ (r k : ℕ) (good : badExponent k r ≡ false) where
   places : (x i : ℕ) → length (dualForm r x i) ≡ h
   places x i = padded-length h (x * fib i % r) r (residue-below (x * fib i)) (omega arith)
 
-  few : (x i : ℕ) → 2 * ones (dualForm r x i) ≤ h + 1
+  few : (x i : ℕ) → ones (dualForm r x i) ≤ mostOnes r
   few x i = padded-ones h (x * fib i % r) r (residue-below (x * fib i))
 
   pub dual-bound : length (generated (dualForms r k)) ≤ 6 * h + 4
@@ -57,30 +57,26 @@ module _ (r k : ℕ) (good : badExponent k r ≡ false) where
         few K (suc h),
       )
 
-  module _ (small : r < numberLimit) where
-    low : h ≤ 41
-    low = height-28 r small
+  pub dual-fits : r < numberLimit → Fits (dualForms r k)
+  unfolding dualForms
+  dual-fits small = record {
+    first = omega (arith, height-28 r small, places k h);
+    beside = omega (arith, places k h, places k (suc h));
+    last = omega (arith, height-28 r small, places K h);
+    besideLast = omega (arith, places K h, places K (suc h));
+    alone = tt;
+    aloneLast = tt;
+  }
 
-    pub dual-fits : Fits (dualForms r k)
-    unfolding dualForms
-    dual-fits = record {
-      first = omega (arith, low, places k h);
-      beside = omega (arith, places k h, places k (suc h));
-      last = omega (arith, low, places K h);
-      besideLast = omega (arith, places K h, places K (suc h));
-      alone = tt;
-      aloneLast = tt;
-    }
+  form : (x i : ℕ) → FormOf r h (mostOnes r) (x * fib i) (dualForm r x i)
+  form x i = record { places = places x i; few = few x i; sum = ap (λ (n : ℕ). n % r) (sum x i) ∙ mod-mod (x * fib i) r }
 
-    form : (x i : ℕ) → FormOf r h 21 (x * fib i) (dualForm r x i)
-    form x i = record { places = places x i; few = omega (arith, low, few x i); sum = ap (λ (n : ℕ). n % r) (sum x i) ∙ mod-mod (x * fib i) r }
-
-    pub dual-program : IsProgram r k (generated (dualForms r k))
-    unfolding dualForms
-    dual-program =
-        let within : (i j : ℕ) → 1 ≤ j → Within (2 ^ 28 * fib j) (pos (fibsum (dualForm r k i))) =
-        λ i j some. within-natural _ (omega (arith, sum k i, residue-below (k * fib i), mul-le-mul-left (2 ^ 28) (fib-monotone {m = 1} {n = j} some), fib-one)) in
-        four-program r k good (2 ^ 57) 21 (omega arith) h (dualForm r k h) (dualForm r k (suc h)) (dualForm r K h) (dualForm r K (suc h))
-        (form k h) (form k (suc h)) (form K h) (form K (suc h))
-        (reaching (2 ^ 57) (2 ^ 28) h 1 _ _ (multiple-28 (2 ^ 28) (suc (1 + h)) (omega arith) (omega (arith, low))) (within h 2 (omega arith)) (within (suc h) 1 (omega arith)))
-        (multiple-28 1 (suc h) (omega arith) (omega (arith, low))) (omega (arith, low, dual-bound))
+  pub dual-program : IsProgram r k (generated (dualForms r k))
+  unfolding dualForms
+  dual-program =
+      let within : (i j : ℕ) → 1 ≤ j → Within (r * fib j) (pos (fibsum (dualForm r k i))) =
+      λ i j some. within-natural _ (omega (arith, sum k i, residue-below (k * fib i), mul-le-mul-left r (fib-monotone {m = 1} {n = j} some), ap (λ (n : ℕ). r * n) fib-one)) in
+      four-program r k good (mostTerm r) (mostOnes r) (reach-28 r) h (dualForm r k h) (dualForm r k (suc h)) (dualForm r K h) (dualForm r K (suc h))
+      (form k h) (form k (suc h)) (form K h) (form K (suc h))
+      (reaching (mostTerm r) r h 1 _ _ (most-term r r (suc (1 + h)) (omega arith) (omega arith)) (within h 2 (omega arith)) (within (suc h) 1 (omega arith)))
+      (most-term r 1 (suc h) (omega (arith, below r k good)) (omega arith)) (λ small. omega (arith, height-28 r small, dual-bound))

@@ -81,7 +81,7 @@ came-ends r k {n = n} q ss ts e f h cs ct ls lt ce cf =
     (none ss e ls ce) (none ts f lt cf)
 
 -- where a program ends that goes there
-pub end-residues : (r k : ℕ) {xs : List Step} {z : List ℤ} → Goes xs startExponents z → EndsAt r k z → EndsAt r k (exponentsAt xs (length xs))
+pub end-residues : (r k : ℕ) {c : ℕ} {xs : List Step} {z : List ℤ} → Goes c xs startExponents z → EndsAt r k z → EndsAt r k (exponentsAt xs (length xs))
 end-residues r k goes e = ap (map (residueOf r)) (goes-end goes) ∙ e
 
 -- ---- the power

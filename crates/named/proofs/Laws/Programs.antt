@@ -3,7 +3,7 @@
 use mathlib.Core.Path.{_≡_, refl, sym, ap, _∙_}
 use mathlib.Core.Bool.{Bool, false}
 use mathlib.Core.List.{List, [], _∷_}
-use Prim.Native.Nat.{ℕ, suc, _+_, _*_, _%_, _≤_, _<_, _^_}
+use Prim.Native.Nat.{ℕ, suc, _*_, _%_, _≤_, _<_, _^_}
 use native.Mathlib.Nat.{one-mul}
 use native.Mathlib.Omega.{arith}
 use lib.IntN.{ℤ, pos}
@@ -15,12 +15,13 @@ use Rattle.modular.proofs.Laws.Inverses.{good-exponent, inverse-order}
 use Rattle.fibonacci.specs.Fibonacci.{fib}
 use Rattle.fibonacci.specs.Forms.{fibsumFrom, fibsum, pad, ones}
 use Rattle.tape.specs.declared.Step.{Step}
+use Rattle.tape.specs.Words.{numberLimit}
 use Rattle.tape.specs.Layout.{mostSteps}
 use Rattle.tape.specs.Steps.{AllSound}
 use Rattle.machine.specs.Machine.{back}
 use Rattle.machine.specs.Exponents.{shift, startExponents, exponentsAt}
 use Rattle.machine.proofs.Laws.Integers.{Within, within-natural}
-use Rattle.machine.proofs.Laws.Ranges.{four-range, Goes, goes-step, goes-append, goes-back}
+use Rattle.machine.proofs.Laws.Ranges.{four-within, Goes, goes-step, goes-append, goes-back, goes-stays}
 use Rattle.machine.proofs.Laws.Congruences.{Congruent, congruent-same, congruent-naturals}
 use Rattle.named.specs.declared.Figure.{Figure}
 use Rattle.named.specs.declared.Figure.the-variants.{Two, Four, Six}
@@ -29,7 +30,7 @@ use Rattle.named.specs.Promises.{IsProgram}
 use Rattle.named.proofs.Laws.Sound.{sound-ascend, sound-drawn}
 use Rattle.named.proofs.Laws.Lengths.{drawn-some}
 use Rattle.named.proofs.Laws.Sequences.{multiple, multiple-one, multiples, Reaching, cameFrom, reaching-multiples}
-use Rattle.named.proofs.Laws.Loops.{ranged, ascend-from, chain-multiples, ascend-sums, naturals-range, descend-sums}
+use Rattle.named.proofs.Laws.Loops.{reach, reached, ascend-from, chain-multiples, ascend-sums, all-naturals, descend-sums}
 use Rattle.named.proofs.Laws.Ends.{EndsAt, one-residue, came-ends, end-residues, ends-raises, raises-lowers}
 
 -- a form of x modulo r with n places, of which at most m are set
@@ -45,13 +46,13 @@ module _ (r k : ℕ) (good : badExponent k r ≡ false) where
   pub inverse-is : Inverse r k (inverse r k)
   inverse-is = inverse-order k r good
 
-  -- forms with at most m places set, along terms of at most b
-  module _ (b m : ℕ) (room : b * (2 + m) < 2 ^ 62) where
+  -- forms with at most m places set, along terms of at most b, in range where a word holds r
+  module _ (b m : ℕ) (room : r < numberLimit → reach b m ≤ 2 ^ 62) where
     drawn-program : (figure : Figure) (ss ts Ss Ts : List Bool) {n : ℕ} {s t : ℤ} (q : Reaching b n s t) (e f : ℤ)
         → length Ss ≡ n → length Ts ≤ n → ones Ss ≤ m → ones Ts ≤ m → Within b e → Within b f
         → Congruent r s (multiple k n) → Congruent r t (multiple k (suc n)) → Congruent r e (pos (k * fibsum Ss)) → Congruent r f (pos (k * fibsum Ts))
-        → length (drawn figure ss ts Ss Ts) ≤ mostSteps
-        → ((z : List ℤ) → Goes (back (ascend Ss Ts)) (s ∷ t ∷ e ∷ f ∷ []) z → Goes (drawn figure ss ts Ss Ts) startExponents z)
+        → (r < numberLimit → length (drawn figure ss ts Ss Ts) ≤ mostSteps)
+        → ((z : List ℤ) → Goes (reach b m) (back (ascend Ss Ts)) (s ∷ t ∷ e ∷ f ∷ []) z → Goes (reach b m) (drawn figure ss ts Ss Ts) startExponents z)
         → IsProgram r k (drawn figure ss ts Ss Ts)
     drawn-program figure ss ts Ss Ts {n} q e f lS lT few few′ we wf cs ct ce cf short opening =
         let xs : List Step = drawn figure ss ts Ss Ts in
@@ -59,25 +60,25 @@ module _ (r k : ℕ) (good : badExponent k r ≡ false) where
         opening (cameFrom q Ss Ts e f)
         (rw (q .last, q .past) at
         (goes-back (ascend Ss Ts) (sound-ascend Ss Ts) refl
-        (ascend-from b m room n (q .term) (q .sequence) e f we wf Ss Ts 0 (omega arith) (omega arith) few few′))) in
+        (ascend-from b m n (q .term) (q .sequence) e f we wf Ss Ts 0 (omega arith) (omega arith) few few′))) in
         let sound : AllSound xs = sound-drawn figure ss ts Ss Ts in
         let ends : EndsAt r k (exponentsAt xs (length xs)) = end-residues r k goes (came-ends r k q Ss Ts e f below cs ct (omega arith) lT ce cf) in
         let raises : (p : ℕ) → Prime p → Raises p r k xs = λ p pr. ends-raises p pr r k xs sound (omega (arith, below)) ends in
         record {
-          sound = sound;
           some = drawn-some figure ss ts Ss Ts;
-          short = short;
+          sound = sound;
           raises = raises;
           lowers = λ p pr. raises-lowers p pr r k xs sound (inverse r k) (inverse-is .one) (raises p pr);
-          stays = goes .stays;
           ends = ends;
+          short = short;
+          stays = λ small. goes-stays (room small) xs goes;
         }
 
     -- with one form in the second half, which takes (1, 0) to (1 - k K, 0)
     lone-program : (figure : Figure) (ss Ks : List Bool) {s t : ℤ} (q : Reaching b (length Ks) s t) → k * fibsum Ks % r ≡ 1 → ones Ks ≤ m → 1 ≤ b
         → Congruent r s (multiple k (length Ks)) → Congruent r t (multiple k (suc (length Ks)))
-        → length (drawn figure ss [] Ks []) ≤ mostSteps
-        → ((z : List ℤ) → Goes (back (ascend Ks [])) (s ∷ t ∷ pos 1 ∷ pos 0 ∷ []) z → Goes (drawn figure ss [] Ks []) startExponents z)
+        → (r < numberLimit → length (drawn figure ss [] Ks []) ≤ mostSteps)
+        → ((z : List ℤ) → Goes (reach b m) (back (ascend Ks [])) (s ∷ t ∷ pos 1 ∷ pos 0 ∷ []) z → Goes (reach b m) (drawn figure ss [] Ks []) startExponents z)
         → IsProgram r k (drawn figure ss [] Ks [])
     unfolding fibsumFrom ones
     lone-program figure ss Ks q inv few some cs ct short opening =
@@ -88,7 +89,7 @@ module _ (r k : ℕ) (good : badExponent k r ≡ false) where
     -- figure 2, along the multiples of 1 and then of k
     pub two-program : (ks Ks : List Bool) → fibsum ks ≡ k → k * fibsum Ks % r ≡ 1 → ones ks ≤ m → ones Ks ≤ m
         → 1 * fib (suc (length ks)) ≤ b → k * fib (suc (length Ks)) ≤ b
-        → length (drawn Two ks [] Ks []) ≤ mostSteps → IsProgram r k (drawn Two ks [] Ks [])
+        → (r < numberLimit → length (drawn Two ks [] Ks []) ≤ mostSteps) → IsProgram r k (drawn Two ks [] Ks [])
     unfolding drawn basic shift fibsumFrom ones
     two-program ks Ks sum inv few few′ most most′ short =
         let n : ℕ = length ks in
@@ -98,17 +99,17 @@ module _ (r k : ℕ) (good : badExponent k r ≡ false) where
         let wk : Within b (pos k) = rw (multiple-one k) at (multiples b l k most′ .small 1 (omega arith)) in
         lone-program Two ks Ks (reaching-multiples b l k most′ refl refl) inv few′ (w1 .high) (congruent-same r _ _ refl) (congruent-same r _ _ refl) short
         (λ z closing.
-        goes-append (ascend ks []) (rw sum at (ascend-sums b m room n ks [] refl (omega arith) few (omega arith) most (omega (arith, wk .high)) (omega arith)))
+        goes-append (ascend ks []) (rw sum at (ascend-sums b m n ks [] refl (omega arith) few (omega arith) most (omega (arith, wk .high)) (omega arith)))
         (goes-append (back (chain n))
-        (goes-back (chain n) (sound-ascend (pad n []) []) refl (chain-multiples b m room n 1 most (pos k) (pos 0) wk w0))
-        (goes-step (naturals-range 0 1 k 0 (omega (arith, wk .high))) refl
-        (goes-append (chain l) (chain-multiples b m room l k most′ (pos 1) (pos 0) w1 w0) closing))))
+        (goes-back (chain n) (sound-ascend (pad n []) []) refl (chain-multiples b m n 1 most (pos k) (pos 0) wk w0))
+        (goes-step (all-naturals (reach b m) 0 1 k 0 (omega (arith, wk .high))) refl
+        (goes-append (chain l) (chain-multiples b m l k most′ (pos 1) (pos 0) w1 w0) closing))))
 
     -- figure 4, along the multiples of 1 and then the sequence through the sums of its first two forms
     pub four-program : (n : ℕ) (ss ts Ss Ts : List Bool) → FormOf r n m (k * fib n) ss → FormOf r n m (k * fib (suc n)) ts
         → FormOf r n m (inverse r k * fib n) Ss → FormOf r n m (inverse r k * fib (suc n)) Ts
         → Reaching b n (pos (fibsum ss)) (pos (fibsum ts)) → 1 * fib (suc n) ≤ b
-        → length (drawn Four ss ts Ss Ts) ≤ mostSteps → IsProgram r k (drawn Four ss ts Ss Ts)
+        → (r < numberLimit → length (drawn Four ss ts Ss Ts) ≤ mostSteps) → IsProgram r k (drawn Four ss ts Ss Ts)
     unfolding drawn dual shift
     four-program n ss ts Ss Ts first beside last beside-last q most short =
         let crossed : (bs : List Bool) (i : ℕ) → fibsum bs % r ≡ inverse r k * fib i % r → Congruent r (multiple 1 i) (pos (k * fibsum bs)) =
@@ -119,19 +120,18 @@ module _ (r k : ℕ) (good : badExponent k r ≡ false) where
         let wt : Within b (pos (fibsum ts)) = rw (q .past) at (q .sequence .small (suc n) (omega arith)) in
         let wc : Within b (multiple 1 n) = multiples b n 1 most .small n (omega arith) in
         let wd : Within b (multiple 1 (suc n)) = multiples b n 1 most .small (suc n) (omega arith) in
-        let in-range : (x : ℤ) → Within b x → Within (2 ^ 62) x = λ x w. ranged b m room w in
         drawn-program Four ss ts Ss Ts q (multiple 1 n) (multiple 1 (suc n)) (last .places) (omega (arith, beside-last .places)) (last .few) (beside-last .few) wc wd
         (congruent-naturals r (fibsum ss) (k * fib n) (first .sum)) (congruent-naturals r (fibsum ts) (k * fib (suc n)) (beside .sum))
         (crossed Ss n (last .sum)) (crossed Ts (suc n) (beside-last .sum)) short
         (λ z closing.
-        goes-append (ascend ss ts) (ascend-sums b m room n ss ts (first .places) (omega (arith, beside .places)) (first .few) (beside .few) most (ws .high) (wt .high))
-        (goes-step (four-range _ _ _ _ (in-range _ wc) (in-range _ wd) (in-range _ ws) (in-range _ wt)) refl
-        (goes-step (four-range _ _ _ _ (in-range _ ws) (in-range _ wd) (in-range _ wc) (in-range _ wt)) refl closing)))
+        goes-append (ascend ss ts) (ascend-sums b m n ss ts (first .places) (omega (arith, beside .places)) (first .few) (beside .few) most (ws .high) (wt .high))
+        (goes-step (four-within (reached b m wc) (reached b m wd) (reached b m ws) (reached b m wt)) refl
+        (goes-step (four-within (reached b m ws) (reached b m wd) (reached b m wc) (reached b m wt)) refl closing)))
 
     -- figure 6, down to the sums of its first form, and along the sequence through them
     pub six-program : (vs Ks : List Bool) (q : Reaching b (length Ks) (pos (fibsumFrom 0 vs)) (pos (fibsum vs))) → k * fibsum Ks % r ≡ 1
         → fibsumFrom 0 vs % r ≡ k * fib (length Ks) % r → fibsum vs % r ≡ k * fib (suc (length Ks)) % r → ones Ks ≤ m → 1 ≤ b
-        → length (drawn Six vs [] Ks []) ≤ mostSteps → IsProgram r k (drawn Six vs [] Ks [])
+        → (r < numberLimit → length (drawn Six vs [] Ks []) ≤ mostSteps) → IsProgram r k (drawn Six vs [] Ks [])
     unfolding drawn hybrid shift
     six-program vs Ks q inv eu ev few some short =
         let u : ℕ = fibsumFrom 0 vs in
@@ -140,7 +140,7 @@ module _ (r k : ℕ) (good : badExponent k r ≡ false) where
         let wv : Within b (pos v) = rw (q .past) at (q .sequence .small (suc (length Ks)) (omega arith)) in
         lone-program Six vs Ks q inv few some (congruent-naturals r u (k * fib (length Ks)) eu) (congruent-naturals r v (k * fib (suc (length Ks))) ev) short
         (λ z closing.
-        goes-step (naturals-range 0 1 0 0 (omega arith)) refl
-        (goes-append (descend vs) (descend-sums vs (omega (arith, wv .high)))
-        (goes-step (naturals-range 1 u v 0 (omega (arith, wu .high, wv .high))) refl
-        (goes-step (naturals-range u 1 v 0 (omega (arith, wu .high, wv .high))) refl closing))))
+        goes-step (all-naturals (reach b m) 0 1 0 0 (omega arith)) refl
+        (goes-append (descend vs) (descend-sums (reach b m) vs (omega (arith, wv .high)))
+        (goes-step (all-naturals (reach b m) 1 u v 0 (omega (arith, wu .high, wv .high))) refl
+        (goes-step (all-naturals (reach b m) u 1 v 0 (omega (arith, wu .high, wv .high))) refl closing))))

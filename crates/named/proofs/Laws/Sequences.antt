@@ -3,8 +3,8 @@
 use mathlib.Core.Path.{_≡_, refl, sym, ap, ap₂, _∙_}
 use mathlib.Core.Bool.{Bool, true, false, cond}
 use mathlib.Core.List.{List, [], _∷_}
-use Prim.Native.Nat.{ℕ, zero, suc, _+_, _*_, _≤_, _^_}
-use native.Mathlib.Nat.{add-zero, mul-le-mul, mul-le-mul-left}
+use Prim.Native.Nat.{ℕ, zero, suc, _+_, _*_, _≤_}
+use native.Mathlib.Nat.{add-zero, mul-le-mul-left}
 use native.Mathlib.Decide.{decLe}
 use native.Mathlib.Omega.{arith}
 use lib.IntN.{ℤ, pos, _+ℤ_, _-ℤ_, -ℤ-+ℤ-cancel}
@@ -70,11 +70,6 @@ multiples b n k most = record {
   next = multiple-next k;
   small = λ i h. within-natural (k * fib i) (omega (arith, mul-le-mul-left k (fib-monotone {m = i} {n = suc n} h)));
 }
-
--- for k up to 2^28 and 43 terms
-pub multiple-28 : (k i : ℕ) → k ≤ 2 ^ 28 → i ≤ 43 → k * fib i ≤ 2 ^ 57
-unfolding fib
-multiple-28 k i small low = omega (arith, mul-le-mul small (fib-monotone {m = i} {n = 43} low))
 
 before-parts : (k i : ℕ) (bs : List Bool) (e : ℤ)
     → over (before (multiple k) i bs e) + k * fibsumFrom i bs + under e ≡ over e + under (before (multiple k) i bs e)

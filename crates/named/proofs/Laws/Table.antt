@@ -32,15 +32,15 @@ AllRows P (row ∷ rows) = P row × AllRows P rows
 -- what a row promises: one program for each r and k, and where r and k are not refused what Promises says
 pub record Promised (row : Variant) : Type 0 where
   pub one : (r k : ℕ) → length (row .forms r k) ≡ 1
-  pub kept : (r k : ℕ) → badExponent k r ≡ false → r < numberLimit → (f : Forms) → Member f (row .forms r k) → Fits f × IsProgram r k (generated f)
+  pub kept : (r k : ℕ) → badExponent k r ≡ false → (f : Forms) → Member f (row .forms r k) → (r < numberLimit → Fits f) × IsProgram r k (generated f)
 
 promised : {number : ℕ} {name : List ℕ} (forms : ℕ → ℕ → Forms)
     → ((r k : ℕ) → badExponent k r ≡ false → r < numberLimit → Fits (forms r k))
-    → ((r k : ℕ) → badExponent k r ≡ false → r < numberLimit → IsProgram r k (generated (forms r k)))
+    → ((r k : ℕ) → badExponent k r ≡ false → IsProgram r k (generated (forms r k)))
     → Promised (record { number = number; name = name; forms = λ (r k : ℕ). forms r k ∷ [] })
 promised forms fits program = record {
   one = λ r k. refl;
-  kept = λ r k good small f m. rw (only-member m) (fits r k good small, program r k good small);
+  kept = λ r k good f m. rw (only-member m) (fits r k good, program r k good);
 }
 
 all-promised : AllRows Promised variants
@@ -78,16 +78,16 @@ module _ (variant r k : ℕ) where
       by-row P variant r k 1 variants all-promised refl
       (λ out. none (test-true (unnamed variant) (λ is. out (omega (arith, named-some variant is)) (omega (arith, named-most variant is))))) some
 
-  kept-forms : badExponent k r ≡ false → r < numberLimit → (f : Forms) → Member f (formsFor variant r k) → Fits f × IsProgram r k (generated f)
-  kept-forms good small =
-      by-variant (λ (fs : List Forms). (f : Forms) → Member f fs → Fits f × IsProgram r k (generated f)) (λ un f m. absurd m)
-      (λ row q. q .kept r k good small)
+  kept-forms : badExponent k r ≡ false → (f : Forms) → Member f (formsFor variant r k) → (r < numberLimit → Fits f) × IsProgram r k (generated f)
+  kept-forms good =
+      by-variant (λ (fs : List Forms). (f : Forms) → Member f fs → (r < numberLimit → Fits f) × IsProgram r k (generated f)) (λ un f m. absurd m)
+      (λ row q. q .kept r k good)
 
   pub member-fits : badExponent k r ≡ false → r < numberLimit → (f : Forms) → Member f (formsFor variant r k) → Fits f
-  member-fits good small f m = kept-forms good small f m .0
+  member-fits good small f m = kept-forms good f m .0 small
 
-  pub member-program : badExponent k r ≡ false → r < numberLimit → (xs : List Step) → Member xs (programsFor variant r k) → IsProgram r k xs
-  member-program good small = member-map (IsProgram r k) generated (formsFor variant r k) (λ f m. kept-forms good small f m .1)
+  pub member-program : badExponent k r ≡ false → (xs : List Step) → Member xs (programsFor variant r k) → IsProgram r k xs
+  member-program good = member-map (IsProgram r k) generated (formsFor variant r k) (λ f m. kept-forms good f m .1)
 
   -- today a variant allows one program
   pub only-program : (xs : List Step) → Member xs (programsFor variant r k) → xs ≡ namedSteps variant r k
@@ -104,5 +104,5 @@ module _ (variant r k : ℕ) where
       (by-variant (λ (fs : List Forms). 0 < length (map generated fs)) (λ un. absurd (true≢false (sym un ∙ named)))
       (λ row q. omega (arith, length-map (row .forms r k) generated, q .one r k)))
 
-  pub named-program : badExponent k r ≡ false → r < numberLimit → unnamed variant ≡ false → IsProgram r k (namedSteps variant r k)
-  named-program good small named = member-program good small (namedSteps variant r k) (named-member named)
+  pub named-program : badExponent k r ≡ false → unnamed variant ≡ false → IsProgram r k (namedSteps variant r k)
+  named-program good named = member-program good (namedSteps variant r k) (named-member named)

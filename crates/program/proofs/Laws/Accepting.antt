@@ -18,7 +18,7 @@ use Rattle.named.specs.Named.{programsFor, namedProgram, namedWords}
 use Rattle.named.specs.Members.{isOneOf}
 use Rattle.named.specs.Promises.{IsProgram}
 use Rattle.named.specs.Parameters.{badModulus, badOrder, unnamed}
-use Rattle.named.proofs.Laws.Parameters.{good-modulus, order-small}
+use Rattle.named.proofs.Laws.Parameters.{good-modulus}
 use Rattle.named.proofs.Laws.Members.{member-one-of}
 use Rattle.named.proofs.Laws.Table.{member-program, named-member}
 use Rattle.program.specs.Services.{checkOutcome}
@@ -60,5 +60,4 @@ accepted-prime tape a = prime-test _ (good-modulus _ (a .modulus) .prime)
 
 pub accepted-program : (tape : List ℕ) → AcceptedNamed tape → IsProgram (headerOf tape .order) (headerOf tape .exponent) (stepsOf tape)
 accepted-program tape a =
-    member-program (headerOf tape .variant) (headerOf tape .order) (headerOf tape .exponent) (a .exponent)
-    (order-small (headerOf tape .modulus) (headerOf tape .order) (a .modulus) (a .order)) (stepsOf tape) (a .member)
+    member-program (headerOf tape .variant) (headerOf tape .order) (headerOf tape .exponent) (a .exponent) (stepsOf tape) (a .member)

@@ -43,7 +43,7 @@ enough words room h = passes Room [] (length words) (le-ltb room (length words) 
 module _ (p r k variant : ℕ) (w : Writable p r k variant) where
   pub named-lawful : LawfulProgram (namedProgram p r k variant)
   named-lawful =
-      let q = named-program variant r k (w .exponent) (w .order) (w .named) in
+      let q = named-program variant r k (w .exponent) (w .named) in
       let below = good-exponent k r (w .exponent) .high in
       record {
         fits =
@@ -52,7 +52,7 @@ module _ (p r k variant : ℕ) (w : Writable p r k variant) where
               modulus-small = w .modulus;
               order-small = w .order;
               exponent-small = omega (arith, w .order);
-              count-small = omega (arith, q .short);
+              count-small = omega (arith, q .short (w .order));
             };
         free = λ zero. absurd (named-some variant (w .named) zero);
         sound = q .sound;
@@ -60,7 +60,7 @@ module _ (p r k variant : ℕ) (w : Writable p r k variant) where
 
   pub named-short : length (namedWords p r k variant) ≤ mostWords
   named-short =
-      omega (arith, program-length (namedProgram p r k variant), named-program variant r k (w .exponent) (w .order) (w .named) .short)
+      omega (arith, program-length (namedProgram p r k variant), named-program variant r k (w .exponent) (w .named) .short (w .order))
 
 -- ---- writing it
 

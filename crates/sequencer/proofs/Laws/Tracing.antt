@@ -16,6 +16,7 @@ use Rattle.tape.proofs.Laws.Layout.{steps-count}
 use Rattle.machine.specs.Exponents.{startExponents, exponentsAt, staysInRange, residueOf}
 use Rattle.machine.proofs.Laws.Ranges.{stays-take}
 use Rattle.machine.proofs.Laws.Exponents.{run-exponents}
+use Rattle.named.proofs.Laws.Parameters.{order-small}
 use Rattle.program.specs.Services.{isNamed, checkRules, checkOutcome, acceptOutcome}
 use Rattle.program.proofs.Laws.Checking.{AcceptedNamed, accepted-named}
 use Rattle.program.proofs.Laws.Accepting.{accepted-program}
@@ -42,7 +43,8 @@ module _ (tape : List ℕ) (named : isNamed (headerOf tape) ≡ true) (check : c
   accept = still-answered 0 (headerOf tape) (checkRules tape) check
 
   stays : (position : ℕ) → staysInRange (take position (stepsOf tape)) startExponents ≡ true
-  stays position = stays-take position (stepsOf tape) startExponents (accepted-program tape is-named .stays)
+  stays position =
+      stays-take position (stepsOf tape) startExponents (accepted-program tape is-named .stays (order-small _ _ (is-named .modulus) (is-named .order)))
 
   -- its trace is answered at every position
   pub trace-answered : (position : ℕ) → position ≤ headerOf tape .steps → traceOutcome tape position ≡ answered (exponentsAt (stepsOf tape) position)
