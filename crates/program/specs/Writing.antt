@@ -1,11 +1,9 @@
 -- The words of a program's parts, from rows of bits as the code holds forms: a place is set where its bit is 1.
-use mathlib.Core.Path.{_≡_}
 use mathlib.Core.Bool.{Bool, cond}
 use mathlib.Core.List.{List, [], _∷_, _++_, map}
-use Prim.Native.Nat.{ℕ, _+_, _≤_}
+use Prim.Native.Nat.{ℕ}
 use lib.Dec.{eqb}
-use lib.ListN.{length, take}
-use Rattle.refusal.specs.Rows.{Wrote}
+use lib.ListN.{take}
 use Rattle.tape.specs.declared.Step.the-variants.{Swp}
 use Rattle.tape.specs.Words.{stepWord}
 use Rattle.machine.specs.Machine.{back}
@@ -13,11 +11,6 @@ use Rattle.named.specs.declared.Figure.{Figure}
 use Rattle.named.specs.declared.Figure.the-variants.{Two, Four, Six}
 use Rattle.named.specs.Generators.{ascend, descend}
 use Rattle.program.specs.declared.forms.FormRows.{FormRows}
-
--- the words are written from `at` on, where the row has room for them
-pub record Writes (before : List ℕ) (at : ℕ) (words : List ℕ) (next : ℕ) (after : List ℕ) : Type 0 where
-  pub size : length after ≡ length before
-  pub wrote : at + length words ≤ length before → Wrote before at words next after
 
 abbrev pub isSet : ℕ → Bool
 isSet bit = eqb bit 1

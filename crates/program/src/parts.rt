@@ -1,9 +1,11 @@
 // The steps that a figure draws, as words, written into the lent row from `at` on. Each function answers the index past them.
 ghost use mathlib.Core.Path.{_≡_};
+ghost use Prim.Native.Nat.{_+_, _≤_};
 ghost use mathlib.Core.List.{[]};
 ghost use lib.ListN.{length};
+ghost use Rattle.refusal.specs.Rows.{Wrote};
 ghost use Rattle.program.specs.Forms.{Whole};
-ghost use Rattle.program.specs.Writing.{Writes, frontWords, drawnWords};
+ghost use Rattle.program.specs.Writing.{frontWords, drawnWords};
 use crate::forms::FormRows;
 use crate::words::SWP_0_1;
 use crate::words::SWP_0_2;
@@ -13,13 +15,13 @@ use crate::writer::ascend;
 use crate::writer::ascend_back;
 use crate::writer::descend;
 use crate::writer::put;
-use crate::writer::put_two;
 use named::Figure;
 
 // Every figure ends with its last form taken back.
 pub(crate) fn draw(row: &mut [u32], at: usize, forms: FormRows) -> usize
     requires { ⌜ Whole forms ⌝ }
-    ensures { λ next. ⌜ Writes (now (row .entry)) at (drawnWords forms) next (now (row .exit)) ⌝ }
+    requires { ⌜ at + length (drawnWords forms) ≤ length (now row) ⌝ }
+    ensures { λ next. ⌜ Wrote (now (row .entry)) at (drawnWords forms) next (now (row .exit)) ⌝ }
 {
     let figure = forms.figure;
     let first = forms.first;
@@ -49,7 +51,8 @@ fn front(
     beside_last: &[u8],
 ) -> usize
     requires { ⌜ length (now first) ≡ length (now beside) ⌝ }
-    ensures { λ next. ⌜ Writes (now (row .entry)) at (frontWords figure (now (first .entry)) (now (beside .entry)) (now («beside_last» .entry))) next (now (row .exit)) ⌝ }
+    requires { ⌜ at + length (frontWords figure (now first) (now beside) (now «beside_last»)) ≤ length (now row) ⌝ }
+    ensures { λ next. ⌜ Wrote (now (row .entry)) at (frontWords figure (now (first .entry)) (now (beside .entry)) (now («beside_last» .entry))) next (now (row .exit)) ⌝ }
 {
     match figure {
         Figure::Two => front_2(row, at, first, beside, beside_last),
@@ -61,7 +64,8 @@ fn front(
 // Figure 2: up the first form and the chain back; swap; the chain up. The rows beside have no place set, so they are the chains.
 fn front_2(row: &mut [u32], at: usize, first: &[u8], none: &[u8], none_last: &[u8]) -> usize
     requires { ⌜ length (now first) ≡ length (now none) ⌝ }
-    ensures { λ next. ⌜ Writes (now (row .entry)) at (frontWords Figure.Two (now (first .entry)) (now (none .entry)) (now («none_last» .entry))) next (now (row .exit)) ⌝ }
+    requires { ⌜ at + length (frontWords Figure.Two (now first) (now none) (now «none_last»)) ≤ length (now row) ⌝ }
+    ensures { λ next. ⌜ Wrote (now (row .entry)) at (frontWords Figure.Two (now (first .entry)) (now (none .entry)) (now («none_last» .entry))) next (now (row .exit)) ⌝ }
 {
     let b = ascend(row, at, first, none);
     let c = ascend_back(row, b, none, none);
@@ -72,17 +76,21 @@ fn front_2(row: &mut [u32], at: usize, first: &[u8], none: &[u8], none_last: &[u
 // Figure 4: up two forms; swap both pairs.
 fn front_4(row: &mut [u32], at: usize, first: &[u8], beside: &[u8]) -> usize
     requires { ⌜ length (now first) ≡ length (now beside) ⌝ }
-    ensures { λ next. ⌜ Writes (now (row .entry)) at (frontWords Figure.Four (now (first .entry)) (now (beside .entry)) []) next (now (row .exit)) ⌝ }
+    requires { ⌜ at + length (frontWords Figure.Four (now first) (now beside) []) ≤ length (now row) ⌝ }
+    ensures { λ next. ⌜ Wrote (now (row .entry)) at (frontWords Figure.Four (now (first .entry)) (now (beside .entry)) []) next (now (row .exit)) ⌝ }
 {
     let b = ascend(row, at, first, beside);
-    put_two(row, b, SWP_0_2, SWP_1_3)
+    let c = put(row, b, SWP_0_2);
+    put(row, c, SWP_1_3)
 }
 
 // Figure 6: swp 0 1; down the first form; the reordering.
 fn front_6(row: &mut [u32], at: usize, first: &[u8]) -> usize
-    ensures { λ next. ⌜ Writes (now (row .entry)) at (frontWords Figure.Six (now (first .entry)) [] []) next (now (row .exit)) ⌝ }
+    requires { ⌜ at + length (frontWords Figure.Six (now first) [] []) ≤ length (now row) ⌝ }
+    ensures { λ next. ⌜ Wrote (now (row .entry)) at (frontWords Figure.Six (now (first .entry)) [] []) next (now (row .exit)) ⌝ }
 {
     let b = put(row, at, SWP_0_1);
     let c = descend(row, b, first);
-    put_two(row, c, SWP_0_1, SWP_1_2)
+    let d = put(row, c, SWP_0_1);
+    put(row, d, SWP_1_2)
 }

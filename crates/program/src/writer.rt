@@ -1,9 +1,11 @@
 // Writes the loops of the programs into the lent row, a place at a time. Each function writes from `at` on and answers the index
 // past what it wrote.
 ghost use mathlib.Core.Path.{_≡_};
+ghost use Prim.Native.Nat.{_+_, _≤_, _<_};
 ghost use mathlib.Core.List.{[], _∷_};
 ghost use lib.ListN.{length};
-ghost use Rattle.program.specs.Writing.{Writes, chosen, upWords, backWords, downWords, ascendWords, ascendBackWords, descendWords};
+ghost use Rattle.refusal.specs.Rows.{Wrote};
+ghost use Rattle.program.specs.Writing.{chosen, upWords, backWords, downWords, ascendWords, ascendBackWords, descendWords};
 use crate::words::DIV_0_1;
 use crate::words::DIV_2_1;
 use crate::words::DIV_3_1;
@@ -15,28 +17,19 @@ use crate::words::MUL_3_1;
 use crate::words::SWP_0_1;
 use crate::words::SWP_1_2;
 
-// One word, where the row has room.
+// One word.
 pub(crate) fn put(row: &mut [u32], at: usize, word: u32) -> usize
-    ensures { λ next. ⌜ Writes (now (row .entry)) at (word ∷ []) next (now (row .exit)) ⌝ }
+    requires { ⌜ at < length (now row) ⌝ }
+    ensures { λ next. ⌜ Wrote (now (row .entry)) at (word ∷ []) next (now (row .exit)) ⌝ }
 {
-    if row.len() <= at {
-        return at;
-    }
     row[at] = word;
     at + 1
 }
 
-// Two words.
-pub(crate) fn put_two(row: &mut [u32], at: usize, first: u32, second: u32) -> usize
-    ensures { λ next. ⌜ Writes (now (row .entry)) at (first ∷ second ∷ []) next (now (row .exit)) ⌝ }
-{
-    let b = put(row, at, first);
-    put(row, b, second)
-}
-
 // A word for a place that is set.
 fn put_if(row: &mut [u32], at: usize, bit: u8, word: u32) -> usize
-    ensures { λ next. ⌜ Writes (now (row .entry)) at (chosen bit word) next (now (row .exit)) ⌝ }
+    requires { ⌜ at + length (chosen bit word) ≤ length (now row) ⌝ }
+    ensures { λ next. ⌜ Wrote (now (row .entry)) at (chosen bit word) next (now (row .exit)) ⌝ }
 {
     if bit == 1 {
         return put(row, at, word);
@@ -46,34 +39,41 @@ fn put_if(row: &mut [u32], at: usize, bit: u8, word: u32) -> usize
 
 // A place going up: a chain step, then the selected multiplications.
 fn place_up(row: &mut [u32], at: usize, first: u8, second: u8) -> usize
-    ensures { λ next. ⌜ Writes (now (row .entry)) at (upWords first second) next (now (row .exit)) ⌝ }
+    requires { ⌜ at + length (upWords first second) ≤ length (now row) ⌝ }
+    ensures { λ next. ⌜ Wrote (now (row .entry)) at (upWords first second) next (now (row .exit)) ⌝ }
 {
-    let b = put_two(row, at, MUL_0_1, SWP_0_1);
-    let c = put_if(row, b, first, MUL_2_1);
-    put_if(row, c, second, MUL_3_1)
+    let b = put(row, at, MUL_0_1);
+    let c = put(row, b, SWP_0_1);
+    let d = put_if(row, c, first, MUL_2_1);
+    put_if(row, d, second, MUL_3_1)
 }
 
 // The same place taken back.
 fn place_back(row: &mut [u32], at: usize, first: u8, second: u8) -> usize
-    ensures { λ next. ⌜ Writes (now (row .entry)) at (backWords first second) next (now (row .exit)) ⌝ }
+    requires { ⌜ at + length (backWords first second) ≤ length (now row) ⌝ }
+    ensures { λ next. ⌜ Wrote (now (row .entry)) at (backWords first second) next (now (row .exit)) ⌝ }
 {
     let b = put_if(row, at, second, DIV_3_1);
     let c = put_if(row, b, first, DIV_2_1);
-    put_two(row, c, SWP_0_1, DIV_0_1)
+    let d = put(row, c, SWP_0_1);
+    put(row, d, DIV_0_1)
 }
 
-// A place of the first loop of Figure 6.
+// A place of the first loop of the hybrid program.
 fn place_down(row: &mut [u32], at: usize, bit: u8) -> usize
-    ensures { λ next. ⌜ Writes (now (row .entry)) at (downWords bit) next (now (row .exit)) ⌝ }
+    requires { ⌜ at + length (downWords bit) ≤ length (now row) ⌝ }
+    ensures { λ next. ⌜ Wrote (now (row .entry)) at (downWords bit) next (now (row .exit)) ⌝ }
 {
     let b = put_if(row, at, bit, MUL_2_0);
-    put_two(row, b, MUL_1_2, SWP_1_2)
+    let c = put(row, b, MUL_1_2);
+    put(row, c, SWP_1_2)
 }
 
 // Two forms going up, of as many bits each.
 pub(crate) fn ascend(row: &mut [u32], at: usize, firsts: &[u8], seconds: &[u8]) -> usize
     requires { ⌜ length (now firsts) ≡ length (now seconds) ⌝ }
-    ensures { λ next. ⌜ Writes (now (row .entry)) at (ascendWords (now (firsts .entry)) (now (seconds .entry))) next (now (row .exit)) ⌝ }
+    requires { ⌜ at + length (ascendWords (now firsts) (now seconds)) ≤ length (now row) ⌝ }
+    ensures { λ next. ⌜ Wrote (now (row .entry)) at (ascendWords (now (firsts .entry)) (now (seconds .entry))) next (now (row .exit)) ⌝ }
 {
     let mut next = at;
     let mut i: usize = 0;
@@ -87,7 +87,8 @@ pub(crate) fn ascend(row: &mut [u32], at: usize, firsts: &[u8], seconds: &[u8]) 
 // Two forms taken back, highest place first.
 pub(crate) fn ascend_back(row: &mut [u32], at: usize, firsts: &[u8], seconds: &[u8]) -> usize
     requires { ⌜ length (now firsts) ≡ length (now seconds) ⌝ }
-    ensures { λ next. ⌜ Writes (now (row .entry)) at (ascendBackWords (now (firsts .entry)) (now (seconds .entry))) next (now (row .exit)) ⌝ }
+    requires { ⌜ at + length (ascendBackWords (now firsts) (now seconds)) ≤ length (now row) ⌝ }
+    ensures { λ next. ⌜ Wrote (now (row .entry)) at (ascendBackWords (now (firsts .entry)) (now (seconds .entry))) next (now (row .exit)) ⌝ }
 {
     let mut next = at;
     let mut i = firsts.len();
@@ -100,7 +101,8 @@ pub(crate) fn ascend_back(row: &mut [u32], at: usize, firsts: &[u8], seconds: &[
 
 // A form coming down, highest place first.
 pub(crate) fn descend(row: &mut [u32], at: usize, bits: &[u8]) -> usize
-    ensures { λ next. ⌜ Writes (now (row .entry)) at (descendWords (now (bits .entry))) next (now (row .exit)) ⌝ }
+    requires { ⌜ at + length (descendWords (now bits)) ≤ length (now row) ⌝ }
+    ensures { λ next. ⌜ Wrote (now (row .entry)) at (descendWords (now (bits .entry))) next (now (row .exit)) ⌝ }
 {
     let mut next = at;
     let mut i = bits.len();

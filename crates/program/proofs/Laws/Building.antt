@@ -10,6 +10,7 @@ use lib.ListN.{length, getD, length-map}
 use Rattle.refusal.specs.declared.Refusal.the-variants.{Room}
 use Rattle.refusal.specs.declared.NumberAnswer.the-variants.{Answered, Refused}
 use Rattle.refusal.specs.Outcomes.{refused, answered, gives, passes, answers, row-kept, row-written}
+use Rattle.refusal.specs.Rows.{Wrote}
 use Rattle.modular.proofs.Laws.Inverses.{good-exponent}
 use Rattle.tape.specs.declared.Header.{Header}
 use Rattle.tape.specs.Words.{stepWord}
@@ -24,7 +25,7 @@ use Rattle.named.proofs.Laws.Table.{member-fits, named-program}
 use Rattle.program.specs.declared.forms.FormRows.{FormRows}
 use Rattle.program.specs.Services.{roomOutcome}
 use Rattle.program.specs.Forms.{Given, Whole}
-use Rattle.program.specs.Writing.{Writes, drawnWords}
+use Rattle.program.specs.Writing.{drawnWords}
 use Rattle.program.specs.Building.{Writable, Built}
 use Rattle.program.proofs.Laws.Forms.{rows-words, rows-whole, few-ones, rows-count}
 
@@ -102,19 +103,18 @@ module _ {p r k variant : ℕ} {rows : FormRows} (w : Writable p r k variant) (g
       long : length (wordsOf q) ≤ length row
       long = omega (arith, total-is)
 
-      steps-room : layBegin h (length row) + length (drawnWords rows) ≤ length (laidRow h row)
+      pub steps-room : layBegin h (length row) + length (drawnWords rows) ≤ length (laidRow h row)
       steps-room =
           rw (header-is, words-are, length-map (namedSteps variant r k) stepWord) (steps-fit q (named-lawful p r k variant w) row long)
 
       pub built-written : {laid after : List ℕ} {at next n : ℕ} → at ≡ layBegin h (length row) → laid ≡ laidRow h row
-          → Writes laid at (drawnWords rows) next after → n ≡ wordCount h → Built (wordsOf q) row (Answered n) after
+          → Wrote laid at (drawnWords rows) next after → n ≡ wordCount h → Built (wordsOf q) row (Answered n) after
       built-written begin is v e =
           let done = enough (wordsOf q) (length row) long in
-          let wrote = v .wrote (rw (begin, is) steps-room) in
           record {
             outcome-is = ap answered (e ∙ total-is) ∙ sym done;
             row-is =
-                wrote .after-is
+                v .after-is
                 ∙ rw (begin, is, header-is, words-are) (program-laid q (named-lawful p r k variant w) row long)
                 ∙ sym (row-written (wordsOf q) row done);
           }

@@ -7,10 +7,9 @@ use Prim.Native.Nat.{ℕ, zero, suc, _+_, _-_, _≤_, _<_}
 use native.Mathlib.Nat.{suc-inj}
 use native.Mathlib.Numerals.{add-one, sub-one}
 use native.Mathlib.Omega.{arith}
-use lib.ListN.{length, getD, take, drop, length-append, length-take, length-map}
+use lib.ListN.{length, getD, take, drop, take-append-drop, length-append, length-take, length-map}
 use lib.Seq.{take-suc, drop-cons}
 use borrow.Author.Tests.{eq-eqb, ne-eqb}
-use Rattle.refusal.proofs.Laws.Rows.{wrote-none, wrote-more}
 use Rattle.fibonacci.specs.Forms.{pad}
 use Rattle.fibonacci.specs.Services.{bit}
 use Rattle.tape.specs.declared.Step.{Step}
@@ -22,7 +21,8 @@ use Rattle.named.specs.declared.Figure.{Figure}
 use Rattle.named.specs.declared.Figure.the-variants.{Two, Four, Six}
 use Rattle.named.specs.Generators.{select, ascend, descend, basic, dual, hybrid, drawn}
 use Rattle.named.specs.Promises.{Alone}
-use Rattle.program.specs.Writing.{Writes, isSet, formIn, chosen, ascendWords, ascendBackWords, descendWords, upWords, backWords, downWords, frontWords}
+use Rattle.program.specs.declared.forms.FormRows.{FormRows}
+use Rattle.program.specs.Writing.{isSet, formIn, chosen, ascendWords, ascendBackWords, descendWords, upWords, backWords, downWords, frontWords, drawnWords}
 
 -- ---- one place
 
@@ -52,57 +52,86 @@ pub down-words : (b : ℕ) → downWords b ≡ chosen b (stepWord (Mul 2 0)) ++ 
 unfolding descend
 down-words b = select-words (Mul 2 0) (isSet b) (Mul 1 2 ∷ Swp 1 2 ∷ [])
 
--- ---- a loop place by place
+-- ---- loops in two parts
 
-ascend-cons : (s t : Bool) (ss ts : List Bool) → ascend (s ∷ ss) (t ∷ ts) ≡ ascend (s ∷ []) (t ∷ []) ++ ascend ss ts
-unfolding ascend
-ascend-cons true true ss ts = refl
-ascend-cons true false ss ts = refl
-ascend-cons false true ss ts = refl
-ascend-cons false false ss ts = refl
+select-append : (b : Bool) (x : Step) (xs ys : List Step) → select b x (xs ++ ys) ≡ select b x xs ++ ys
+select-append true x xs ys = refl
+select-append false x xs ys = refl
 
--- a place on top
-ascend-top : (ss ts : List Bool) (s t : Bool) → length ss ≡ length ts → ascend (ss ++ s ∷ []) (ts ++ t ∷ []) ≡ ascend ss ts ++ ascend (s ∷ []) (t ∷ [])
+ascend-append : (ss us ts ws : List Bool) → length ss ≡ length ts → ascend (ss ++ us) (ts ++ ws) ≡ ascend ss ts ++ ascend us ws
 unfolding ascend
-ascend-top [] [] s t e = refl
-ascend-top [] (u ∷ ts) s t e = absurd (omega arith)
-ascend-top (u ∷ ss) [] s t e = absurd (omega arith)
-ascend-top (u ∷ ss) (v ∷ ts) s t e =
-    ascend-cons u v (ss ++ s ∷ []) (ts ++ t ∷ [])
-    ∙ ap (λ (l : List Step). ascend (u ∷ []) (v ∷ []) ++ l) (ascend-top ss ts s t (suc-inj e))
-    ∙ sym (append-assoc (ascend (u ∷ []) (v ∷ [])) (ascend ss ts) (ascend (s ∷ []) (t ∷ [])))
-    ∙ ap (λ (l : List Step). l ++ ascend (s ∷ []) (t ∷ [])) (sym (ascend-cons u v ss ts))
+ascend-append [] us [] ws e = refl
+ascend-append [] us (t ∷ ts) ws e = absurd (omega arith)
+ascend-append (s ∷ ss) us [] ws e = absurd (omega arith)
+ascend-append (s ∷ ss) us (t ∷ ts) ws e =
+    ap (λ (l : List Step). Mul 0 1 ∷ Swp 0 1 ∷ l)
+    (ap (λ (l : List Step). select s (Mul 2 1) (select t (Mul 3 1) l)) (ascend-append ss us ts ws (suc-inj e))
+    ∙ ap (λ (l : List Step). select s (Mul 2 1) l) (select-append t (Mul 3 1) (ascend ss ts) (ascend us ws))
+    ∙ select-append s (Mul 2 1) (select t (Mul 3 1) (ascend ss ts)) (ascend us ws))
+
+descend-append : (xs ys : List Bool) → descend (xs ++ ys) ≡ descend ys ++ descend xs
+unfolding descend
+descend-append [] ys = sym (append-nil (descend ys))
+descend-append (x ∷ xs) ys =
+    ap (λ (l : List Step). l ++ select x (Mul 2 0) (Mul 1 2 ∷ Swp 1 2 ∷ [])) (descend-append xs ys)
+    ∙ append-assoc (descend ys) (descend xs) (select x (Mul 2 0) (Mul 1 2 ∷ Swp 1 2 ∷ []))
+
+same-length : (fs ss : List ℕ) → length fs ≡ length ss → length (formIn fs) ≡ length (formIn ss)
+same-length fs ss e = length-map fs isSet ∙ e ∙ sym (length-map ss isSet)
+
+-- the same for rows of bits
+pub ascend-words : (fs gs ss ts : List ℕ) → length fs ≡ length ss → ascendWords (fs ++ gs) (ss ++ ts) ≡ ascendWords fs ss ++ ascendWords gs ts
+ascend-words fs gs ss ts e =
+    ap₂ (λ (x y : List Bool). map stepWord (ascend x y)) (map-append isSet fs gs) (map-append isSet ss ts)
+    ∙ ap (map stepWord) (ascend-append (formIn fs) (formIn gs) (formIn ss) (formIn ts) (same-length fs ss e))
+    ∙ map-append stepWord (ascend (formIn fs) (formIn ss)) (ascend (formIn gs) (formIn ts))
+
+pub ascend-back-words : (fs gs ss ts : List ℕ) → length fs ≡ length ss
+    → ascendBackWords (fs ++ gs) (ss ++ ts) ≡ ascendBackWords gs ts ++ ascendBackWords fs ss
+ascend-back-words fs gs ss ts e =
+    ap₂ (λ (x y : List Bool). map stepWord (back (ascend x y))) (map-append isSet fs gs) (map-append isSet ss ts)
+    ∙ ap (λ (x : List Step). map stepWord (back x)) (ascend-append (formIn fs) (formIn gs) (formIn ss) (formIn ts) (same-length fs ss e))
+    ∙ ap (map stepWord) (back-append (ascend (formIn fs) (formIn ss)) (ascend (formIn gs) (formIn ts)))
+    ∙ map-append stepWord (back (ascend (formIn gs) (formIn ts))) (back (ascend (formIn fs) (formIn ss)))
+
+pub descend-words : (fs gs : List ℕ) → descendWords (fs ++ gs) ≡ descendWords gs ++ descendWords fs
+descend-words fs gs =
+    ap (λ (x : List Bool). map stepWord (descend x)) (map-append isSet fs gs)
+    ∙ ap (map stepWord) (descend-append (formIn fs) (formIn gs))
+    ∙ map-append stepWord (descend (formIn gs)) (descend (formIn fs))
+
+-- ---- a loop at its index i
 
 module _ (fs ss : List ℕ) (e : length fs ≡ length ss) where
-  -- going up, with the places below i done
   pub ascend-next : (i : ℕ) → i < length fs
       → ascendWords (take (i + 1) fs) (take (i + 1) ss) ≡ ascendWords (take i fs) (take i ss) ++ upWords (getD fs i 0) (getD ss i 0)
   ascend-next i h =
-      let sizes : length (formIn (take i fs)) ≡ length (formIn (take i ss)) =
-      omega (arith, length-map (take i fs) isSet, length-map (take i ss) isSet, length-take i fs, length-take i ss) in
       rw (add-one, take-suc fs i 0 h, take-suc ss i 0 (omega arith))
-      (ap₂ (λ (x y : List Bool). map stepWord (ascend x y)) (map-append isSet (take i fs) (getD fs i 0 ∷ [])) (map-append isSet (take i ss) (getD ss i 0 ∷ []))
-      ∙ ap (map stepWord) (ascend-top (formIn (take i fs)) (formIn (take i ss)) (isSet (getD fs i 0)) (isSet (getD ss i 0)) sizes)
-      ∙ map-append stepWord (ascend (formIn (take i fs)) (formIn (take i ss))) _)
+      (ascend-words (take i fs) (getD fs i 0 ∷ []) (take i ss) (getD ss i 0 ∷ []) (omega (arith, length-take i fs, length-take i ss)))
 
-  -- taken back, with the places above i done
+  pub ascend-total : (i : ℕ) → ascendWords fs ss ≡ ascendWords (take i fs) (take i ss) ++ ascendWords (drop i fs) (drop i ss)
+  ascend-total i =
+      ap₂ ascendWords (sym (take-append-drop i fs)) (sym (take-append-drop i ss))
+      ∙ ascend-words (take i fs) (drop i fs) (take i ss) (drop i ss) (omega (arith, length-take i fs, length-take i ss))
+
   pub ascend-back-next : (i : ℕ) → 0 < i → i ≤ length fs
       → ascendBackWords (drop (i - 1) fs) (drop (i - 1) ss) ≡ ascendBackWords (drop i fs) (drop i ss) ++ backWords (getD fs (i - 1) 0) (getD ss (i - 1) 0)
   ascend-back-next zero p h = absurd (omega arith)
   ascend-back-next (suc i) p h =
-      let s : Bool = isSet (getD fs i 0) in
-      let t : Bool = isSet (getD ss i 0) in
-      let rest : List Step = ascend (formIn (drop (suc i) fs)) (formIn (drop (suc i) ss)) in
       rw (sub-one, drop-cons fs i 0 h, drop-cons ss i 0 (omega arith))
-      (ap (λ (l : List Step). map stepWord (back l)) (ascend-cons s t (formIn (drop (suc i) fs)) (formIn (drop (suc i) ss)))
-      ∙ ap (map stepWord) (back-append (ascend (s ∷ []) (t ∷ [])) rest)
-      ∙ map-append stepWord (back rest) (back (ascend (s ∷ []) (t ∷ []))))
+      (ascend-back-words (getD fs i 0 ∷ []) (drop (suc i) fs) (getD ss i 0 ∷ []) (drop (suc i) ss) refl)
 
--- and coming down
+  pub ascend-back-total : (i : ℕ) → ascendBackWords fs ss ≡ ascendBackWords (drop i fs) (drop i ss) ++ ascendBackWords (take i fs) (take i ss)
+  ascend-back-total i =
+      ap₂ ascendBackWords (sym (take-append-drop i fs)) (sym (take-append-drop i ss))
+      ∙ ascend-back-words (take i fs) (drop i fs) (take i ss) (drop i ss) (omega (arith, length-take i fs, length-take i ss))
+
 pub descend-next : (fs : List ℕ) (i : ℕ) → 0 < i → i ≤ length fs → descendWords (drop (i - 1) fs) ≡ descendWords (drop i fs) ++ downWords (getD fs (i - 1) 0)
-unfolding descend
 descend-next fs zero p h = absurd (omega arith)
-descend-next fs (suc i) p h = rw (sub-one, drop-cons fs i 0 h) (map-append stepWord (descend (formIn (drop (suc i) fs))) _)
+descend-next fs (suc i) p h = rw (sub-one, drop-cons fs i 0 h) (descend-words (getD fs i 0 ∷ []) (drop (suc i) fs))
+
+pub descend-total : (fs : List ℕ) (i : ℕ) → descendWords fs ≡ descendWords (drop i fs) ++ descendWords (take i fs)
+descend-total fs i = ap descendWords (sym (take-append-drop i fs)) ∙ descend-words (take i fs) (drop i fs)
 
 -- ---- a word for a bit
 
@@ -111,6 +140,21 @@ chosen-set bit word e = rw (eq-eqb bit 1 e)
 
 pub chosen-clear : (bit word : ℕ) → (bit ≡ 1 → ⊥) → chosen bit word ≡ []
 chosen-clear bit word ne = rw (ne-eqb bit 1 ne)
+
+-- ---- how long the words of a place are
+
+module _ (s t : ℕ) where
+  pub up-length : length (upWords s t) ≡ 2 + (length (chosen s (stepWord (Mul 2 1))) + length (chosen t (stepWord (Mul 3 1))))
+  up-length = ap length (up-words s t) ∙ omega (arith, length-append (chosen s (stepWord (Mul 2 1))) (chosen t (stepWord (Mul 3 1))))
+
+  pub back-length : length (backWords s t) ≡ length (chosen t (stepWord (Div 3 1))) + (length (chosen s (stepWord (Div 2 1))) + 2)
+  back-length =
+      ap length (back-words s t)
+      ∙ length-append (chosen t (stepWord (Div 3 1))) _
+      ∙ ap (λ (n : ℕ). length (chosen t (stepWord (Div 3 1))) + n) (length-append (chosen s (stepWord (Div 2 1))) _)
+
+pub down-length : (b : ℕ) → length (downWords b) ≡ length (chosen b (stepWord (Mul 2 0))) + 2
+down-length b = ap length (down-words b) ∙ length-append (chosen b (stepWord (Mul 2 0))) _
 
 -- ---- the figures by their parts
 
@@ -146,19 +190,23 @@ drawn-words Six ss ts Ss Ts e E =
     (append-assoc (map stepWord (descend ss)) (stepWord (Swp 0 1) ∷ stepWord (Swp 1 2) ∷ []) (map stepWord (back (ascend Ss [])))
     ∙ sym (map-append stepWord (descend ss) (Swp 0 1 ∷ Swp 1 2 ∷ back (ascend Ss [])))))
 
--- ---- parts written one after another
+-- ---- how long they are
 
-pub writes-none : (row : List ℕ) (at : ℕ) → Writes row at [] at row
-writes-none row at = record { size = refl; wrote = λ room. wrote-none row at }
+pub size-2 : (first none noneLast : List ℕ)
+    → length (frontWords Two first none noneLast) ≡ length (ascendWords first none) + (length (ascendBackWords none none) + suc (length (ascendWords noneLast noneLast)))
+size-2 first none noneLast =
+    length-append (ascendWords first none) _ ∙ ap (λ (n : ℕ). length (ascendWords first none) + n) (length-append (ascendBackWords none none) _)
 
-pub writes-more : {a b c : List ℕ} {at m n : ℕ} {vs ws : List ℕ} → Writes a at vs m b → Writes b m ws n c → Writes a at (vs ++ ws) n c
-writes-more {vs = vs} {ws} v w = record {
-  size = w .size ∙ v .size;
-  wrote =
-      λ room.
-      let first = v .wrote (omega (arith, length-append vs ws)) in
-      wrote-more first (w .wrote (omega (arith, first .next-is, v .size, length-append vs ws)));
-}
+pub size-4 : (first beside : List ℕ) → length (frontWords Four first beside []) ≡ length (ascendWords first beside) + 2
+size-4 first beside = length-append (ascendWords first beside) _
 
-pub writes-next : {a b c done done′ one : List ℕ} {at m n : ℕ} → Writes a at done m b → Writes b m one n c → done′ ≡ done ++ one → Writes a at done′ n c
-writes-next v w e = rw e (writes-more v w)
+pub size-6 : (first : List ℕ) → length (frontWords Six first [] []) ≡ suc (length (descendWords first) + 2)
+size-6 first = ap suc (length-append (descendWords first) _)
+
+pub drawn-size : (rows : FormRows)
+    → length (drawnWords rows)
+    ≡ length (frontWords (rows .figure) (take (rows .«first_length») (rows .first)) (take (rows .«first_length») (rows .beside)) (take (rows .«last_length») (rows .«beside_last»)))
+    + length (ascendBackWords (take (rows .«last_length») (rows .last)) (take (rows .«last_length») (rows .«beside_last»)))
+drawn-size rows =
+    length-append
+    (frontWords (rows .figure) (take (rows .«first_length») (rows .first)) (take (rows .«first_length») (rows .beside)) (take (rows .«last_length») (rows .«beside_last»))) _

@@ -4,11 +4,12 @@ use mathlib.Core.Path.{_≡_, ap}
 use Prim.Native.Nat.{ℕ}
 use native.Mathlib.Omega.{arith}
 use borrow.Author.Needs.{needs}
+use lib.ListN.{length}
 use Rattle.tape.specs.declared.Header.{Header}
 use Rattle.tape.specs.Layout.{headerFor}
 use Rattle.tape.proofs.Laws.Layout.{program-length}
 use Rattle.named.specs.Named.{namedProgram}
-use Rattle.program.proofs.Laws.Building.{named-short, whole, small, count-is, built-short, built-written}
+use Rattle.program.proofs.Laws.Building.{named-short, whole, small, count-is, built-short, steps-room, built-written}
 use Rattle.program.proofs.write.Statement.{statement}
 use Rattle.program.proofs.write.Tie as tie
 
@@ -37,7 +38,11 @@ returns c =
     built-short (s .pre .0) (s .pre .1) (header-is (c .before .before)) (omega (arith, c .if1 .taken, c .before .word-count .ensures))
 
 draw-requires : tie.Need-draw-requires
-draw-requires c κs = let s = c .before .before .before .before .before .before .before .before .before in whole (s .pre .0) (s .pre .1)
+draw-requires c κs =
+    let s = c .before .before .before .before .before .before .before .before .before in
+    let laid = c .before .before .before .lay-out .ensures in
+    let room = steps-room (s .pre .0) (s .pre .1) (header-is (c .before .before .before .before .before .before .before)) (s .args .row .now) (omega (arith, c .before .before .before .before .before .if1 .left, c .before .before .before .before .before .before .word-count .ensures)) in
+    (whole (s .pre .0) (s .pre .1), omega (arith, room, laid .0, ap length (laid .1)))
 
 returns-2 : tie.Need-returns-2
 returns-2 c =

@@ -3,6 +3,15 @@ use borrow.Author.Needs.{needs}
 use Rattle.program.proofs.parts.front.Statement.{statement}
 use Rattle.program.proofs.parts.front.Tie as tie
 
+front-2-requires : tie.Need-front-2-requires
+front-2-requires c κs = let a = c .before .before .before .before .before .before .before in (a .pre .0, rw (c .before .enum-told .given .1) at (a .pre .1))
+
+front-4-requires : tie.Need-front-4-requires
+front-4-requires c κs = let a = c .before .before .before .before .before .before .before in (a .pre .0, rw (c .before .enum-told2 .given .1) at (a .pre .1))
+
+front-6-requires : tie.Need-front-6-requires
+front-6-requires c κs = rw (c .before .enum-told3 .given .1) at (c .before .before .before .before .before .before .before .pre .1)
+
 returns : tie.Need-returns
 returns c = rw (c .before .before .before .before .enum-told .given .1) (c .before .before .front-2 .ensures)
 
@@ -17,11 +26,11 @@ front-spec =
     tie.close
     (tie.spec
     (λ c. search needs)
-    (λ c κs. search needs)
+    front-2-requires
     (λ c. search needs)
-    (λ c κs. search needs)
+    front-4-requires
     (λ c. search needs)
-    (λ c κs. search needs)
+    front-6-requires
     (λ c. search needs)
     returns
     (λ c. search needs)
