@@ -31,7 +31,7 @@ pub fn number(row: &mut [u8], n: u64) -> Reply
 }
 
 // The four registers on one line.
-pub fn registers(row: &mut [u8], registers: Registers) -> Reply
+pub(crate) fn registers(row: &mut [u8], registers: Registers) -> Reply
     ensures { λ r. ⌜ Told (now (row .entry)) (answers (numbersLine (valuesOf registers))) r (now (row .exit)) ⌝ }
 {
     let values = [registers.c, registers.d, registers.e, registers.f];
@@ -42,7 +42,7 @@ pub fn registers(row: &mut [u8], registers: Registers) -> Reply
 }
 
 // Register 1, and the four registers.
-pub fn power(row: &mut [u8], registers: Registers) -> Reply
+pub(crate) fn power(row: &mut [u8], registers: Registers) -> Reply
     ensures { λ r. ⌜ Told (now (row .entry)) (answers (powerLines (valuesOf registers))) r (now (row .exit)) ⌝ }
 {
     let next = number_line(row, 0, registers.d as u64);
@@ -54,7 +54,7 @@ pub fn power(row: &mut [u8], registers: Registers) -> Reply
 }
 
 // Four exponents on one line.
-pub fn exponents(row: &mut [u8], exponents: Exponents) -> Reply
+pub(crate) fn exponents(row: &mut [u8], exponents: Exponents) -> Reply
     ensures { λ r. ⌜ Told (now (row .entry)) (answers (exponentsLine (exponentsOf exponents))) r (now (row .exit)) ⌝ }
 {
     let c = put_exponent(row, 0, exponents.c, BLANK);
