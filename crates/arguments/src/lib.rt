@@ -6,10 +6,10 @@ ghost use Rattle.text.specs.Reading.{wordsOf};
 ghost use Rattle.tool.specs.Verbs.{indexIn, rowNamed, limitOf, variantIn, parameterIn, mostParameters};
 ghost use Rattle.tool.specs.Rows.{Understood, Gathered};
 use named::VARIANT_NAMES;
+use parsing::number;
+use parsing::word;
+use parsing::word_count;
 use text::Parsed;
-use text::number;
-use text::word;
-use text::word_count;
 use tool::Call;
 use tool::CommandLine;
 use tool::LARGEST_32;
@@ -120,7 +120,7 @@ fn find(word: &[u8], names: &[u8]) -> usize
     let count = word_count(names);
     let mut i: usize = 0;
     while i < count {
-        if check::same(word, text::word(names, i)) {
+        if check::same(word, parsing::word(names, i)) {
             return i;
         }
         i += 1;

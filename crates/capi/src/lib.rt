@@ -93,7 +93,7 @@ pub extern "C" fn fibexp_build(
     ensures { λ _. ⌜ now (words .exit) ≡ buildRow p r k variant (now (words .entry)) ⌝ }
     ensures { λ _. ⌜ now (count .exit) ≡ after (buildOutcome p r k variant (length (now (words .entry)))) (now (count .entry)) ⌝ }
 {
-    store_u32(program::build(p, r, k, variant, words), count)
+    store_u32(building::build(p, r, k, variant, words), count)
 }
 
 // Check: 6, 7, 4, 1 and, for named programs, 2, 3, 8.
@@ -101,7 +101,7 @@ pub extern "C" fn fibexp_build(
 pub extern "C" fn fibexp_check(tape: &[u32]) -> u32
     ensures { λ number. ⌜ number ≡ numberIn (checkOutcome (now (tape .entry))) ⌝ }
 {
-    match program::check(tape) {
+    match accepting::check(tape) {
         NumberAnswer::Answered(accepted) => 0,
         NumberAnswer::Refused(e) => refusal::number(e),
     }
@@ -113,7 +113,7 @@ pub extern "C" fn fibexp_load(tape: &[u32], base: u32, registers: &mut [u32; 4])
     ensures { λ number. ⌜ number ≡ numberIn (loadOutcome (now (tape .entry)) base) ⌝ }
     ensures { λ _. ⌜ now (registers .exit) ≡ after (loadOutcome (now (tape .entry)) base) (now (registers .entry)) ⌝ }
 {
-    store_registers(sequencer::load(tape, base), registers)
+    store_registers(services::load(tape, base), registers)
 }
 
 // Run, in place: check's refusals, 9, 10.
@@ -123,7 +123,7 @@ pub extern "C" fn fibexp_run(tape: &[u32], registers: &mut [u32; 4], from: u32, 
     ensures { λ _. ⌜ now (registers .exit) ≡ after (runOutcome (now (tape .entry)) (now (registers .entry)) from to) (now (registers .entry)) ⌝ }
 {
     let standing = registers_in(*registers);
-    store_registers(sequencer::run(tape, standing, from, to), registers)
+    store_registers(services::run(tape, standing, from, to), registers)
 }
 
 // Trace: check's refusals, 10, 12.
@@ -132,7 +132,7 @@ pub extern "C" fn fibexp_trace(tape: &[u32], position: u32, exponents: &mut [i64
     ensures { λ number. ⌜ number ≡ numberIn (traceOutcome (now (tape .entry)) position) ⌝ }
     ensures { λ _. ⌜ now (exponents .exit) ≡ after (traceOutcome (now (tape .entry)) position) (now (exponents .entry)) ⌝ }
 {
-    store_exponents(sequencer::trace(tape, position), exponents)
+    store_exponents(services::trace(tape, position), exponents)
 }
 
 // Cut: check's refusals, 10. On success the count's words from the start on are the part that cut gives.
@@ -150,11 +150,11 @@ pub extern "C" fn fibexp_cut(
     ensures { λ number. ⌜ (number ≡ 0 → take (now (count .exit)) (drop (now (start .exit)) (now (tape .entry))) ≡ cutPart (cutOutcome (now (tape .entry)) first last)) ⌝ }
 {
     let mut number: u32 = 0;
-    let part = sequencer::cut(tape, first, last, &mut number);
+    let part = services::cut(tape, first, last, &mut number);
     if number != 0 {
         return number;
     }
-    *start = tape::step_index(tape, first) as u32;
+    *start = layout::step_index(tape, first) as u32;
     *count = part.len() as u32;
     0
 }
@@ -167,7 +167,7 @@ pub extern "C" fn fibexp_listing(bytes: &[u8], lines: &mut [u8], written: &mut u
     ensures { λ _. ⌜ now (lines .exit) ≡ listingRow (now (bytes .entry)) (now (lines .entry)) ⌝ }
     ensures { λ _. ⌜ now (written .exit) ≡ after (roomOutcome (listingOf (now (bytes .entry))) (length (now (lines .entry)))) (now (written .entry)) ⌝ }
 {
-    let listed = listing::listing(bytes, lines);
+    let listed = lister::listing(bytes, lines);
     // no listing is empty
     if listed.written == 0 {
         return listed.number;

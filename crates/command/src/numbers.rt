@@ -11,8 +11,8 @@ use crate::values::large;
 use crate::values::small;
 use encoding::tape_bytes;
 use lines::bytes_line;
+use meanings::meaning;
 use printing::answer;
-use printing::meaning;
 use printing::number;
 use printing::refuse;
 use refusal::NumberAnswer;
@@ -28,7 +28,7 @@ pub(crate) fn on_numbers(verb: NumberVerb, own: u32, values: &[u64], text: &mut 
     ensures { λ r. ⌜ Told (now (text .entry)) (numberReply verb own (now (values .entry))) r (now (text .exit)) ⌝ }
 {
     match verb {
-        NumberVerb::Decode => meaning(text, tape::decode(small(values, 0))),
+        NumberVerb::Decode => meaning(text, decoding::decode(small(values, 0))),
         NumberVerb::Fibonacci => answer(text, own, fibonacci::fibonacci(small(values, 0))),
         NumberVerb::Places => places(large(values, 0), text),
         NumberVerb::NumberOf => number_of(own, values, text),
@@ -74,7 +74,7 @@ pub(crate) fn build(own: u32, values: &[u64], text: &mut [u8]) -> Reply
     let p = small(values, 0);
     let r = small(values, 1);
     let k = small(values, 2);
-    let answer = program::build(p, r, k, small(values, 3), &mut row);
+    let answer = building::build(p, r, k, small(values, 3), &mut row);
     match answer {
         NumberAnswer::Answered(n) => {
             let count = n as usize;

@@ -6,8 +6,8 @@ ghost use mathlib.Core.List.{[], _∷_};
 ghost use Prim.Native.Nat.{_%_};
 ghost use Rattle.text.specs.Rows.{Put};
 ghost use Rattle.encoding.specs.Encoding.{bytesOf, tapeIn};
+use putting::put_byte;
 use tape::MOST_WORDS;
-use text::put_byte;
 use words::words;
 
 // The bytes of a word.

@@ -3,11 +3,11 @@ ghost use Prim.Native.Nat.{_+_, _*_, _≤_};
 ghost use lib.ListN.{length};
 ghost use Rattle.text.specs.Text.{decimal, numberLine, numbersLine};
 ghost use Rattle.text.specs.Rows.{Put};
+use putting::put_byte;
+use putting::put_number;
+use putting::put_number_then;
 use text::BLANK;
 use text::NEWLINE;
-use text::put_byte;
-use text::put_number;
-use text::put_number_then;
 
 // A number on a line of its own.
 pub fn number_line(row: &mut [u8], at: usize, n: u64) -> usize

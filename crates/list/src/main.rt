@@ -1,7 +1,7 @@
 // The listing program: reads a tape as bytes from standard input and prints its listing.
 use encoding::MOST_BYTES;
+use lister::listing;
 use listing::MOST_WRITTEN;
-use listing::listing;
 use streams::read_input;
 use streams::write_output;
 

@@ -1,25 +1,7 @@
-// Document 01, "Listing": what a tape holds, line by line.
-mod lines;
-
-ghost use mathlib.Core.Path.{_≡_};
-ghost use lib.ListN.{length};
-ghost use Rattle.refusal.specs.Refusals.{numberOf};
-ghost use Rattle.refusal.specs.Outcomes.{answered, numberIn};
-ghost use Rattle.tape.specs.Layout.{stepsOf};
-ghost use Rattle.program.specs.Services.{acceptOutcome};
-ghost use Rattle.text.specs.Rows.{Put};
-ghost use Rattle.listing.specs.Listing.{listingNumber, listingOf, listingAnswer, listingRow, refusedLine, linesFor};
-use encoding::tape_words;
-use lines::first_line;
-use lines::refused_line;
-use lines::step_lines;
+// Document 01, "Listing": what a tape holds, line by line. The definitions and laws of this layer, and the type that they name; it has
+// no functions.
 use named::LONGEST_NAME;
-use refusal::Refusal;
-use tape::Header;
-use tape::HeaderAnswer;
 use tape::MOST_STEPS;
-use tape::MOST_WORDS;
-use text::put;
 
 // How many bytes were written, and the refusal's number, which is 0 where the tape is accepted.
 pub struct Listed {
@@ -29,69 +11,3 @@ pub struct Listed {
 
 // The most bytes of a listing (`tape-listing-most`).
 pub const MOST_WRITTEN: usize = 47 + LONGEST_NAME + 12 * MOST_STEPS;
-
-// Writes the listing of a tape that is given as bytes; a refusal is one line. 5 where the row is shorter than the listing.
-pub fn listing(bytes: &[u8], lines: &mut [u8]) -> Listed
-    ensures { λ r. ⌜ r ≡ listingAnswer (now (bytes .entry)) (length (now (lines .entry))) ⌝ }
-    ensures { λ _. ⌜ now (lines .exit) ≡ listingRow (now (bytes .entry)) (now (lines .entry)) ⌝ }
-{
-    let mut text = [0u8; MOST_WRITTEN];
-    let made = list_bytes(bytes, &mut text);
-    let count = made.written;
-    if lines.len() < count {
-        return Listed {
-            written: 0,
-            number: refusal::number(Refusal::Room),
-        };
-    }
-    put(lines, 0, &text[..count]);
-    made
-}
-
-// Puts the listing of a tape, from the row's start: check's refusal on one line, else the tape's lines. What doesn't fit the row is
-// dropped; one of `MOST_WRITTEN` bytes holds every listing (`tape-listing-most`).
-pub fn list_tape(tape: &[u32], row: &mut [u8]) -> Listed
-    ensures { λ r. ⌜ Put (now (row .entry)) 0 (linesFor (acceptOutcome (now (tape .entry))) (stepsOf (now (tape .entry)))) (r .written) (now (row .exit)) ⌝ }
-    ensures { λ r. ⌜ r .number ≡ numberIn (acceptOutcome (now (tape .entry))) ⌝ }
-{
-    match program::accept(tape) {
-        HeaderAnswer::Refused(e) => list_refusal(e, row),
-        HeaderAnswer::Answered(header) => list_accepted(tape, header, row),
-    }
-}
-
-// The listing of bytes, from the row's start.
-fn list_bytes(bytes: &[u8], row: &mut [u8]) -> Listed
-    ensures { λ r. ⌜ Put (now (row .entry)) 0 (listingOf (now (bytes .entry))) (r .written) (now (row .exit)) ⌝ }
-    ensures { λ r. ⌜ r .number ≡ listingNumber (now (bytes .entry)) ⌝ }
-{
-    let mut tape = [0u32; MOST_WORDS];
-    let count = tape_words(bytes, &mut tape);
-    list_tape(&tape[..count], row)
-}
-
-// The listing of an accepted tape.
-fn list_accepted(tape: &[u32], header: Header, row: &mut [u8]) -> Listed
-    ensures { λ r. ⌜ Put (now (row .entry)) 0 (linesFor (answered header) (stepsOf (now (tape .entry)))) (r .written) (now (row .exit)) ⌝ }
-    ensures { λ r. ⌜ r .number ≡ 0 ⌝ }
-{
-    let next = first_line(row, 0, header);
-    let end = step_lines(row, next, tape::steps(tape));
-    Listed {
-        written: end,
-        number: 0,
-    }
-}
-
-// The listing of what is refused.
-fn list_refusal(e: Refusal, row: &mut [u8]) -> Listed
-    ensures { λ r. ⌜ Put (now (row .entry)) 0 (refusedLine (numberOf e)) (r .written) (now (row .exit)) ⌝ }
-    ensures { λ r. ⌜ r .number ≡ numberOf e ⌝ }
-{
-    let number = refusal::number(e);
-    let end = refused_line(row, 0, number);
-    Listed {
-        written: end,
-        number,
-    }
-}

@@ -1,13 +1,6 @@
-// Replies into a row: what the services answer and refuse, and complaints.
-mod complaints;
-mod meanings;
+// Replies into a lent buffer: what the services answer and refuse.
 mod results;
 
-pub use complaints::put_no_verb;
-pub use complaints::put_unread;
-pub use complaints::put_usage;
-pub use complaints::put_wrong_count;
-pub use meanings::meaning;
 pub use results::number;
 ghost use mathlib.Core.List.{[], _∷_, _++_};
 ghost use Rattle.refusal.specs.Outcomes.{numberOutcomeOf};
@@ -19,6 +12,10 @@ ghost use Rattle.tool.specs.Texts.{exponentsLine, powerLines, reasonFor};
 ghost use Rattle.tool.specs.Replies.{refuses, printed};
 ghost use Rattle.tool.specs.Rows.{Told};
 use machine::ExponentsAnswer;
+use parsing::word;
+use putting::put;
+use putting::put_number;
+use putting::put_then;
 use refusal::NumberAnswer;
 use refusal::OWN_REASONS;
 use refusal::REASONS;
@@ -27,10 +24,6 @@ use results::power;
 use results::registers;
 use sequencer::RegistersAnswer;
 use text::NEWLINE;
-use text::put;
-use text::put_number;
-use text::put_then;
-use text::word;
 use tool::REFUSED;
 use tool::Reply;
 

@@ -13,10 +13,10 @@ use lines::number_line;
 use lines::numbers_line;
 use machine::Exponents;
 use machine::Registers;
+use putting::put_byte;
+use putting::put_whole;
 use text::BLANK;
 use text::NEWLINE;
-use text::put_byte;
-use text::put_whole;
 use tool::ANSWERED;
 use tool::Reply;
 

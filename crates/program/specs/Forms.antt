@@ -11,7 +11,7 @@ use Rattle.fibonacci.specs.Services.{lastPlace, bit, bitRow}
 use Rattle.tape.specs.Words.{numberLimit}
 use Rattle.named.specs.Generators.{Forms}
 use Rattle.named.specs.Named.{formsFor}
-use Rattle.program.specs.declared.forms.FormRows.{FormRows}
+use Rattle.program.specs.declared.FormRows.{FormRows}
 
 -- numbers that build's tests of r and k let pass, with the inverse of k
 pub record Invertible (r k K : ℕ) : Type 0 where

@@ -10,7 +10,7 @@ use Rattle.machine.specs.Machine.{back}
 use Rattle.named.specs.declared.Figure.{Figure}
 use Rattle.named.specs.declared.Figure.the-variants.{Two, Four, Six}
 use Rattle.named.specs.Generators.{ascend, descend}
-use Rattle.program.specs.declared.forms.FormRows.{FormRows}
+use Rattle.program.specs.declared.FormRows.{FormRows}
 
 abbrev pub isSet : ℕ → Bool
 isSet bit = eqb bit 1

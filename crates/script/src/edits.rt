@@ -11,13 +11,13 @@ ghost use Rattle.tool.specs.Rows.{Within};
 ghost use Rattle.scripting.specs.Script.{prints, fullLine, edited, inScript};
 ghost use Rattle.scripting.specs.States.{stateIn, Inside, Did};
 use lines::number_line;
+use putting::put;
+use putting::put_byte;
+use putting::put_number;
+use putting::put_then;
 use scripting::Marks;
 use scripting::Printed;
 use text::NEWLINE;
-use text::put;
-use text::put_byte;
-use text::put_number;
-use text::put_then;
 use tool::ScriptVerb;
 
 // A verb on its parameters.

@@ -52,7 +52,7 @@ pub(crate) fn build_line(
     let p = parameter(values, 0);
     let r = parameter(values, 1);
     let k = parameter(values, 2);
-    let answer = program::build(p, r, k, parameter(values, 3), &mut row);
+    let answer = building::build(p, r, k, parameter(values, 3), &mut row);
     built(own, answer, &row, tapes, marks, text)
 }
 
@@ -142,7 +142,7 @@ fn build_into(
     let p = parameter(values, 0);
     let r = parameter(values, 1);
     let k = parameter(values, 2);
-    let answer = program::build(p, r, k, parameter(values, 3), row);
+    let answer = building::build(p, r, k, parameter(values, 3), row);
     show(own, answer, row, tapes, marks, text)
 }
 
@@ -220,7 +220,7 @@ fn list_into(bytes: &[u8], row: &mut [u8], text: &mut [u8]) -> usize
     ensures { λ length. ⌜ Put (now (text .entry)) 0 (listInto (now (row .entry)) (now (bytes .entry))) length (now (text .exit)) ⌝ }
     ensures { λ _. ⌜ length (listInto (now (row .entry)) (now (bytes .entry))) ≤ mostCommanded ⌝ }
 {
-    let listed = listing::listing(bytes, row);
+    let listed = lister::listing(bytes, row);
     let said = [listed.written as u32, listed.number];
     let next = numbers_line(text, 0, &said);
     bytes_line(text, next, row)

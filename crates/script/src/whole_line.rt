@@ -12,14 +12,14 @@ ghost use Rattle.program.specs.Same.{sameWords};
 ghost use Rattle.scripting.specs.Script.{argumentsOf, isEquals, equalsIn, isCopied, verdict, judged, mostLine, commandDone, lineDone};
 ghost use Rattle.scripting.specs.States.{stateIn, Inside, Did, DidLine};
 use crate::commands::commanded;
+use putting::put;
+use putting::put_then;
 use scripting::MOST_LINE;
 use scripting::MOST_PRINTED;
 use scripting::Marks;
 use scripting::Printed;
 use text::BLANK;
 use text::NEWLINE;
-use text::put;
-use text::put_then;
 
 const HASH: u8 = b'#';
 

@@ -2,5 +2,6 @@
 pub mod Verbs
 pub mod Calls
 pub mod Lengths
+pub mod Parts
 pub mod Replies
 pub mod Examples

@@ -6,7 +6,7 @@ use Rattle.text.specs.Text.{newline}
 use Rattle.text.proofs.Laws.Puts.{puts-join}
 use Rattle.tool.specs.Texts.{reasonFor, refusalLine}
 use Rattle.tool.proofs.Laws.Lengths.{refusal-most}
-use Rattle.printing.proofs.Laws.Parts.{puts-then}
+use Rattle.tool.proofs.Laws.Parts.{puts-then}
 use borrow.Author.Needs.{needs}
 use Rattle.printing.proofs.refuse.Statement.{statement}
 use Rattle.printing.proofs.refuse.Tie as tie

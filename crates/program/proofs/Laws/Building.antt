@@ -22,7 +22,7 @@ use Rattle.named.specs.Named.{namedSteps, namedProgram, namedWords}
 use Rattle.named.specs.Promises.{Fits}
 use Rattle.named.proofs.Laws.Parameters.{named-some, named-most}
 use Rattle.named.proofs.Laws.Table.{member-fits, named-program}
-use Rattle.program.specs.declared.forms.FormRows.{FormRows}
+use Rattle.program.specs.declared.FormRows.{FormRows}
 use Rattle.program.specs.Services.{roomOutcome}
 use Rattle.program.specs.Forms.{Given, Whole}
 use Rattle.program.specs.Writing.{drawnWords}

@@ -30,7 +30,7 @@ use Rattle.named.specs.Generators.{Forms, lone, generated, stepsFrom}
 use Rattle.named.specs.Promises.{Fits}
 use Rattle.named.specs.Named.{basicForms, dualForm, dualForms, hybridForms, formsIn}
 use Rattle.named.proofs.Laws.Lengths.{generated-count}
-use Rattle.program.specs.declared.forms.FormRows.{FormRows}
+use Rattle.program.specs.declared.FormRows.{FormRows}
 use Rattle.program.specs.Forms.{Invertible, BitsOf, bitsOf, rowsOf, Whole, Given}
 use Rattle.program.specs.Writing.{drawnWords}
 use Rattle.program.proofs.Laws.Writing.{drawn-words}

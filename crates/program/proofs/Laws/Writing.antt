@@ -21,7 +21,7 @@ use Rattle.named.specs.declared.Figure.{Figure}
 use Rattle.named.specs.declared.Figure.the-variants.{Two, Four, Six}
 use Rattle.named.specs.Generators.{select, ascend, descend, basic, dual, hybrid, drawn}
 use Rattle.named.specs.Promises.{Alone}
-use Rattle.program.specs.declared.forms.FormRows.{FormRows}
+use Rattle.program.specs.declared.FormRows.{FormRows}
 use Rattle.program.specs.Writing.{isSet, formIn, chosen, ascendWords, ascendBackWords, descendWords, upWords, backWords, downWords, frontWords, drawnWords}
 
 -- ---- one place

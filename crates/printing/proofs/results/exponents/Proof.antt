@@ -1,6 +1,6 @@
 -- `results::exponents` meets its contract: a line of four words, each of at most 21 bytes; a field's number comes back from its bits.
 use mathlib.Core.Path.{refl}
-use Rattle.printing.proofs.Laws.Parts.{four-put, four-short}
+use Rattle.tool.proofs.Laws.Parts.{four-put, four-short}
 use Rattle.machine.proofs.Laws.Sums.{from-bits}
 use borrow.Author.Needs.{needs}
 use Rattle.printing.proofs.results.exponents.Statement.{statement}

@@ -1,7 +1,7 @@
 -- `results::put_exponent` meets its contract: the number, then the byte; a number of 64 bits with its sign has at most 20 digits.
 use Rattle.text.proofs.Laws.Puts.{puts-join}
 use Rattle.machine.proofs.Laws.Sums.{from-bits}
-use Rattle.printing.proofs.Laws.Parts.{whole-short}
+use Rattle.tool.proofs.Laws.Parts.{whole-short}
 use borrow.Author.Needs.{needs}
 use Rattle.printing.proofs.results.put_exponent.Statement.{statement}
 use Rattle.printing.proofs.results.put_exponent.Tie as tie

@@ -1,2 +1,0 @@
--- Replies put part by part.
-pub mod Parts

@@ -1,2 +1,0 @@
--- What holds of the definitions, apart from the code.
-pub mod Laws

@@ -1,0 +1,55 @@
+-- `put` meets its contract: with i bytes put, the text's first i are put; a full row takes no more of them.
+use Prim.Native.Nat.{_-_, _≤_}
+use native.Mathlib.Omega.{arith}
+use borrow.Author.Needs.{needs}
+use lib.ListN.{length, take}
+use lib.Seq.{take-all}
+use Rattle.text.specs.Rows.{Put}
+use Rattle.text.proofs.Laws.Puts.{put-none, put-next, put-rest, put-length}
+use Rattle.putting.proofs.put.Statement.{statement}
+use Rattle.putting.proofs.put.Tie as tie
+
+abbrev Inv-loop : tie.InvT-loop
+Inv-loop row₀ at text next₀ i₀ row next i = (i ≤ length text) × Put row₀ at (take i text) next row
+
+abbrev μ-loop : tie.MeasureT-loop
+μ-loop row₀ at text next₀ i₀ row next i = length text - i
+
+loop-holds : tie.Need-loop-holds Inv-loop μ-loop
+loop-holds c = (omega arith, put-none _ _)
+
+same-length : tie.Need-same-length Inv-loop μ-loop
+same-length c = put-length (c .before .before .loop .inv .1)
+
+returns : tie.Need-returns Inv-loop μ-loop
+returns c = put-rest _ (c .before .before .loop .i) (c .if1 .taken) (c .before .before .loop .inv .1)
+
+add-next : tie.Need-add-next Inv-loop μ-loop
+add-next c = omega (arith, put-length (c .before .before .before .loop .inv .1))
+
+loop-again : tie.Need-loop-again Inv-loop μ-loop
+loop-again c = (omega arith, put-next _ _ (c .before .before .loop-test .taken) (c .before .if1 .left) (c .before .before .before .loop .inv .1))
+
+same-length-2 : tie.Need-same-length-2 Inv-loop μ-loop
+same-length-2 c = put-length (c .before .loop .inv .1)
+
+returns-2 : tie.Need-returns-2 Inv-loop μ-loop
+returns-2 c = rw (take-all (c .before .loop .i) (c .before .before .args .text .now) (search needs)) at (c .before .loop .inv .1)
+
+pub put-spec : {M : Type 1} → statement M
+put-spec =
+    tie.close
+    (tie.spec
+    Inv-loop
+    μ-loop
+    loop-holds
+    same-length
+    returns
+    (λ c. search needs)
+    (λ c. search needs)
+    add-next
+    (λ c. search needs)
+    (λ c. search needs)
+    loop-again
+    same-length-2
+    returns-2)
