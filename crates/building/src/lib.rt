@@ -1,7 +1,7 @@
 // Build: the words of a named program, written into a lent buffer.
 mod conditions;
+mod drawing;
 mod forms;
-mod parts;
 mod words;
 mod writer;
 
@@ -16,9 +16,9 @@ use conditions::good_inverse;
 pub use conditions::is_bad_modulus;
 use conditions::is_bad_order;
 pub use conditions::is_unnamed;
+use drawing::draw;
 use forms::forms;
 use forms::step_count;
-use parts::draw;
 use program::FormRows;
 use refusal::NumberAnswer;
 use refusal::Refusal;

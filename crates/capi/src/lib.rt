@@ -2,12 +2,10 @@
 // functions. Each service but `fibexp_hofstadter` and `fibexp_height`, which refuse nothing, answers document 01's number, 0 on success,
 // and writes through its references only then; `fibexp_listing` writes the line of a refused tape too. `fibexp_reply` and `fibexp_reads`
 // are the tool.
-mod memory;
-
 ghost use mathlib.Core.Path.{_≡_};
-ghost use Prim.Native.Nat.{_≤_};
+ghost use Prim.Native.Nat.{ℕ, _≤_, _^_, _<_};
 ghost use lib.ListN.{length, take, drop};
-ghost use Rattle.refusal.specs.Outcomes.{numberIn, after};
+ghost use Rattle.refusal.specs.Outcomes.{answered, numberOutcomeOf, numberIn, after};
 ghost use Rattle.modular.specs.Inverses.{inverseOutcome};
 ghost use Rattle.fibonacci.specs.Hofstadter.{G};
 ghost use Rattle.fibonacci.specs.Height.{height};
@@ -22,7 +20,6 @@ ghost use Rattle.tool.specs.Rows.{mostText};
 use memory::registers_in;
 use memory::store_exponents;
 use memory::store_registers;
-use memory::store_u32;
 use memory::store_u64;
 use refusal::NumberAnswer;
 
@@ -32,7 +29,7 @@ pub extern "C" fn fibexp_fibonacci(index: u32, value: &mut u64) -> u32
     ensures { λ number. ⌜ number ≡ numberIn (fibonacciOutcome index) ⌝ }
     ensures { λ _. ⌜ now (value .exit) ≡ after (fibonacciOutcome index) (now (value .entry)) ⌝ }
 {
-    store_u64(fibonacci::fibonacci(index), value)
+    store_u64(zeckendorf::fibonacci(index), value)
 }
 
 // Number to list: 5.
@@ -42,7 +39,7 @@ pub extern "C" fn fibexp_places(n: u64, places: &mut [u8], count: &mut u32) -> u
     ensures { λ _. ⌜ now (places .exit) ≡ placesRow n (now (places .entry)) ⌝ }
     ensures { λ _. ⌜ now (count .exit) ≡ after (placesOutcome n (length (now (places .entry)))) (now (count .entry)) ⌝ }
 {
-    store_u32(fibonacci::places(n, places), count)
+    store_u32(zeckendorf::places(n, places), count)
 }
 
 // List to number: 13, 12.
@@ -51,7 +48,7 @@ pub extern "C" fn fibexp_number(places: &[u8], n: &mut u64) -> u32
     ensures { λ number. ⌜ number ≡ numberIn (numberOutcome (now (places .entry))) ⌝ }
     ensures { λ _. ⌜ now (n .exit) ≡ after (numberOutcome (now (places .entry))) (now (n .entry)) ⌝ }
 {
-    store_u64(fibonacci::number(places), n)
+    store_u64(zeckendorf::number(places), n)
 }
 
 // Hofstadter's G, which refuses nothing: the answer is G(n) itself.
@@ -59,7 +56,7 @@ pub extern "C" fn fibexp_number(places: &[u8], n: &mut u64) -> u32
 pub extern "C" fn fibexp_hofstadter(n: u64) -> u64
     ensures { λ r. ⌜ r ≡ G n ⌝ }
 {
-    fibonacci::hofstadter(n)
+    zeckendorf::hofstadter(n)
 }
 
 // Document 01's h, which refuses nothing either: the least positive number with r < phi^h.
@@ -67,7 +64,7 @@ pub extern "C" fn fibexp_hofstadter(n: u64) -> u64
 pub extern "C" fn fibexp_height(r: u32) -> u32
     ensures { λ h. ⌜ h ≡ height r ⌝ }
 {
-    fibonacci::height(r)
+    zeckendorf::height(r)
 }
 
 // The inverse of k modulo r: 2, 3.
@@ -113,7 +110,7 @@ pub extern "C" fn fibexp_load(tape: &[u32], base: u32, registers: &mut [u32; 4])
     ensures { λ number. ⌜ number ≡ numberIn (loadOutcome (now (tape .entry)) base) ⌝ }
     ensures { λ _. ⌜ now (registers .exit) ≡ after (loadOutcome (now (tape .entry)) base) (now (registers .entry)) ⌝ }
 {
-    store_registers(services::load(tape, base), registers)
+    store_registers(running::load(tape, base), registers)
 }
 
 // Run, in place: check's refusals, 9, 10.
@@ -122,8 +119,8 @@ pub extern "C" fn fibexp_run(tape: &[u32], registers: &mut [u32; 4], from: u32, 
     ensures { λ number. ⌜ number ≡ numberIn (runOutcome (now (tape .entry)) (now (registers .entry)) from to) ⌝ }
     ensures { λ _. ⌜ now (registers .exit) ≡ after (runOutcome (now (tape .entry)) (now (registers .entry)) from to) (now (registers .entry)) ⌝ }
 {
-    let standing = registers_in(*registers);
-    store_registers(services::run(tape, standing, from, to), registers)
+    let held = registers_in(*registers);
+    store_registers(running::run(tape, held, from, to), registers)
 }
 
 // Trace: check's refusals, 10, 12.
@@ -132,7 +129,7 @@ pub extern "C" fn fibexp_trace(tape: &[u32], position: u32, exponents: &mut [i64
     ensures { λ number. ⌜ number ≡ numberIn (traceOutcome (now (tape .entry)) position) ⌝ }
     ensures { λ _. ⌜ now (exponents .exit) ≡ after (traceOutcome (now (tape .entry)) position) (now (exponents .entry)) ⌝ }
 {
-    store_exponents(services::trace(tape, position), exponents)
+    store_exponents(inspecting::trace(tape, position), exponents)
 }
 
 // Cut: check's refusals, 10. On success the count's words from the start on are the part that cut gives.
@@ -150,11 +147,11 @@ pub extern "C" fn fibexp_cut(
     ensures { λ number. ⌜ (number ≡ 0 → take (now (count .exit)) (drop (now (start .exit)) (now (tape .entry))) ≡ cutPart (cutOutcome (now (tape .entry)) first last)) ⌝ }
 {
     let mut number: u32 = 0;
-    let part = services::cut(tape, first, last, &mut number);
+    let part = inspecting::cut(tape, first, last, &mut number);
     if number != 0 {
         return number;
     }
-    *start = layout::step_index(tape, first) as u32;
+    *start = parts::step_index(tape, first) as u32;
     *count = part.len() as u32;
     0
 }
@@ -204,4 +201,19 @@ pub extern "C" fn fibexp_reads(arguments: &[u8]) -> u32
         return 1;
     }
     0
+}
+
+// Stores an answer that fits 32 bits.
+fn store_u32(answer: NumberAnswer, place: &mut u32) -> u32
+    requires { ⌜ ((x : ℕ) → numberOutcomeOf answer ≡ answered x → x < 2 ^ 32) ⌝ }
+    ensures { λ n. ⌜ n ≡ numberIn (numberOutcomeOf answer) ⌝ }
+    ensures { λ _. ⌜ now (place .exit) ≡ after (numberOutcomeOf answer) (now (place .entry)) ⌝ }
+{
+    match answer {
+        NumberAnswer::Answered(x) => {
+            *place = x as u32;
+            0
+        }
+        NumberAnswer::Refused(e) => refusal::number(e),
+    }
 }

@@ -29,16 +29,16 @@ pub(crate) fn on_numbers(verb: NumberVerb, own: u32, values: &[u64], text: &mut 
 {
     match verb {
         NumberVerb::Decode => meaning(text, decoding::decode(small(values, 0))),
-        NumberVerb::Fibonacci => answer(text, own, fibonacci::fibonacci(small(values, 0))),
+        NumberVerb::Fibonacci => answer(text, own, zeckendorf::fibonacci(small(values, 0))),
         NumberVerb::Places => places(large(values, 0), text),
         NumberVerb::NumberOf => number_of(own, values, text),
-        NumberVerb::Hofstadter => number(text, fibonacci::hofstadter(large(values, 0))),
+        NumberVerb::Hofstadter => number(text, zeckendorf::hofstadter(large(values, 0))),
         NumberVerb::Inverse => answer(
             text,
             own,
             modular::inverse(small(values, 0), small(values, 1)),
         ),
-        NumberVerb::Height => number(text, fibonacci::height(small(values, 0)) as u64),
+        NumberVerb::Height => number(text, zeckendorf::height(small(values, 0)) as u64),
         NumberVerb::Prime => number(text, bit(modular::is_prime(small(values, 0)))),
         NumberVerb::MulMod => {
             number(
@@ -91,7 +91,7 @@ pub(crate) fn build(own: u32, values: &[u64], text: &mut [u8]) -> Reply
 fn places(n: u64, text: &mut [u8]) -> Reply
     ensures { λ r. ⌜ Told (now (text .entry)) (numberReply NumberVerb.Places 0 (n ∷ [])) r (now (text .exit)) ⌝ }
 {
-    let form = fibonacci::zeckendorf(n);
+    let form = zeckendorf::zeckendorf(n);
     let bytes = form.places;
     let count = form.count;
     Reply {
@@ -107,5 +107,5 @@ fn number_of(own: u32, values: &[u64], text: &mut [u8]) -> Reply
 {
     let mut row = [0u8; MOST_PARAMETERS];
     let count = bytes(values, &mut row);
-    answer(text, own, fibonacci::number(&row[..count]))
+    answer(text, own, zeckendorf::number(&row[..count]))
 }

@@ -51,10 +51,10 @@ pub(crate) fn on_tape(
     match verb {
         TapeVerb::Check => answer(text, own, accepting::check(tape)),
         TapeVerb::Listing => list(tape, text),
-        TapeVerb::Load => standing(text, own, services::load(tape, small(values, 0))),
+        TapeVerb::Load => standing(text, own, running::load(tape, small(values, 0))),
         TapeVerb::Run => run(own, values, tape, text),
-        TapeVerb::Power => forward(text, own, services::forward(tape, small(values, 0))),
-        TapeVerb::Trace => printing::trace(text, own, services::trace(tape, small(values, 0))),
+        TapeVerb::Power => forward(text, own, running::forward(tape, small(values, 0))),
+        TapeVerb::Trace => printing::trace(text, own, inspecting::trace(tape, small(values, 0))),
         TapeVerb::Cut => cut(own, tape, small(values, 0), small(values, 1), text),
         TapeVerb::Play => play(values, tapes, text),
     }
@@ -77,7 +77,7 @@ fn run(own: u32, values: &[u64], tape: &[u32], text: &mut [u8]) -> Reply
     ensures { λ r. ⌜ Told (now (text .entry)) (printed own (runOutcome (now (tape .entry)) (registersIn (now (values .entry))) (getD (now (values .entry)) 4 0) (getD (now (values .entry)) 5 0)) numbersLine) r (now (text .exit)) ⌝ }
 {
     let at = registers(values);
-    let answer = services::run(tape, at, small(values, 4), small(values, 5));
+    let answer = running::run(tape, at, small(values, 4), small(values, 5));
     standing(text, own, answer)
 }
 
@@ -86,7 +86,7 @@ fn cut(own: u32, tape: &[u32], first: u32, last: u32, text: &mut [u8]) -> Reply
     ensures { λ r. ⌜ Told (now (text .entry)) (printed own (cutOutcome (now (tape .entry)) first last) numbersLine) r (now (text .exit)) ⌝ }
 {
     let mut number: u32 = 0;
-    let part = services::cut(tape, first, last, &mut number);
+    let part = inspecting::cut(tape, first, last, &mut number);
     if number != 0 {
         return refuse(text, own, number);
     }
@@ -118,7 +118,7 @@ fn runs(tapes: &[u32], requests: &[u32], registers: Registers, told: &mut [u32])
     ensures { λ count. ⌜ Wrote (now (told .entry)) 0 (runsTold (requestsOf (now (tapes .entry)) (now (requests .entry))) (valuesOf registers)) count (now (told .exit)) ⌝ }
     ensures { λ count. ⌜ count ≡ 4 + length (now (requests .entry)) / 4 ⌝ }
 {
-    let after = services::play(tapes, requests, registers, &mut told[REGISTERS..]);
+    let after = playing::play(tapes, requests, registers, &mut told[REGISTERS..]);
     put_registers(after, told);
     REGISTERS + requests.len() / REQUEST_WORDS
 }

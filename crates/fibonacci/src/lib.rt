@@ -1,23 +1,5 @@
-// Document 01, "Numbers the steps stand on": Fibonacci numbers, Zeckendorf forms, Hofstadter's G and h.
-mod list;
-mod weights;
-
-ghost use mathlib.Core.Path.{_≡_};
-ghost use lib.ListN.{length};
-ghost use Rattle.refusal.specs.Outcomes.{numberOutcomeOf};
-ghost use Rattle.fibonacci.specs.Forms.{zeckendorf};
-ghost use Rattle.fibonacci.specs.Hofstadter.{G};
-ghost use Rattle.fibonacci.specs.Height.{height};
-ghost use Rattle.fibonacci.specs.Services.{fibonacciOrZero, fibonacciOutcome, placesOf, formRow, bitRow, placesOutcome, placesRow, numberOutcome};
-use list::are_places;
-use list::total;
-use refusal::NumberAnswer;
-use refusal::Refusal;
-use weights::FOOT;
-use weights::climb;
-use weights::fib_at;
-use weights::highest;
-use weights::lower;
+// Document 01, "Numbers the steps stand on": Fibonacci numbers, Zeckendorf forms, Hofstadter's G and h. The definitions and laws of this
+// layer, and the types that they name; it has no functions.
 
 // The Zeckendorf form of a 64-bit number: its places, highest first, and their count; zeros past them.
 pub struct Form {
@@ -32,125 +14,9 @@ pub struct BitString {
     pub count: usize,
 }
 
-// A Fibonacci number by its index.
-pub fn fibonacci(index: u32) -> NumberAnswer
-    ensures { λ answer. ⌜ numberOutcomeOf answer ≡ fibonacciOutcome index ⌝ }
-{
-    if 93 < index {
-        return NumberAnswer::Refused(Refusal::Index);
-    }
-    NumberAnswer::Answered(fib_at(index as usize))
-}
-
-// F_index, and 0 where it does not fit.
-pub fn fibonacci_or_zero(index: u32) -> u64
-    ensures { λ r. ⌜ r ≡ fibonacciOrZero index ⌝ }
-{
-    if 93 < index {
-        return 0;
-    }
-    fib_at(index as usize)
-}
-
-// The Zeckendorf form of n: from the highest place down, each place taken whose weight is left.
-pub fn zeckendorf(n: u64) -> Form
-    ensures { λ f. ⌜ f .count ≡ length (placesOf n) ⌝ }
-    ensures { λ f. ⌜ f .places ≡ formRow n ⌝ }
-{
-    let mut places = [0u8; 46];
-    let mut count: usize = 0;
-    let mut rest = n;
-    let mut at = highest(n);
-    while at.place > 0 {
-        if at.weight <= rest {
-            places[count] = at.place as u8;
-            count += 1;
-            rest -= at.weight;
-        }
-        at = lower(at);
-    }
-    Form { places, count }
-}
-
-// The bit string of the Zeckendorf form of n, for the programs' loops over places.
-pub fn bit_string(n: u64) -> BitString
-    ensures { λ b. ⌜ b .length ≡ length (zeckendorf n) ⌝ }
-    ensures { λ b. ⌜ b .bits ≡ bitRow n ⌝ }
-    ensures { λ b. ⌜ b .count ≡ length (placesOf n) ⌝ }
-{
-    let form = zeckendorf(n);
-    let places = form.places;
-    let count = form.count;
-    let mut bits = [0u8; 92];
-    let mut length: usize = 0;
-    let mut i = count;
-    while i > 0 {
-        i -= 1;
-        length = places[i] as usize;
-        bits[length - 1] = 1;
-    }
-    BitString {
-        bits,
-        length,
-        count,
-    }
-}
-
-// Number to list: the places of n, highest first, into the row; the bytes past them stay.
-pub fn places(n: u64, row: &mut [u8]) -> NumberAnswer
-    ensures { λ answer. ⌜ numberOutcomeOf answer ≡ placesOutcome n (length (now (row .entry))) ⌝ }
-    ensures { λ _. ⌜ now (row .exit) ≡ placesRow n (now (row .entry)) ⌝ }
-{
-    let form = zeckendorf(n);
-    let list = form.places;
-    let count = form.count;
-    if row.len() < count {
-        return NumberAnswer::Refused(Refusal::Room);
-    }
-    bytes::copy(&list[..count], row);
-    NumberAnswer::Answered(count as u64)
-}
-
-// List to number: the sum of the weights of its places.
-pub fn number(list: &[u8]) -> NumberAnswer
-    ensures { λ answer. ⌜ numberOutcomeOf answer ≡ numberOutcome (now (list .entry)) ⌝ }
-{
-    if are_places(list) {
-        return total(list);
-    }
-    NumberAnswer::Refused(Refusal::Index)
-}
-
-// Hofstadter's G, by Lemma 3: each place of the form moved down by one, so that place i weighs F_i.
-pub fn hofstadter(n: u64) -> u64
-    ensures { λ r. ⌜ r ≡ G n ⌝ }
-{
-    let form = zeckendorf(n);
-    let places = form.places;
-    let mut sum: u64 = 0;
-    let mut at = FOOT;
-    let mut i = form.count;
-    while i > 0 {
-        i -= 1;
-        at = climb(at, places[i] as usize);
-        sum += at.below;
-    }
-    sum
-}
-
-// Document 01's h: the least positive h with r < phi^h, found by going up the Lucas numbers.
-pub fn height(r: u32) -> u32
-    ensures { λ h. ⌜ h ≡ height r ⌝ }
-{
-    let wanted = r as u64;
-    let mut before: u64 = 2;
-    let mut lucas: u64 = 1;
-    let mut h: u32 = 1;
-    while lucas + (h % 2) as u64 <= wanted {
-        let next = before + lucas;
-        before = lucas;
-        lucas = next;
-        h += 1;
-    }
-    h
+// A place, its weight F_(place+1), and F_place, which the place below weighs.
+pub struct Weight {
+    pub place: usize,
+    pub weight: u64,
+    pub below: u64,
 }

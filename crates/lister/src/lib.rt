@@ -65,7 +65,7 @@ fn list_accepted(tape: &[u32], header: Header, row: &mut [u8]) -> Listed
     ensures { λ r. ⌜ r .number ≡ 0 ⌝ }
 {
     let next = first_line(row, 0, header);
-    let end = step_lines(row, next, layout::steps(tape));
+    let end = step_lines(row, next, parts::steps(tape));
     Listed {
         written: end,
         number: 0,

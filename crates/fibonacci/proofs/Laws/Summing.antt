@@ -8,7 +8,7 @@ use native.Mathlib.Numerals.{sub-one}
 use native.Mathlib.Omega.{arith}
 use lib.ListN.{length, drop, getD, drop-of-length-le}
 use lib.Seq.{drop-cons}
-use Rattle.fibonacci.specs.declared.weights.Weight.{Weight}
+use Rattle.fibonacci.specs.declared.Weight.{Weight}
 use Rattle.fibonacci.specs.Forms.{weighed, Places}
 use Rattle.fibonacci.specs.Weights.{Weighs}
 use Rattle.fibonacci.proofs.Laws.Places.{places-at}

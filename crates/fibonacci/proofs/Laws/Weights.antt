@@ -4,7 +4,7 @@ use Prim.Native.Nat.{ℕ, zero, suc, _+_, _-_, _≤_, _<_, _^_}
 use native.Mathlib.Nat.{lt-of-not-le}
 use native.Mathlib.Numerals.{add-one, sub-one}
 use native.Mathlib.Omega.{arith}
-use Rattle.fibonacci.specs.declared.weights.Weight.{Weight}
+use Rattle.fibonacci.specs.declared.Weight.{Weight}
 use Rattle.fibonacci.specs.Fibonacci.{fib}
 use Rattle.fibonacci.specs.Weights.{Weighs}
 use Rattle.fibonacci.proofs.Laws.Fibonacci.{fib-zero, fib-one, fib-next, fib-grows, fib-monotone, fib-fits, fib-64}

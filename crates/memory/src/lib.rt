@@ -1,0 +1,58 @@
+// Between the caller's memory and the services' values: an answer is stored and 0 comes back, a refusal stores nothing and its number
+// comes back.
+ghost use mathlib.Core.Path.{_≡_};
+ghost use Rattle.refusal.specs.Outcomes.{numberOutcomeOf, numberIn, after};
+ghost use Rattle.machine.specs.Machine.{valuesOf};
+ghost use Rattle.machine.specs.Exponents.{exponentsOutcomeOf};
+ghost use Rattle.sequencer.specs.Services.{registersOutcomeOf};
+use machine::ExponentsAnswer;
+use machine::Registers;
+use refusal::NumberAnswer;
+use register_steps::registers_of;
+use sequencer::RegistersAnswer;
+
+pub fn store_u64(answer: NumberAnswer, place: &mut u64) -> u32
+    ensures { λ n. ⌜ n ≡ numberIn (numberOutcomeOf answer) ⌝ }
+    ensures { λ _. ⌜ now (place .exit) ≡ after (numberOutcomeOf answer) (now (place .entry)) ⌝ }
+{
+    match answer {
+        NumberAnswer::Answered(x) => {
+            *place = x;
+            0
+        }
+        NumberAnswer::Refused(e) => refusal::number(e),
+    }
+}
+
+pub fn store_registers(answer: RegistersAnswer, row: &mut [u32; 4]) -> u32
+    ensures { λ n. ⌜ n ≡ numberIn (registersOutcomeOf answer) ⌝ }
+    ensures { λ _. ⌜ now (row .exit) ≡ after (registersOutcomeOf answer) (now (row .entry)) ⌝ }
+{
+    match answer {
+        RegistersAnswer::Answered(r) => {
+            *row = [r.c, r.d, r.e, r.f];
+            0
+        }
+        RegistersAnswer::Refused(e) => refusal::number(e),
+    }
+}
+
+pub fn store_exponents(answer: ExponentsAnswer, row: &mut [i64; 4]) -> u32
+    ensures { λ n. ⌜ n ≡ numberIn (exponentsOutcomeOf answer) ⌝ }
+    ensures { λ _. ⌜ now (row .exit) ≡ after (exponentsOutcomeOf answer) (now (row .entry)) ⌝ }
+{
+    match answer {
+        ExponentsAnswer::Answered(x) => {
+            *row = [x.c, x.d, x.e, x.f];
+            0
+        }
+        ExponentsAnswer::Refused(e) => refusal::number(e),
+    }
+}
+
+// The registers that a row of four holds. It comes by value, because the length of an array behind a reference isn't known to a proof.
+pub fn registers_in(row: [u32; 4]) -> Registers
+    ensures { λ r. ⌜ valuesOf r ≡ row ⌝ }
+{
+    registers_of(&row)
+}

@@ -1,0 +1,108 @@
+// Load, run, and both in one.
+mod conditions;
+mod travel;
+
+ghost use mathlib.Core.Path.{_≡_};
+ghost use Rattle.refusal.specs.Outcomes.{answered};
+ghost use Rattle.machine.specs.Machine.{valuesOf};
+ghost use Rattle.program.specs.Services.{acceptOutcome};
+ghost use Rattle.sequencer.specs.Services.{registersOutcomeOf, loadOutcome, runOutcome, forwardOutcome};
+use conditions::is_bad_base;
+use conditions::is_bad_register;
+use conditions::is_some_bad;
+use machine::Registers;
+use parts::steps;
+use refusal::Refusal;
+use sequencer::RegistersAnswer;
+use tape::Header;
+use tape::HeaderAnswer;
+use travel::travel;
+
+// The registers (1, a, 1, 1) for a base a: check's refusals, 9, and for named programs 11.
+pub fn load(tape: &[u32], base: u32) -> RegistersAnswer
+    ensures { λ answer. ⌜ registersOutcomeOf answer ≡ loadOutcome (now (tape .entry)) base ⌝ }
+{
+    match accepting::accept(tape) {
+        HeaderAnswer::Refused(e) => RegistersAnswer::Refused(e),
+        HeaderAnswer::Answered(header) => load_accepted(tape, header, base),
+    }
+}
+
+// The registers at position `to`, from those at position `from`: check's refusals, 9, 10.
+pub fn run(tape: &[u32], registers: Registers, from: u32, to: u32) -> RegistersAnswer
+    ensures { λ answer. ⌜ registersOutcomeOf answer ≡ runOutcome (now (tape .entry)) (valuesOf registers) from to ⌝ }
+{
+    match accepting::accept(tape) {
+        HeaderAnswer::Refused(e) => RegistersAnswer::Refused(e),
+        HeaderAnswer::Answered(header) => run_accepted(tape, header, registers, from, to),
+    }
+}
+
+// Load, then run from 0 to the step count: load's refusals. Of a named program, register 1 is then the power.
+pub fn forward(tape: &[u32], base: u32) -> RegistersAnswer
+    ensures { λ answer. ⌜ registersOutcomeOf answer ≡ forwardOutcome (now (tape .entry)) base ⌝ }
+{
+    match accepting::accept(tape) {
+        HeaderAnswer::Refused(e) => RegistersAnswer::Refused(e),
+        HeaderAnswer::Answered(header) => forward_accepted(tape, header, base),
+    }
+}
+
+// Load on a program that is accepted: 9, 11.
+fn load_accepted(tape: &[u32], header: Header, base: u32) -> RegistersAnswer
+    requires { ⌜ acceptOutcome (now tape) ≡ answered header ⌝ }
+    ensures { λ answer. ⌜ registersOutcomeOf answer ≡ loadOutcome (now (tape .entry)) base ⌝ }
+{
+    if is_bad_register(header.modulus, base) {
+        return RegistersAnswer::Refused(Refusal::Register);
+    }
+    if is_bad_base(header, base) {
+        return RegistersAnswer::Refused(Refusal::Base);
+    }
+    RegistersAnswer::Answered(Registers {
+        c: 1,
+        d: base,
+        e: 1,
+        f: 1,
+    })
+}
+
+// Run of a program that is accepted: 9, 10.
+fn run_accepted(
+    tape: &[u32],
+    header: Header,
+    registers: Registers,
+    from: u32,
+    to: u32,
+) -> RegistersAnswer
+    requires { ⌜ acceptOutcome (now tape) ≡ answered header ⌝ }
+    ensures { λ answer. ⌜ registersOutcomeOf answer ≡ runOutcome (now (tape .entry)) (valuesOf registers) from to ⌝ }
+{
+    if is_some_bad(header.modulus, registers) {
+        return RegistersAnswer::Refused(Refusal::Register);
+    }
+    if header.steps < from {
+        return RegistersAnswer::Refused(Refusal::Position);
+    }
+    if header.steps < to {
+        return RegistersAnswer::Refused(Refusal::Position);
+    }
+    RegistersAnswer::Answered(travel(steps(tape), header.modulus, registers, from, to))
+}
+
+// Forward through a program that is accepted: load's refusals, and run has none left.
+fn forward_accepted(tape: &[u32], header: Header, base: u32) -> RegistersAnswer
+    requires { ⌜ acceptOutcome (now tape) ≡ answered header ⌝ }
+    ensures { λ answer. ⌜ registersOutcomeOf answer ≡ forwardOutcome (now (tape .entry)) base ⌝ }
+{
+    match load_accepted(tape, header, base) {
+        RegistersAnswer::Refused(e) => RegistersAnswer::Refused(e),
+        RegistersAnswer::Answered(registers) => run_accepted(
+            tape,
+            header,
+            registers,
+            0,
+            header.steps,
+        ),
+    }
+}
