@@ -9,13 +9,13 @@ ghost use Rattle.refusal.specs.Outcomes.{answered, numberOutcomeOf, numberIn, a
 ghost use Rattle.modular.specs.Inverses.{inverseOutcome};
 ghost use Rattle.fibonacci.specs.Hofstadter.{G};
 ghost use Rattle.fibonacci.specs.Height.{height};
-ghost use Rattle.fibonacci.specs.Services.{fibonacciOutcome, placesOutcome, placesRow, numberOutcome};
+ghost use Rattle.fibonacci.specs.Services.{fibonacciOutcome, placesOutcome, placesRow, numberOutcome, bit};
 ghost use Rattle.program.specs.Services.{roomOutcome, buildOutcome, buildRow, checkOutcome};
 ghost use Rattle.sequencer.specs.Services.{loadOutcome, runOutcome, traceOutcome, cutOutcome, cutPart, cutStart, cutCount};
 ghost use Rattle.listing.specs.Listing.{listingOf, listingAnswer, listingRow};
 ghost use Rattle.text.specs.Reading.{wordsOf};
 ghost use Rattle.text.specs.Rows.{Put};
-ghost use Rattle.tool.specs.Replies.{bit, reply, readsTape};
+ghost use Rattle.tool.specs.Replies.{reply, readsTape};
 ghost use Rattle.tool.specs.Rows.{mostText};
 use memory::registers_in;
 use memory::store_exponents;

@@ -40,6 +40,11 @@ abbrev pub numberIn : {A : Type 0} → Outcome A → ℕ
 numberIn (refused n) = n
 numberIn (answered x) = 0
 
+-- what comes next where the first is not refused
+abbrev pub andThen : {A B : Type 0} → Outcome A → (A → Outcome B) → Outcome B
+andThen (refused n) next = refused n
+andThen (answered x) next = next x
+
 -- what a call leaves in a place that its answer goes to: refused, what was held there; answered, the answer
 abbrev pub after : {A : Type 0} → Outcome A → A → A
 after (refused n) held = held

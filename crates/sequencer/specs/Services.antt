@@ -7,7 +7,7 @@ use lib.IntN.{ℤ}
 use lib.ListN.{length, take}
 use Rattle.refusal.specs.declared.Refusal.the-variants.{Register, Position, Base, Range}
 use Rattle.refusal.specs.Refusals.{numberOf}
-use Rattle.refusal.specs.Outcomes.{Outcome, Rule, refused, answered, _given-if_}
+use Rattle.refusal.specs.Outcomes.{Outcome, Rule, refused, answered, andThen, _given-if_}
 use Rattle.tape.specs.declared.Header.{Header}
 use Rattle.tape.specs.declared.Step.{Step}
 use Rattle.tape.specs.Layout.{headerOf, stepIndex, stepWords, stepsOf}
@@ -63,10 +63,6 @@ runOutcome tape v from goal =
     let h = headerOf tape in
     onTape tape (travelRules h v from goal) (run (h .modulus) (stepsOf tape) from goal v)
 
--- what comes next where the first is not refused
-abbrev pub andThen : {A B : Type 0} → Outcome A → (A → Outcome B) → Outcome B
-andThen (refused n) next = refused n
-andThen (answered x) next = next x
 
 -- forward: load, then run from 0 to the step count
 unfoldable pub forwardOutcome : List ℕ → ℕ → Outcome (List ℕ)

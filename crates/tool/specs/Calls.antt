@@ -1,7 +1,7 @@
 -- What a command line asks for: the words after the tool's name, read one after another.
 use mathlib.Core.Bool.{Bool, _&&_, cond}
 use mathlib.Core.List.{List, [], _∷_}
-use Prim.Native.Nat.{ℕ, _+_, _-_}
+use Prim.Native.Nat.{ℕ, _+_}
 use lib.Dec.{leb}
 use lib.ListN.{length, getD}
 use Rattle.text.specs.declared.Parsed.{Parsed}

@@ -12,7 +12,7 @@ use Rattle.modular.specs.Primes.{isPrime}
 use Rattle.modular.specs.Inverses.{inverseOutcome}
 use Rattle.fibonacci.specs.Hofstadter.{G}
 use Rattle.fibonacci.specs.Height.{height}
-use Rattle.fibonacci.specs.Services.{fibonacciOutcome, placesOf, numberOutcome}
+use Rattle.fibonacci.specs.Services.{fibonacciOutcome, placesOf, numberOutcome, bit}
 use Rattle.tape.specs.Words.{decoded}
 use Rattle.tape.specs.Layout.{mostWords, stepsOf}
 use Rattle.encoding.specs.Encoding.{bytesOf, tapeIn, wordBytes}
@@ -78,9 +78,6 @@ at values place = getD values place 0
 abbrev pub registersIn : List ℕ → List ℕ
 registersIn v = at v 0 ∷ at v 1 ∷ at v 2 ∷ at v 3 ∷ []
 
--- a truth as a number
-abbrev pub bit : Bool → ℕ
-bit b = cond b 1 0
 
 -- the tape's bytes
 unfoldable pub built : ℕ → List ℕ → Replied

@@ -1,7 +1,7 @@
 -- `fibexp_reads` meets its contract: a test of the command's answer.
 use mathlib.Core.Path.{sym, ap, _∙_}
 use borrow.Author.Needs.{needs}
-use Rattle.tool.specs.Replies.{bit}
+use Rattle.fibonacci.specs.Services.{bit}
 use Rattle.capi.proofs.fibexp_reads.Statement.{statement}
 use Rattle.capi.proofs.fibexp_reads.Tie as tie
 

@@ -1,6 +1,6 @@
 -- A complaint whose line was put, and the refusal whose reason is a verb's own.
-use mathlib.Core.Path.{_≡_, refl}
-use mathlib.Core.Bool.{Bool, true, false, _&&_}
+use mathlib.Core.Path.{_≡_}
+use mathlib.Core.Bool.{true, and-false}
 use mathlib.Core.List.{List}
 use Prim.Native.Nat.{ℕ, _≤_}
 use native.Mathlib.Omega.{arith}
@@ -20,9 +20,6 @@ complained w short e = record { status = e .0; text = rw (e .1) w; short = short
 pub script-most : length scriptLine ≤ mostText
 script-most = omega arith
 
-and-false : (b : Bool) → b && false ≡ false
-and-false true = refl
-and-false false = refl
 
 pub own-whole : (row : Row) → row .own ≡ ownIn row true
 own-whole row = rw (and-false (takesTape (row .verb)))

@@ -1,9 +1,9 @@
 -- Laws of the bounded search: what it finds passes, nothing above that does, and 0 says that nothing passes at all.
 -- Each goes down from n: either n passes and is what is found, or it may be left out.
-use mathlib.Core.Path.{_≡_, refl, sym, _∙_, ap}
+use mathlib.Core.Path.{_≡_, sym, _∙_, ap}
 use mathlib.Core.Bool.{Bool, true, false, true≢false}
 use Prim.Native.Nat.{ℕ, zero, suc, _≤_, _<_}
-use native.Mathlib.Nat.{eq-or-lt-of-le, eq-zero-or-pos}
+use native.Mathlib.Nat.{eq-or-lt-of-le}
 use native.Mathlib.Omega.{arith}
 use mathlib.Core.Logic.{⊎-elim}
 use Rattle.divisors.specs.Search.{greatest}
@@ -50,24 +50,3 @@ greatest-is f n y low high passes none =
     (λ e. sym e)
     (λ l. absurd (none (greatest f n) l (greatest-at-most f n) (greatest-passes f n (omega arith))))
     (eq-or-lt-of-le most)
-
--- 0 exactly where nothing from 1 to n passes
-pub greatest-none : (f : ℕ → Bool) (n : ℕ) → ((y : ℕ) → 1 ≤ y → y ≤ n → ¬ (f y ≡ true)) → greatest f n ≡ 0
-greatest-none f n none =
-    ⊎-elim
-    (λ e. e)
-    (λ some. absurd (none (greatest f n) some (greatest-at-most f n) (greatest-passes f n some)))
-    (eq-zero-or-pos (greatest f n))
-
-pub none-passes : (f : ℕ → Bool) (n : ℕ) → greatest f n ≡ 0 → (y : ℕ) → 1 ≤ y → y ≤ n → ¬ (f y ≡ true)
-none-passes f n e y low high passes = omega (arith, greatest-most f n y low high passes)
-
--- two tests that agree find the same
-pub greatest-same : (f g : ℕ → Bool) → ((y : ℕ) → f y ≡ g y) → (n : ℕ) → greatest f n ≡ greatest g n
-unfolding greatest
-greatest-same f g same zero = refl
-greatest-same f g same (suc n) =
-    let below : greatest f n ≡ greatest g n = greatest-same f g same n in
-    by-test (f (suc n))
-    (λ e. found f n e ∙ sym (found g n (sym (same (suc n)) ∙ e)))
-    (λ e. left f n e ∙ below ∙ sym (left g n (sym (same (suc n)) ∙ e)))

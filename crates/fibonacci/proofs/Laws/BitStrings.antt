@@ -1,16 +1,16 @@
 -- What the loop that sets the bits of a form, from its lowest place up, keeps: the row is the bit string of the form with the
 -- places from index i of the list on, since setting a bit above a form puts that place on top of it.
 use mathlib.Core.Path.{_≡_, refl, ap, _∙_}
-use mathlib.Core.Bool.{Bool, false}
+use mathlib.Core.Bool.{Bool}
 use mathlib.Core.List.{List, [], _∷_, map}
 use Prim.Native.Nat.{ℕ, zero, suc, _-_, _≤_, _<_, _^_}
 use native.Mathlib.Numerals.{sub-one}
 use native.Mathlib.Omega.{arith}
-use lib.ListN.{length, take, drop, getD, set, replicate, drop-of-length-le, List·getD-map}
+use lib.ListN.{length, take, drop, getD, set, replicate, drop-of-length-le}
 use lib.Seq.{drop-cons}
 use Rattle.fibonacci.specs.Forms.{Places, pad, topAt, zeckendorf}
 use Rattle.fibonacci.specs.Services.{placesOf, bit, bitRow}
-use Rattle.fibonacci.proofs.Laws.Forms.{pad-at, top-length}
+use Rattle.fibonacci.proofs.Laws.Forms.{top-length}
 use Rattle.fibonacci.proofs.Laws.Places.{places-at, zeckendorf-places-64, formWith, form-with, form-zeckendorf}
 
 -- the bit string of a form in a row of w
@@ -18,9 +18,6 @@ abbrev bits : ℕ → List Bool → List ℕ
 bits w bs = map bit (pad w bs)
 
 -- ---- reading the row
-
-pub bit-row-at : (n i : ℕ) → getD (bitRow n) i 0 ≡ bit (getD (zeckendorf n) i false)
-bit-row-at n i = List·getD-map bit (pad 92 (zeckendorf n)) i false ∙ ap bit (pad-at 92 i (zeckendorf n))
 
 -- the first m bits are the form padded to m
 pub take-bits : (m w : ℕ) (bs : List Bool) → m ≤ w → length bs ≤ m → take m (bits w bs) ≡ bits m bs

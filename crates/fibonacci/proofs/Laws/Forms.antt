@@ -7,7 +7,7 @@ use Prim.Native.Nat.{ℕ, zero, suc, _+_, _*_, _-_, _≤_, _<_}
 use native.Mathlib.Nat.{add-zero, zero-add, add-suc, suc-add, add-comm}
 use native.Mathlib.Numerals.{add-one}
 use native.Mathlib.Omega.{arith}
-use lib.ListN.{length, getD, length-append}
+use lib.ListN.{length, length-append}
 use Rattle.fibonacci.specs.Fibonacci.{fib}
 use Rattle.fibonacci.specs.Forms.{fibsumFrom, fibsum, Clear, Sparse, Topped, Zeckendorf, pad, topAt, placesFrom, places, ones, weighed, weight}
 use Rattle.fibonacci.specs.Hofstadter.{G}
@@ -26,14 +26,6 @@ unfolding pad fibsumFrom
 pad-sum zero i bs = refl
 pad-sum (suc m) i [] = omega (arith, pad-sum m (suc i) [])
 pad-sum (suc m) i (b ∷ bs) = ap (λ (n : ℕ). cond b (fib (suc i)) 0 + n) (pad-sum m (suc i) bs)
-
-pub pad-at : (m i : ℕ) (bs : List Bool) → getD (pad m bs) i false ≡ getD bs i false
-unfolding pad
-pad-at zero i bs = refl
-pad-at (suc m) zero [] = refl
-pad-at (suc m) (suc i) [] = pad-at m i []
-pad-at (suc m) zero (b ∷ bs) = refl
-pad-at (suc m) (suc i) (b ∷ bs) = pad-at m i bs
 
 pub ones-pad : (m : ℕ) (bs : List Bool) → ones (pad m bs) ≡ ones bs
 unfolding pad ones

@@ -3,7 +3,7 @@
 use mathlib.Core.Path.{_≡_, refl, sym, _∙_, ap, ap₂}
 use mathlib.Core.List.{List}
 use Prim.Native.Nat.{ℕ}
-use lib.ListN.{length, getD, set, length-set, List·getD-map}
+use lib.ListN.{getD, set, List·getD-map}
 use Rattle.modular.specs.Primes.{Prime}
 use Rattle.modular.specs.Residues.{times}
 use Rattle.modular.specs.Inverses.{inverse}
@@ -16,12 +16,6 @@ use Rattle.machine.specs.Machine.{reg, apply, Good}
 use Rattle.machine.specs.Carried.{inverses, applyWith, Carried}
 use Rattle.machine.proofs.Laws.Lists.{map-set}
 use Rattle.machine.proofs.Laws.Steps.{good-apply}
-
-pub length-apply : (p : ℕ) (x : Step) (v : List ℕ) → length (apply p x v) ≡ length v
-unfolding apply
-length-apply p (Mul t s) v = simp length-set
-length-apply p (Div t s) v = simp length-set
-length-apply p (Swp t s) v = simp length-set
 
 module _ (p : ℕ) where
   inverse-at : (v : List ℕ) (i : ℕ) → reg (inverses p v) i ≡ inverse p (reg v i)

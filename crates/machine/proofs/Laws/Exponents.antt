@@ -1,16 +1,14 @@
 -- Whole exponents: a step and its opposite undo each other, and each register holds a to its exponent, since a power of a sum is
 -- the product of the powers, for exponents of either sign.
 use mathlib.Core.Path.{_≡_, refl, sym, _∙_, ap, ap₂}
-use mathlib.Core.Logic.{_≢_}
 use mathlib.Core.Bool.{Bool, true, false, cond}
-use mathlib.Core.List.{List, [], _∷_, _++_, map}
+use mathlib.Core.List.{List, [], _∷_, map}
 use Prim.Native.Nat.{ℕ, zero, suc, _+_, _-_, _%_, _^_, _<_}
 use native.Mathlib.Nat.{sub-add-cancel}
 use native.Mathlib.Omega.{arith}
 use lib.Dec.{ltb}
 use lib.IntN.{ℤ, pos, negsuc, negℤ, _+ℤ_, _-ℤ_, subℕ, +ℤ-negℤ-cancel, -ℤ-+ℤ-cancel}
 use lib.ListN.{length, getD, set, take, length-set}
-use lib.Seq.{set-set, set-getD, getD-set-same, getD-set-other}
 use borrow.Author.Tests.{ltb-true, ltb-false}
 use Rattle.modular.specs.Primes.{Prime}
 use Rattle.modular.specs.Residues.{Residue, times}
@@ -21,9 +19,9 @@ use Rattle.modular.proofs.Laws.Powers.{times-pow, power-zero, power-one, residu
 use Rattle.tape.specs.declared.Step.{Step}
 use Rattle.tape.specs.declared.Step.the-variants.{Mul, Div, Swp}
 use Rattle.tape.specs.Steps.{Sound, AllSound}
-use Rattle.machine.specs.Machine.{apply, opposite, doAll, undoAll, run, back, start}
+use Rattle.machine.specs.Machine.{apply, opposite, doAll, undoAll, run, start}
 use Rattle.machine.specs.Exponents.{exponent, shift, shiftAll, startExponents, exponentsAt, powerOf}
-use Rattle.machine.proofs.Laws.Lists.{exchange-twice, getD-map, map-set}
+use Rattle.machine.proofs.Laws.Lists.{changed-back, exchange-twice, getD-map, map-set}
 use Rattle.machine.proofs.Laws.Steps.{good-start}
 use Rattle.machine.proofs.Laws.Runs.{sound-take, run-form}
 
@@ -35,33 +33,13 @@ length-shift (Mul t s) z = simp length-set
 length-shift (Div t s) z = simp length-set
 length-shift (Swp t s) z = simp length-set
 
-pub shift-append : (xs ys : List Step) (z : List ℤ) → shiftAll (xs ++ ys) z ≡ shiftAll ys (shiftAll xs z)
-unfolding shiftAll
-shift-append [] ys z = refl
-shift-append (x ∷ xs) ys z = shift-append xs ys (shift x z)
-
 -- a step and its opposite
 pub shift-opposite : (x : Step) (z : List ℤ) → Sound x → length z ≡ 4 → shift (opposite x) (shift x z) ≡ z
 unfolding shift opposite
-shift-opposite (Mul t s) z a n =
-    let k : t < length z = rw n (a .target-is-one) in
-    let ne : s ≢ t = λ e. a .differ (sym e) in
-    simp (getD-set-same, getD-set-other, set-set, +ℤ-negℤ-cancel, set-getD)
-shift-opposite (Div t s) z a n =
-    let k : t < length z = rw n (a .target-is-one) in
-    let ne : s ≢ t = λ e. a .differ (sym e) in
-    simp (getD-set-same, getD-set-other, set-set, -ℤ-+ℤ-cancel, set-getD)
+shift-opposite (Mul t s) z a n = changed-back (pos 0) _-ℤ_ z t s _ (rw n (a .target-is-one)) (λ e. a .differ (sym e)) (+ℤ-negℤ-cancel _ _)
+shift-opposite (Div t s) z a n = changed-back (pos 0) _+ℤ_ z t s _ (rw n (a .target-is-one)) (λ e. a .differ (sym e)) (-ℤ-+ℤ-cancel _ _)
 shift-opposite (Swp t s) z a n =
     exchange-twice (pos 0) z t s (rw n (a .0 .target-is-one)) (rw n (a .0 .source-is-one)) (a .0 .differ)
-
--- a list and the list taken back
-pub shift-back : (xs : List Step) (z : List ℤ) → AllSound xs → length z ≡ 4 → shiftAll (back xs) (shiftAll xs z) ≡ z
-unfolding shiftAll back
-shift-back [] z a n = refl
-shift-back (x ∷ xs) z a n =
-    shift-append (back xs) (opposite x ∷ []) (shiftAll xs (shift x z))
-    ∙ ap (shift (opposite x)) (shift-back xs (shift x z) (a .1) (length-shift x z ∙ n))
-    ∙ shift-opposite x z (a .0) n
 
 -- ---- powers
 

@@ -82,9 +82,6 @@ module _ (a b : ℤ) where
   pub le-leZ : over a + under b ≤ over b + under a → leZ a b ≡ true
   le-leZ h = leZ-is a b ∙ le-leb _ _ h
 
-  pub lt-leZ : over b + under a < over a + under b → leZ a b ≡ false
-  lt-leZ h = leZ-is a b ∙ lt-leb _ _ h
-
   pub leZ-true : leZ a b ≡ true → over a + under b ≤ over b + under a
   leZ-true e = leb-true _ _ (sym (leZ-is a b) ∙ e)
 

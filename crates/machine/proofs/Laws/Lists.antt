@@ -20,6 +20,13 @@ four-first d (x ∷ y ∷ z ∷ []) n = absurd (omega arith)
 four-first d (x ∷ y ∷ z ∷ w ∷ []) n = refl
 four-first d (x ∷ y ∷ z ∷ w ∷ u ∷ v) n = absurd (omega arith)
 
+-- ---- an entry changed and changed back
+
+-- x is stored at t; f of it and of another entry is what stood there before
+pub changed-back : {A : Type 0} (d : A) (f : A → A → A) (v : List A) (t s : ℕ) (x : A) → t < length v → s ≢ t → f x (getD v s d) ≡ getD v t d
+    → set (set v t x) t (f (getD (set v t x) t d) (getD (set v t x) s d)) ≡ v
+changed-back d f v t s x inside ne e = simp (getD-set-same, getD-set-other, set-set, e, set-getD)
+
 -- ---- two places exchanged
 
 module _ {A : Type 0} (d : A) where

@@ -1,20 +1,20 @@
 -- On residues modulo a prime a step and its opposite undo each other, and residues stay residues: the residues are a group under
 -- the product.
-use mathlib.Core.Path.{_≡_, refl, sym, _∙_, ap, ap₂}
-use mathlib.Core.Logic.{_≢_}
+use mathlib.Core.Path.{_≡_, refl, sym, _∙_, ap}
 use mathlib.Core.List.{List, [], _∷_, _++_, append-nil, append-assoc}
 use Prim.Native.Nat.{ℕ, zero, suc, _<_}
 use native.Mathlib.Omega.{arith}
 use native.Mathlib.Decide.{ℕ-discrete}
 use lib.ListN.{length, set, length-set}
-use lib.Seq.{set-set, set-getD, getD-set-same, getD-set-other}
+use lib.Seq.{getD-set-same, getD-set-other}
 use Rattle.modular.specs.Primes.{Prime}
-use Rattle.modular.specs.Residues.{Residue}
+use Rattle.modular.specs.Residues.{Residue, times}
+use Rattle.modular.specs.Inverses.{inverse}
 use Rattle.modular.proofs.Laws.Group.{residue-one, residue-times, residue-inverse, mul-div, div-mul}
 use Rattle.tape.specs.declared.Step.{Step}
 use Rattle.tape.specs.declared.Step.the-variants.{Mul, Div, Swp}
 use Rattle.tape.specs.Steps.{Apart, Sound, AllSound}
-use Rattle.machine.proofs.Laws.Lists.{exchange-twice}
+use Rattle.machine.proofs.Laws.Lists.{changed-back, exchange-twice}
 use Rattle.machine.specs.Machine.{reg, apply, opposite, doAll, undoAll, back, Good, start}
 
 -- ---- steps and their opposites
@@ -56,12 +56,6 @@ back-append [] ys = sym (append-nil (back ys))
 back-append (x ∷ xs) ys =
     ap (λ (l : List Step). l ++ opposite x ∷ []) (back-append xs ys) ∙ append-assoc (back ys) (back xs) (opposite x ∷ [])
 
-pub back-back : (xs : List Step) → back (back xs) ≡ xs
-unfolding back
-back-back [] = refl
-back-back (x ∷ xs) =
-    back-append (back xs) (opposite x ∷ []) ∙ ap₂ (λ (y : Step) (l : List Step). y ∷ l) (opposite-opposite x) (back-back xs)
-
 -- ---- lists of steps in two parts
 
 pub doAll-append : (p : ℕ) (xs ys : List Step) (v : List ℕ) → doAll p (xs ++ ys) v ≡ doAll p ys (doAll p xs v)
@@ -73,12 +67,6 @@ pub undoAll-append : (p : ℕ) (xs ys : List Step) (v : List ℕ) → undoAll p 
 unfolding undoAll
 undoAll-append p [] ys v = refl
 undoAll-append p (x ∷ xs) ys v = ap (apply p (opposite x)) (undoAll-append p xs ys v)
-
--- a list taken back does what undoing it does
-pub do-back : (p : ℕ) (xs : List Step) (v : List ℕ) → doAll p (back xs) v ≡ undoAll p xs v
-unfolding doAll undoAll back
-do-back p [] v = refl
-do-back p (x ∷ xs) v = doAll-append p (back xs) (opposite x ∷ []) v ∙ ap (apply p (opposite x)) (do-back p xs v)
 
 -- ---- four residues
 
@@ -126,32 +114,20 @@ module _ (p : ℕ) (pr : Prime p) where
 
   -- ---- doing and undoing
 
-  undo-mul : (t s : ℕ) (v : List ℕ) → Apart t s → Good p v → apply p (Div t s) (apply p (Mul t s) v) ≡ v
-  unfolding apply
-  undo-mul t s v a g =
-      let k : t < length v = rw (g .four) (a .target-is-one) in
-      let ne : s ≢ t = λ e. a .differ (sym e) in
-      let rt : Residue p (reg v t) = g .residue t (a .target-is-one) in
-      let rs : Residue p (reg v s) = g .residue s (a .source-is-one) in
-      simp (getD-set-same, getD-set-other, set-set, mul-div p pr, set-getD)
-
-  undo-div : (t s : ℕ) (v : List ℕ) → Apart t s → Good p v → apply p (Mul t s) (apply p (Div t s) v) ≡ v
-  unfolding apply
-  undo-div t s v a g =
-      let k : t < length v = rw (g .four) (a .target-is-one) in
-      let ne : s ≢ t = λ e. a .differ (sym e) in
-      let rt : Residue p (reg v t) = g .residue t (a .target-is-one) in
-      let rs : Residue p (reg v s) = g .residue s (a .source-is-one) in
-      simp (getD-set-same, getD-set-other, set-set, div-mul p pr, set-getD)
+  -- a register that another changed, and changes back
+  undo-with : (f : ℕ → ℕ → ℕ) (t s x : ℕ) (v : List ℕ) → Apart t s → Good p v → (Residue p (reg v t) → Residue p (reg v s) → f x (reg v s) ≡ reg v t)
+      → set (set v t x) t (f (reg (set v t x) t) (reg (set v t x) s)) ≡ v
+  undo-with f t s x v a g back =
+      changed-back 0 f v t s x (rw (g .four) (a .target-is-one)) (λ e. a .differ (sym e)) (back (g .residue t (a .target-is-one)) (g .residue s (a .source-is-one)))
 
   undo-swp : (t s : ℕ) (v : List ℕ) → Apart t s → Good p v → apply p (Swp t s) (apply p (Swp t s) v) ≡ v
   unfolding apply
   undo-swp t s v a g = exchange-twice 0 v t s (rw (g .four) (a .target-is-one)) (rw (g .four) (a .source-is-one)) (a .differ)
 
   pub undo-apply : (x : Step) (v : List ℕ) → Sound x → Good p v → apply p (opposite x) (apply p x v) ≡ v
-  unfolding opposite
-  undo-apply (Mul t s) v a g = undo-mul t s v a g
-  undo-apply (Div t s) v a g = undo-div t s v a g
+  unfolding opposite apply
+  undo-apply (Mul t s) v a g = undo-with (λ (y x : ℕ). times p y (inverse p x)) t s _ v a g (mul-div p pr _ _)
+  undo-apply (Div t s) v a g = undo-with (times p) t s _ v a g (div-mul p pr _ _)
   undo-apply (Swp t s) v a g = undo-swp t s v (a .0) g
 
   pub apply-undo : (x : Step) (v : List ℕ) → Sound x → Good p v → apply p x (apply p (opposite x) v) ≡ v

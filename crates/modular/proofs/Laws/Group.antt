@@ -50,9 +50,6 @@ module _ (p : ℕ) (pr : Prime p) where
   pub div-mul : (y x : ℕ) → Residue p y → Residue p x → times p (times p y (inverse p x)) x ≡ y
   div-mul y x ry rx = times-assoc p y (inverse p x) x ∙ ap (times p y) (inverse-times x rx) ∙ times-one p y ry
 
-  pub cancel : (x y z : ℕ) → Residue p x → Residue p y → Residue p z → times p y x ≡ times p z x → y ≡ z
-  cancel x y z rx ry rz e = sym (mul-div y x ry rx) ∙ ap (λ (n : ℕ). times p n (inverse p x)) e ∙ mul-div z x rz rx
-
   pub residue-times : (y x : ℕ) → Residue p y → Residue p x → Residue p (times p y x)
   residue-times y x ry rx =
       record {

@@ -4,15 +4,14 @@ use mathlib.Core.Path.{_≡_, sym, _∙_, ap, ap₂, subst}
 use mathlib.Core.Logic.{⊎-elim}
 use mathlib.Core.Bool.{Bool, true, false, _&&_, _||_}
 use Prim.Native.Nat.{ℕ, _*_, _-_, _%_, _≤_, _<_, _∣_}
-use native.Mathlib.Nat.{dvd-mod-iff, dvd-mul-right-of-dvd, dvd-of-mod-eq-zero, eq-one-of-dvd-one, eq-zero-or-pos, le-of-dvd, mod-eq-of-lt, mod-eq-zero-of-dvd, mod-one, mul-comm, mul-one, one-dvd, one-mul, pos-of-dvd-of-pos, zero-mod, zero-mul}
+use native.Mathlib.Nat.{dvd-mod-iff, dvd-mul-right-of-dvd, dvd-of-mod-eq-zero, eq-one-of-dvd-one, eq-zero-or-pos, le-of-dvd, mod-eq-of-lt, mod-eq-zero-of-dvd, mod-one, mul-one, one-dvd, one-mul, pos-of-dvd-of-pos, zero-mod, zero-mul}
 use native.Mathlib.Omega.{arith}
 use lib.Dec.{leb, ltb, eqb}
 use borrow.Author.Tests.{eqb-true, eqb-false, eq-eqb, ne-eqb, leb-false, lt-leb, ltb-false, le-ltb}
 use Rattle.divisors.specs.Search.{divides}
-use Rattle.modular.specs.Residues.{Residue}
 use Rattle.modular.specs.Inverses.{Coprime, gcd, Inverse, inverse, badExponent}
 use Rattle.refusal.proofs.Laws.Tests.{test-true, both, neither}
-use Rattle.divisors.proofs.Laws.Search.{greatest-at-most, greatest-passes, greatest-most, greatest-is, greatest-same}
+use Rattle.divisors.proofs.Laws.Search.{greatest-at-most, greatest-passes, greatest-most, greatest-is}
 use Rattle.modular.proofs.Laws.Residues.{mul-mod-left, mul-mod-right}
 use Rattle.modular.proofs.Laws.Ends.{coprime-inverse}
 
@@ -73,15 +72,6 @@ inverse-zero m =
     (λ some. absurd (omega (arith, inverse-found m 0 some .one, ap (λ (n : ℕ). n % m) (zero-mul (inverse m 0)), zero-mod m)))
     (eq-zero-or-pos (inverse m 0))
 
-pub inverse-mod : (m x : ℕ) → inverse m (x % m) ≡ inverse m x
-unfolding inverse
-inverse-mod m x =
-    greatest-same _ _ (λ y. ap (λ (n : ℕ). eqb n 1) (mul-mod-left x y m)) (m - 1)
-
--- a residue is the inverse of its inverse
-pub inverse-back : {m x y : ℕ} → Residue m x → Inverse m x y → Inverse m y x
-inverse-back {m} {x} {y} r v = record { low = r .low; high = r .high; one = ap (λ (n : ℕ). n % m) (mul-comm y x) ∙ v .one }
-
 -- a common divisor is at most the greatest
 common-divisor : (a b d : ℕ) → 1 ≤ a → d ∣ a → d ∣ b → (1 ≤ d) × (d ≤ gcd a b)
 unfolding gcd
@@ -132,12 +122,3 @@ bad-exponent k r bad = test-true (badExponent k r) (λ e. bad (good-exponent k r
 module _ (k r : ℕ) (good : badExponent k r ≡ false) where
   pub inverse-order : Inverse r k (inverse r k)
   inverse-order = let g = good-exponent k r good in inverse-exists r k (omega (arith, g .low, g .high)) (g .coprime)
-
-  back : Inverse r (inverse r k) k
-  back = let g = good-exponent k r good in inverse-back (record { low = g .low; high = g .high }) inverse-order
-
-  pub inverse-good : badExponent (inverse r k) r ≡ false
-  inverse-good = exponent-good (record { low = inverse-order .low; high = inverse-order .high; coprime = inverse-coprime back })
-
-  pub inverse-inverse-order : inverse r (inverse r k) ≡ k
-  inverse-inverse-order = inverse-is r (inverse r k) k back

@@ -52,9 +52,6 @@ times-assoc (suc p) x y z =
 pub times-one : (p x : ℕ) → Residue p x → times p x 1 ≡ x
 times-one p x r = times-is p x 1 (omega (arith, r .high)) ∙ ap (λ (n : ℕ). n % p) (mul-one x) ∙ mod-eq-of-lt (r .high)
 
-pub one-times : (p x : ℕ) → Residue p x → times p 1 x ≡ x
-one-times p x r = times-comm p 1 x ∙ times-one p x r
-
 pub zero-times : (p x : ℕ) → times p 0 x ≡ 0
 unfolding times remainder
 zero-times zero x = refl

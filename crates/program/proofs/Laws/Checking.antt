@@ -12,8 +12,8 @@ use borrow.Author.Tests.{ltb-false, le-ltb, eq-eqb, ne-eqb, not-false}
 use Rattle.refusal.specs.declared.Refusal.{Refusal}
 use Rattle.refusal.specs.declared.Refusal.the-variants.{Modulus, Order, Exponent, Variant, Room, Mismatch}
 use Rattle.refusal.specs.Refusals.{numberOf}
-use Rattle.refusal.specs.Outcomes.{Outcome, Rule, refused, answered, outcome, _given-if_, gives, passes, answers, row-written}
-use Rattle.refusal.proofs.Laws.Rules.{passed, refused-by, andThen, answer-is}
+use Rattle.refusal.specs.Outcomes.{Outcome, Rule, refused, answered, outcome, andThen, _given-if_, gives, passes, answers, row-written}
+use Rattle.refusal.proofs.Laws.Rules.{passed, refused-by, answer-is}
 use Rattle.refusal.proofs.Laws.Tests.{by-test, test-false}
 use Rattle.modular.specs.Inverses.{badExponent}
 use Rattle.tape.specs.declared.Header.{Header}
@@ -38,7 +38,7 @@ use Rattle.program.proofs.Laws.Same.{same-itself, same-equal}
 
 -- two lists that begin alike: the second is the first, where what follows there refuses nothing, and then what follows in it
 alike : {A B : Type 0} (front more more′ : List Rule) (x : A) (y : B) → (outcome front x ≡ answered x → outcome more x ≡ answered x)
-    → outcome (front ++ more′) y ≡ andThen (outcome (front ++ more) x) (outcome more′ y)
+    → outcome (front ++ more′) y ≡ andThen (outcome (front ++ more) x) (λ z. outcome more′ y)
 unfolding outcome
 alike [] more more′ x y f = rw (f refl)
 alike ((e given-if true) ∷ front) more more′ x y f = refl
@@ -145,7 +145,7 @@ module _ {A : Type 0} (x : A) (tape : List ℕ) (h : Header) (read : ReadAs tape
     past-named = past-variant true (ap not (ne-eqb (h .variant) 0 (named-some (h .variant) is))) (named-most (h .variant) is)
 
     -- build refuses by its first three rules or not at all: the number names a variant, and the longest tape has room
-    as-built : outcome (checkRules tape) x ≡ andThen (buildFor h) (outcome ((Mismatch given-if not (allowed tape h)) ∷ []) x)
+    as-built : outcome (checkRules tape) x ≡ andThen (buildFor h) (λ n. outcome ((Mismatch given-if not (allowed tape h)) ∷ []) x)
     unfolding buildOutcome
     as-built =
         past-named
@@ -199,7 +199,7 @@ module _ (tape : List ℕ) (h : Header) (m : headerOutcome tape ≡ answered h) 
       (λ laid. reading-passed tape _ _ h (read-as laid) ∙ gives _ _ _ refl ∙ sym (f laid))
       (λ other. let read = read-word tape (measured tape h m .0) other in reading-refused tape _ _ _ read ∙ sym (reading-refused tape _ _ _ read))
 
-  by-build : laidOut tape ≡ true → acceptOutcome tape ≡ andThen (buildFor h) (outcome ((Mismatch given-if not (allowed tape h)) ∷ []) (headerOf tape))
+  by-build : laidOut tape ≡ true → acceptOutcome tape ≡ andThen (buildFor h) (λ n. outcome ((Mismatch given-if not (allowed tape h)) ∷ []) (headerOf tape))
   by-build laid = as-built (headerOf tape) tape h (read-as laid) is
 
   pub check-not-built : (e : Refusal) → buildFor h ≡ refused (numberOf e) → refusedPast tape e ≡ acceptOutcome tape

@@ -3,7 +3,7 @@
 use mathlib.Core.Path.{_≡_, sym, ap, _∙_}
 use mathlib.Core.List.{List}
 use Prim.Native.Nat.{ℕ}
-use Rattle.refusal.specs.Outcomes.{Outcome, Rule, refused, answered, outcome}
+use Rattle.refusal.specs.Outcomes.{Rule, refused, answered, outcome}
 use Rattle.refusal.proofs.Laws.Rules.{refused-before, passed-before, answered-before, still-answered, answer-is}
 use Rattle.tape.specs.declared.Header.{Header}
 use Rattle.tape.specs.Layout.{headerOf}

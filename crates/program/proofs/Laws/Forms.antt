@@ -9,7 +9,7 @@ use native.Mathlib.Omega.{arith}
 use borrow.Author.Tests.{le-leb}
 use lib.ListN.{length, take, replicate, length-map}
 use Rattle.modular.specs.Residues.{remainder}
-use Rattle.modular.specs.Inverses.{inverse, badExponent}
+use Rattle.modular.specs.Inverses.{inverse}
 use Rattle.modular.proofs.Laws.Residues.{remainder-is}
 use Rattle.modular.proofs.Laws.Inverses.{good-exponent, inverse-order}
 use Rattle.fibonacci.specs.declared.BitString.{BitString}
@@ -22,10 +22,10 @@ use Rattle.fibonacci.proofs.Laws.Forms.{pad-length, ones-pad, ones-places}
 use Rattle.fibonacci.proofs.Laws.Zeckendorf.{zeckendorf-count-64}
 use Rattle.fibonacci.proofs.Laws.BitStrings.{take-bits}
 use Rattle.fibonacci.proofs.Laws.Height.{zeckendorf-height, height-28, height-le-odd, odd-height-is, odd-height-28}
-use Rattle.fibonacci.proofs.Laws.Lengths.{multiple-64, multiple-length}
+use Rattle.fibonacci.proofs.Laws.Lengths.{multiple-64}
 use Rattle.tape.specs.Words.{stepWord}
 use Rattle.named.specs.declared.Figure.{Figure}
-use Rattle.named.specs.declared.Figure.the-variants.{Two, Four, Six}
+use Rattle.named.specs.declared.Figure.the-variants.{Two, Four}
 use Rattle.named.specs.Generators.{Forms, lone, generated, stepsFrom}
 use Rattle.named.specs.Promises.{Fits}
 use Rattle.named.specs.Named.{basicForms, dualForm, dualForms, hybridForms, formsIn}

@@ -8,7 +8,7 @@ use native.Mathlib.Omega.{arith}
 use Rattle.refusal.specs.declared.Refusal.{Refusal}
 use Rattle.refusal.specs.declared.Refusal.the-variants.{Modulus, Order, Exponent, Variant, Room, Length, Word, Mismatch, Register, Position, Base, Range, Index}
 use Rattle.refusal.specs.Refusals.{numberOf}
-use Rattle.refusal.specs.Outcomes.{Outcome, Rule, refused, answered, outcome, applies, numberIn, after, _given-if_}
+use Rattle.refusal.specs.Outcomes.{Rule, refused, answered, outcome, applies, numberIn, andThen, after, _given-if_}
 
 -- a call that is answered has passed its first rule
 pub passed : {A : Type 0} (t : Bool) (e : Refusal) (rules : List Rule) (x y : A) → outcome ((e given-if t) ∷ rules) x ≡ answered y
@@ -23,21 +23,17 @@ unfolding outcome
 refused-by true e x a = (refl, cc)
 refused-by false e x a = let z : _≡_ {A = ℕ} 0 1 = cc in absurd (omega arith)
 
--- one call, and where it answers, another
-abbrev pub andThen : {A B : Type 0} → Outcome A → Outcome B → Outcome B
-andThen (refused n) o = refused n
-andThen (answered x) o = o
 
 module _ {A B : Type 0} (x : A) (y : B) where
   -- the same rules with another answer
-  alone : (rules : List Rule) → outcome rules y ≡ andThen (outcome rules x) (answered y)
+  alone : (rules : List Rule) → outcome rules y ≡ andThen (outcome rules x) (λ z. answered y)
   unfolding outcome
   alone [] = refl
   alone ((e given-if true) ∷ rules) = refl
   alone ((e given-if false) ∷ rules) = alone rules
 
   -- rules behind others
-  behind : (front more : List Rule) → outcome (front ++ more) y ≡ andThen (outcome front x) (outcome more y)
+  behind : (front more : List Rule) → outcome (front ++ more) y ≡ andThen (outcome front x) (λ z. outcome more y)
   unfolding outcome
   behind [] more = refl
   behind ((e given-if true) ∷ front) more = refl

@@ -17,7 +17,7 @@ use Rattle.tape.specs.Words.{numberLimit, variantLimit, decoded, encoded
 use Rattle.tape.specs.Layout.{otherWords, stepCount, stepWords, stepWordsOf, endAt, sortOf, valueOf, meansAt, headerOf, stepsIn, stepsOf, isHeader, isFreeOrNamed, allSteps, isEnd, laidOut, Program, headerFor, wordsOf, programOf}
 use Rattle.refusal.proofs.Laws.Tests.{both, and-both, implied, implies}
 use Rattle.tape.proofs.Laws.Words.{decoded-encoded, decoded-lawful, value-small, variant-small, word-again}
-use Rattle.tape.proofs.Laws.Rows.{all-steps-sound, steps-words, words-all-steps, words-steps, words-count, means-past}
+use Rattle.tape.proofs.Laws.Rows.{steps-words, words-all-steps, words-steps, words-count, means-past}
 
 -- ---- the layout by its rules
 
@@ -166,16 +166,6 @@ header-fits tape laid =
       order-small = value-small (meansAt tape 2) (decoded-lawful (getD tape 2 0));
       exponent-small = value-small (meansAt tape 3) (decoded-lawful (getD tape 3 0));
       count-small = omega (arith, rules .count, value-small (decoded (endAt tape)) (decoded-lawful (endAt tape)));
-    }
-
-pub program-lawful : (tape : List ℕ) → laidOut tape ≡ true → LawfulProgram (programOf tape)
-program-lawful tape laid =
-    let rules = laid-out-rules tape laid in
-    let same : headerFor (programOf tape) ≡ headerOf tape = rw (steps-count tape) refl in
-    record {
-      fits = rw same (header-fits tape laid);
-      free = rules .free;
-      sound = all-steps-sound (stepWordsOf tape);
     }
 
 -- ---- from a program to its tape and back

@@ -154,9 +154,6 @@ decoded-lawful w = means w .lawful
 pub encoded-decoded : (w : ℕ) → (sortOf (decoded w) ≡ 0 → ⊥) → encoded (decoded w) ≡ w
 encoded-decoded w = means w .back
 
-pub decoded-sound : (w : ℕ) (x : Step) → decoded w ≡ Action x → Sound x
-decoded-sound w x e = subst Lawful e (decoded-lawful w)
-
 -- the word 0, which a list gives past its end, means nothing
 pub decoded-zero : decoded 0 ≡ Bad
 unfolding decoded

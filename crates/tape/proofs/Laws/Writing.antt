@@ -80,9 +80,6 @@ module _ (q : Program) (lawful : LawfulProgram q) (row : List ℕ) (long : lengt
   there : hasPlace (headerFor q) (length row) ≡ true
   there = place-there (headerFor q) (length row) (omega (arith, program-length q)) (fits-numbers (headerFor q) (lawful .fits))
 
-  pub count-words : wordCount (headerFor q) ≡ length (wordsOf q)
-  count-words = sym (program-length q)
-
   pub lay-begin : layBegin (headerFor q) (length row) ≡ headerWords
   lay-begin = sym (laid-there (headerFor q) row there .0)
 

@@ -1,7 +1,7 @@
 -- A number read digit by digit: one that isn't a digit or passes the most ends it, and another digit makes the number as many times as
 -- large as the base says. What `decimal` writes is read back.
 use mathlib.Core.Path.{_≡_, refl, sym, ap, _∙_}
-use mathlib.Core.Bool.{Bool, true, false, _&&_, false≢true}
+use mathlib.Core.Bool.{true, false, _&&_, and-false, false≢true}
 use mathlib.Core.List.{List, [], _∷_, _++_}
 use Prim.Native.Nat.{ℕ, zero, suc, _+_, _-_, _*_, _/_, _%_, _≤_, _<_}
 use Prim.Native.Char.{code}
@@ -20,9 +20,6 @@ use Rattle.text.specs.Text.{decimal}
 use Rattle.text.specs.Reading.{within, digitOf, allDigits, valueFrom, numberFrom, inBase, isHexadecimal, numberIn, Small}
 use Rattle.text.proofs.Laws.Decimal.{decimal-one, decimal-again, decimal-some}
 
-and-false : (t : Bool) → t && false ≡ false
-and-false true = refl
-and-false false = refl
 
 -- ---- a digit's value
 

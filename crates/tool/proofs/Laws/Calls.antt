@@ -24,9 +24,6 @@ asked-none inScript [] h = refl
 asked-none inScript (name ∷ words) h = absurd (omega arith)
 
 module _ (inScript : Bool) (words : List (List ℕ)) (some : 0 < length words) where
-  name : List ℕ
-  name = getD words 0 []
-
   -- by the first word and those behind it
   asked-some : (ws : List (List ℕ)) → 0 < length ws → askedBy inScript ws ≡ askedOf inScript (rowNamed (getD ws 0 [])) (getD ws 0 []) (drop 1 ws)
   unfolding askedBy
