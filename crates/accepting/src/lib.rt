@@ -3,18 +3,18 @@ ghost use mathlib.Core.Path.{_≡_};
 ghost use mathlib.Core.Bool.{true};
 ghost use Rattle.refusal.specs.Outcomes.{numberOutcomeOf, answered};
 ghost use Rattle.tape.specs.Layout.{headerOf, headerOutcome, headerOutcomeOf};
-ghost use Rattle.named.specs.Parameters.{unnamed};
+ghost use Rattle.named.specs.Parameters.{badVariant};
 ghost use Rattle.program.specs.Services.{checkOutcome, acceptOutcome};
-ghost use Rattle.program.specs.Building.{refusedPast};
+ghost use Rattle.program.specs.Inner.Building.{refusedPast};
 ghost use Rattle.program.specs.Same.{sameWords};
 use building::build;
 use building::is_bad_modulus;
-use building::is_unnamed;
+use building::is_bad_variant;
 use refusal::NumberAnswer;
 use refusal::Refusal;
 use tape::Header;
 use tape::HeaderAnswer;
-use tape::MOST_WORDS;
+use tape::MAX_WORDS;
 
 // Accepts a tape: 6, 7, 4, 1 and, for named programs, 2, 3, 8, else 0.
 pub fn check(tape: &[u32]) -> NumberAnswer
@@ -42,10 +42,10 @@ fn accept_measured(tape: &[u32], header: Header) -> HeaderAnswer
     requires { ⌜ headerOutcome (now tape) ≡ answered header ⌝ }
     ensures { λ r. ⌜ headerOutcomeOf r ≡ acceptOutcome (now (tape .entry)) ⌝ }
 {
-    if is_unnamed(header.variant) {
-        return accept_unnamed(tape);
+    if is_bad_variant(header.variant) {
+        return accept_not_named(tape);
     }
-    let mut row = [0u32; MOST_WORDS];
+    let mut row = [0u32; MAX_WORDS];
     match build(
         header.modulus,
         header.order,
@@ -56,7 +56,7 @@ fn accept_measured(tape: &[u32], header: Header) -> HeaderAnswer
         NumberAnswer::Refused(e) => refuse(tape, e),
         NumberAnswer::Answered(words) => {
             let n = words as usize;
-            if same(tape, &row[..n]) {
+            if same_words(tape, &row[..n]) {
                 return HeaderAnswer::Answered(header);
             }
             refuse(tape, Refusal::Mismatch)
@@ -75,8 +75,8 @@ fn refuse(tape: &[u32], e: Refusal) -> HeaderAnswer
 }
 
 // A tape that isn't a named program's: 7, 4, 1.
-fn accept_unnamed(tape: &[u32]) -> HeaderAnswer
-    requires { ⌜ unnamed (headerOf (now tape) .variant) ≡ true ⌝ }
+fn accept_not_named(tape: &[u32]) -> HeaderAnswer
+    requires { ⌜ badVariant (headerOf (now tape) .variant) ≡ true ⌝ }
     ensures { λ r. ⌜ headerOutcomeOf r ≡ acceptOutcome (now (tape .entry)) ⌝ }
 {
     match layout::read(tape) {
@@ -94,7 +94,7 @@ fn accept_unnamed(tape: &[u32]) -> HeaderAnswer
 }
 
 // Whether two rows hold the same words.
-fn same(a: &[u32], b: &[u32]) -> bool
+fn same_words(a: &[u32], b: &[u32]) -> bool
     ensures { λ equal. ⌜ equal ≡ sameWords (now (a .entry)) (now (b .entry)) ⌝ }
 {
     if a.len() != b.len() {

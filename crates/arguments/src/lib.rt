@@ -2,18 +2,18 @@
 ghost use mathlib.Core.Path.{_≡_};
 ghost use Prim.Native.Nat.{_-_, _≤_};
 ghost use lib.ListN.{length};
-ghost use Rattle.text.specs.Reading.{wordsOf};
-ghost use Rattle.tool.specs.Verbs.{indexIn, rowNamed, limitOf, variantIn, parameterIn, mostParameters};
+ghost use Rattle.text.specs.Reading.{splitWords};
+ghost use Rattle.tool.specs.Verbs.{indexIn, rowNamed, limitOf, variantIn, parameterIn, maxParameters};
 ghost use Rattle.tool.specs.Rows.{Understood, Gathered};
 use named::VARIANT_NAMES;
-use parsing::number;
-use parsing::word;
+use parsing::nth_word;
+use parsing::parse_number;
 use parsing::word_count;
 use text::Parsed;
 use tool::Call;
 use tool::CommandLine;
 use tool::LARGEST_32;
-use tool::MOST_PARAMETERS;
+use tool::MAX_PARAMETERS;
 use tool::NAMES;
 use tool::NO_ROW;
 use tool::ROWS;
@@ -24,13 +24,13 @@ use verbs::is_variant;
 
 // What the words ask for, in a script or outside, with its parameters.
 pub fn understand(arguments: &[u8], in_script: bool) -> CommandLine
-    ensures { λ r. ⌜ Understood in_script (wordsOf (now (arguments .entry))) (r .call) (r .values) ⌝ }
+    ensures { λ r. ⌜ Understood in_script (splitWords (now (arguments .entry))) (r .call) (r .values) ⌝ }
 {
     let words = word_count(arguments);
     if words == 0 {
         return without_parameters(Call::NoWord);
     }
-    let row = row_named(word(arguments, 0));
+    let row = row_named(nth_word(arguments, 0));
     let verb = row.verb;
     if is_hidden(in_script, verb) {
         return without_parameters(Call::NoVerb);
@@ -46,24 +46,24 @@ pub fn understand(arguments: &[u8], in_script: bool) -> CommandLine
 }
 
 fn without_parameters(call: Call) -> CommandLine
-    ensures { λ r. ⌜ (r .call ≡ call) × (length (r .values) ≡ mostParameters) ⌝ }
+    ensures { λ r. ⌜ (r .call ≡ call) × (length (r .values) ≡ maxParameters) ⌝ }
 {
     CommandLine {
         call,
-        values: [0u64; MOST_PARAMETERS],
+        values: [0u64; MAX_PARAMETERS],
     }
 }
 
 // The numbers of the words after the verb, up to the first that is none.
 fn parameters(arguments: &[u8], row: Row, count: usize) -> CommandLine
-    requires { ⌜ (count ≤ mostParameters) × (count ≡ length (wordsOf (now arguments)) - 1) × (row .largest ≤ limitOf (row .verb)) ⌝ }
-    ensures { λ r. ⌜ Gathered row (wordsOf (now (arguments .entry))) (r .call) (r .values) ⌝ }
+    requires { ⌜ (count ≤ maxParameters) × (count ≡ length (splitWords (now arguments)) - 1) × (row .largest ≤ limitOf (row .verb)) ⌝ }
+    ensures { λ r. ⌜ Gathered row (splitWords (now (arguments .entry))) (r .call) (r .values) ⌝ }
 {
-    let mut values = [0u64; MOST_PARAMETERS];
+    let mut values = [0u64; MAX_PARAMETERS];
     let mut i: usize = 0;
     while i < count {
         let index = i + 1;
-        match parameter(row, i, word(arguments, index)) {
+        match parameter(row, i, nth_word(arguments, index)) {
             Parsed::Number(n) => values[i] = n,
             Parsed::NoNumber => {
                 return CommandLine {
@@ -88,7 +88,7 @@ fn parameter(row: Row, place: usize, word: &[u8]) -> Parsed
     if is_variant(verb, place) {
         return variant(word);
     }
-    number(word, row.largest)
+    parse_number(word, row.largest)
 }
 
 // A variant by its name or its number.
@@ -99,7 +99,7 @@ fn variant(word: &[u8]) -> Parsed
     if variant < word_count(&VARIANT_NAMES) {
         return Parsed::Number(variant as u64);
     }
-    number(word, LARGEST_32)
+    parse_number(word, LARGEST_32)
 }
 
 // The row of a verb by its name.
@@ -115,12 +115,12 @@ fn row_named(name: &[u8]) -> Row
 
 // The index of the first name that is the word; past the last where there is none.
 fn find(word: &[u8], names: &[u8]) -> usize
-    ensures { λ r. ⌜ r ≡ indexIn (now (word .entry)) (wordsOf (now (names .entry))) ⌝ }
+    ensures { λ r. ⌜ r ≡ indexIn (now (word .entry)) (splitWords (now (names .entry))) ⌝ }
 {
     let count = word_count(names);
     let mut i: usize = 0;
     while i < count {
-        if check::same(word, parsing::word(names, i)) {
+        if check::same(word, parsing::nth_word(names, i)) {
             return i;
         }
         i += 1;

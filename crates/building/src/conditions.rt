@@ -1,7 +1,7 @@
 // The conditions of the refusals of build and check.
 ghost use mathlib.Core.Path.{_≡_};
 ghost use Prim.Native.Nat.{_≤_};
-ghost use Rattle.named.specs.Parameters.{badModulus, badOrder, goodInverse, unnamed};
+ghost use Rattle.named.specs.Parameters.{badModulus, badOrder, goodInverse, badVariant};
 
 // Refusal 1: p isn't a prime from 3 to 268435455.
 pub fn is_bad_modulus(p: u32) -> bool
@@ -41,8 +41,8 @@ pub(crate) fn good_inverse(k: u32, r: u32) -> u32
 }
 
 // Refusal 4 in build: the number names no variant.
-pub fn is_unnamed(variant: u32) -> bool
-    ensures { λ bad. ⌜ bad ≡ unnamed variant ⌝ }
+pub fn is_bad_variant(variant: u32) -> bool
+    ensures { λ bad. ⌜ bad ≡ badVariant variant ⌝ }
 {
     if variant == 0 {
         return true;

@@ -6,8 +6,8 @@ ghost use Rattle.modular.specs.Residues.{remainder};
 ghost use Rattle.fibonacci.specs.Forms.{zeckendorf};
 ghost use Rattle.named.specs.Generators.{lone, stepsFrom};
 ghost use Rattle.named.specs.Named.{dualForms, hybridForms};
-ghost use Rattle.named.specs.Parameters.{unnamed};
-ghost use Rattle.program.specs.Forms.{Invertible, BitsOf, rowsOf, Given};
+ghost use Rattle.named.specs.Parameters.{badVariant};
+ghost use Rattle.program.specs.Inner.Forms.{Invertible, BitsOf, rowsOf, RowsFromTable};
 use fibonacci::BitString;
 use modular::product;
 use named::Figure;
@@ -18,8 +18,8 @@ use zeckendorf::fibonacci_or_zero;
 // The forms of a named program, from r, k and the inverse of k.
 pub(crate) fn forms(variant: u32, r: u32, k: u32, inverse: u32) -> FormRows
     requires { ⌜ Invertible r k inverse ⌝ }
-    requires { ⌜ unnamed variant ≡ false ⌝ }
-    ensures { λ rows. ⌜ Given variant r k rows ⌝ }
+    requires { ⌜ badVariant variant ≡ false ⌝ }
+    ensures { λ rows. ⌜ RowsFromTable variant r k rows ⌝ }
 {
     match variant {
         1 => basic_forms(k, inverse),

@@ -9,13 +9,13 @@ ghost use mathlib.Core.Path.{_≡_};
 ghost use lib.ListN.{length};
 ghost use Rattle.refusal.specs.Outcomes.{numberOutcomeOf};
 ghost use Rattle.named.specs.Named.{namedWords};
-ghost use Rattle.program.specs.Services.{buildOutcome, buildRow};
-ghost use Rattle.program.specs.Forms.{Given};
-ghost use Rattle.program.specs.Building.{Writable, Built};
+ghost use Rattle.program.specs.Services.{buildOutcome, buildBuffer};
+ghost use Rattle.program.specs.Inner.Forms.{RowsFromTable};
+ghost use Rattle.program.specs.Inner.Building.{Writable, Built};
 use conditions::good_inverse;
 pub use conditions::is_bad_modulus;
 use conditions::is_bad_order;
-pub use conditions::is_unnamed;
+pub use conditions::is_bad_variant;
 use drawing::draw;
 use forms::forms;
 use forms::step_count;
@@ -24,10 +24,10 @@ use refusal::NumberAnswer;
 use refusal::Refusal;
 use tape::Header;
 
-// Writes the named program for p, r, k and the variant into the row: 1, 2, 3, 4, 5, else the word count.
-pub fn build(p: u32, r: u32, k: u32, variant: u32, row: &mut [u32]) -> NumberAnswer
-    ensures { λ answer. ⌜ numberOutcomeOf answer ≡ buildOutcome p r k variant (length (now (row .entry))) ⌝ }
-    ensures { λ _. ⌜ now (row .exit) ≡ buildRow p r k variant (now (row .entry)) ⌝ }
+// Writes the named program for p, r, k and the variant into the buffer: 1, 2, 3, 4, 5, else the word count.
+pub fn build(p: u32, r: u32, k: u32, variant: u32, buffer: &mut [u32]) -> NumberAnswer
+    ensures { λ answer. ⌜ numberOutcomeOf answer ≡ buildOutcome p r k variant (length (now (buffer .entry))) ⌝ }
+    ensures { λ _. ⌜ now (buffer .exit) ≡ buildBuffer p r k variant (now (buffer .entry)) ⌝ }
 {
     if is_bad_modulus(p) {
         return NumberAnswer::Refused(Refusal::Modulus);
@@ -39,17 +39,17 @@ pub fn build(p: u32, r: u32, k: u32, variant: u32, row: &mut [u32]) -> NumberAns
     if inverse == 0 {
         return NumberAnswer::Refused(Refusal::Exponent);
     }
-    if is_unnamed(variant) {
+    if is_bad_variant(variant) {
         return NumberAnswer::Refused(Refusal::Variant);
     }
-    write(p, r, k, variant, forms(variant, r, k, inverse), row)
+    write(p, r, k, variant, forms(variant, r, k, inverse), buffer)
 }
 
 // The room, the header, the steps and the end, whatever the variant: 5, else the word count.
-fn write(p: u32, r: u32, k: u32, variant: u32, forms: FormRows, row: &mut [u32]) -> NumberAnswer
+fn write(p: u32, r: u32, k: u32, variant: u32, forms: FormRows, buffer: &mut [u32]) -> NumberAnswer
     requires { ⌜ Writable p r k variant ⌝ }
-    requires { ⌜ Given variant r k forms ⌝ }
-    ensures { λ answer. ⌜ Built (namedWords p r k variant) (now (row .entry)) answer (now (row .exit)) ⌝ }
+    requires { ⌜ RowsFromTable variant r k forms ⌝ }
+    ensures { λ answer. ⌜ Built (namedWords p r k variant) (now (buffer .entry)) answer (now (buffer .exit)) ⌝ }
 {
     let figure = forms.figure;
     let steps = step_count(figure, forms.first_length, forms.last_length, forms.count);
@@ -61,10 +61,10 @@ fn write(p: u32, r: u32, k: u32, variant: u32, forms: FormRows, row: &mut [u32])
         steps: steps as u32,
     };
     let total = layout::word_count(header);
-    if row.len() < total {
+    if buffer.len() < total {
         return NumberAnswer::Refused(Refusal::Room);
     }
-    let at = layout::lay_out(row, header);
-    draw(row, at, forms);
+    let at = layout::lay_out(buffer, header);
+    draw(buffer, at, forms);
     NumberAnswer::Answered(total as u64)
 }

@@ -5,18 +5,18 @@
 ghost use mathlib.Core.Path.{_≡_};
 ghost use Prim.Native.Nat.{ℕ, _≤_, _^_, _<_};
 ghost use lib.ListN.{length, take, drop};
-ghost use Rattle.refusal.specs.Outcomes.{answered, numberOutcomeOf, numberIn, after};
+ghost use Rattle.refusal.specs.Outcomes.{answered, numberOutcomeOf, refusalNumber, after};
 ghost use Rattle.modular.specs.Inverses.{inverseOutcome};
 ghost use Rattle.fibonacci.specs.Hofstadter.{G};
 ghost use Rattle.fibonacci.specs.Height.{height};
-ghost use Rattle.fibonacci.specs.Services.{fibonacciOutcome, placesOutcome, placesRow, numberOutcome, bit};
-ghost use Rattle.program.specs.Services.{roomOutcome, buildOutcome, buildRow, checkOutcome};
+ghost use Rattle.fibonacci.specs.Services.{fibonacciOutcome, placesOutcome, placesBuffer, numberOutcome, bit};
+ghost use Rattle.program.specs.Services.{roomOutcome, buildOutcome, buildBuffer, checkOutcome};
 ghost use Rattle.sequencer.specs.Services.{loadOutcome, runOutcome, traceOutcome, cutOutcome, cutPart, cutStart, cutCount};
-ghost use Rattle.listing.specs.Listing.{listingOf, listingAnswer, listingRow};
-ghost use Rattle.text.specs.Reading.{wordsOf};
+ghost use Rattle.listing.specs.Listing.{listingOf, listingAnswer, listingBuffer};
+ghost use Rattle.text.specs.Reading.{splitWords};
 ghost use Rattle.text.specs.Rows.{Put};
 ghost use Rattle.tool.specs.Replies.{reply, readsTape};
-ghost use Rattle.tool.specs.Rows.{mostText};
+ghost use Rattle.tool.specs.Rows.{maxText};
 use memory::registers_in;
 use memory::store_exponents;
 use memory::store_registers;
@@ -26,7 +26,7 @@ use refusal::NumberAnswer;
 // A Fibonacci number by its index: 13.
 #[no_mangle]
 pub extern "C" fn fibexp_fibonacci(index: u32, value: &mut u64) -> u32
-    ensures { λ number. ⌜ number ≡ numberIn (fibonacciOutcome index) ⌝ }
+    ensures { λ number. ⌜ number ≡ refusalNumber (fibonacciOutcome index) ⌝ }
     ensures { λ _. ⌜ now (value .exit) ≡ after (fibonacciOutcome index) (now (value .entry)) ⌝ }
 {
     store_u64(zeckendorf::fibonacci(index), value)
@@ -35,8 +35,8 @@ pub extern "C" fn fibexp_fibonacci(index: u32, value: &mut u64) -> u32
 // Number to list: 5.
 #[no_mangle]
 pub extern "C" fn fibexp_places(n: u64, places: &mut [u8], count: &mut u32) -> u32
-    ensures { λ number. ⌜ number ≡ numberIn (placesOutcome n (length (now (places .entry)))) ⌝ }
-    ensures { λ _. ⌜ now (places .exit) ≡ placesRow n (now (places .entry)) ⌝ }
+    ensures { λ number. ⌜ number ≡ refusalNumber (placesOutcome n (length (now (places .entry)))) ⌝ }
+    ensures { λ _. ⌜ now (places .exit) ≡ placesBuffer n (now (places .entry)) ⌝ }
     ensures { λ _. ⌜ now (count .exit) ≡ after (placesOutcome n (length (now (places .entry)))) (now (count .entry)) ⌝ }
 {
     store_u32(zeckendorf::places(n, places), count)
@@ -45,7 +45,7 @@ pub extern "C" fn fibexp_places(n: u64, places: &mut [u8], count: &mut u32) -> u
 // List to number: 13, 12.
 #[no_mangle]
 pub extern "C" fn fibexp_number(places: &[u8], n: &mut u64) -> u32
-    ensures { λ number. ⌜ number ≡ numberIn (numberOutcome (now (places .entry))) ⌝ }
+    ensures { λ number. ⌜ number ≡ refusalNumber (numberOutcome (now (places .entry))) ⌝ }
     ensures { λ _. ⌜ now (n .exit) ≡ after (numberOutcome (now (places .entry))) (now (n .entry)) ⌝ }
 {
     store_u64(zeckendorf::number(places), n)
@@ -70,7 +70,7 @@ pub extern "C" fn fibexp_height(r: u32) -> u32
 // The inverse of k modulo r: 2, 3.
 #[no_mangle]
 pub extern "C" fn fibexp_inverse(k: u32, r: u32, inverse: &mut u32) -> u32
-    ensures { λ number. ⌜ number ≡ numberIn (inverseOutcome k r) ⌝ }
+    ensures { λ number. ⌜ number ≡ refusalNumber (inverseOutcome k r) ⌝ }
     ensures { λ _. ⌜ now (inverse .exit) ≡ after (inverseOutcome k r) (now (inverse .entry)) ⌝ }
 {
     store_u32(modular::inverse(k, r), inverse)
@@ -86,8 +86,8 @@ pub extern "C" fn fibexp_build(
     words: &mut [u32],
     count: &mut u32,
 ) -> u32
-    ensures { λ number. ⌜ number ≡ numberIn (buildOutcome p r k variant (length (now (words .entry)))) ⌝ }
-    ensures { λ _. ⌜ now (words .exit) ≡ buildRow p r k variant (now (words .entry)) ⌝ }
+    ensures { λ number. ⌜ number ≡ refusalNumber (buildOutcome p r k variant (length (now (words .entry)))) ⌝ }
+    ensures { λ _. ⌜ now (words .exit) ≡ buildBuffer p r k variant (now (words .entry)) ⌝ }
     ensures { λ _. ⌜ now (count .exit) ≡ after (buildOutcome p r k variant (length (now (words .entry)))) (now (count .entry)) ⌝ }
 {
     store_u32(building::build(p, r, k, variant, words), count)
@@ -96,7 +96,7 @@ pub extern "C" fn fibexp_build(
 // Check: 6, 7, 4, 1 and, for named programs, 2, 3, 8.
 #[no_mangle]
 pub extern "C" fn fibexp_check(tape: &[u32]) -> u32
-    ensures { λ number. ⌜ number ≡ numberIn (checkOutcome (now (tape .entry))) ⌝ }
+    ensures { λ number. ⌜ number ≡ refusalNumber (checkOutcome (now (tape .entry))) ⌝ }
 {
     match accepting::check(tape) {
         NumberAnswer::Answered(accepted) => 0,
@@ -107,7 +107,7 @@ pub extern "C" fn fibexp_check(tape: &[u32]) -> u32
 // Load: check's refusals, 9, 11.
 #[no_mangle]
 pub extern "C" fn fibexp_load(tape: &[u32], base: u32, registers: &mut [u32; 4]) -> u32
-    ensures { λ number. ⌜ number ≡ numberIn (loadOutcome (now (tape .entry)) base) ⌝ }
+    ensures { λ number. ⌜ number ≡ refusalNumber (loadOutcome (now (tape .entry)) base) ⌝ }
     ensures { λ _. ⌜ now (registers .exit) ≡ after (loadOutcome (now (tape .entry)) base) (now (registers .entry)) ⌝ }
 {
     store_registers(running::load(tape, base), registers)
@@ -116,7 +116,7 @@ pub extern "C" fn fibexp_load(tape: &[u32], base: u32, registers: &mut [u32; 4])
 // Run, in place: check's refusals, 9, 10.
 #[no_mangle]
 pub extern "C" fn fibexp_run(tape: &[u32], registers: &mut [u32; 4], from: u32, to: u32) -> u32
-    ensures { λ number. ⌜ number ≡ numberIn (runOutcome (now (tape .entry)) (now (registers .entry)) from to) ⌝ }
+    ensures { λ number. ⌜ number ≡ refusalNumber (runOutcome (now (tape .entry)) (now (registers .entry)) from to) ⌝ }
     ensures { λ _. ⌜ now (registers .exit) ≡ after (runOutcome (now (tape .entry)) (now (registers .entry)) from to) (now (registers .entry)) ⌝ }
 {
     let held = registers_in(*registers);
@@ -126,7 +126,7 @@ pub extern "C" fn fibexp_run(tape: &[u32], registers: &mut [u32; 4], from: u32, 
 // Trace: check's refusals, 10, 12.
 #[no_mangle]
 pub extern "C" fn fibexp_trace(tape: &[u32], position: u32, exponents: &mut [i64; 4]) -> u32
-    ensures { λ number. ⌜ number ≡ numberIn (traceOutcome (now (tape .entry)) position) ⌝ }
+    ensures { λ number. ⌜ number ≡ refusalNumber (traceOutcome (now (tape .entry)) position) ⌝ }
     ensures { λ _. ⌜ now (exponents .exit) ≡ after (traceOutcome (now (tape .entry)) position) (now (exponents .entry)) ⌝ }
 {
     store_exponents(inspecting::trace(tape, position), exponents)
@@ -141,7 +141,7 @@ pub extern "C" fn fibexp_cut(
     start: &mut u32,
     count: &mut u32,
 ) -> u32
-    ensures { λ number. ⌜ number ≡ numberIn (cutOutcome (now (tape .entry)) first last) ⌝ }
+    ensures { λ number. ⌜ number ≡ refusalNumber (cutOutcome (now (tape .entry)) first last) ⌝ }
     ensures { λ _. ⌜ now (start .exit) ≡ after (cutStart (now (tape .entry)) first last) (now (start .entry)) ⌝ }
     ensures { λ _. ⌜ now (count .exit) ≡ after (cutCount (now (tape .entry)) first last) (now (count .entry)) ⌝ }
     ensures { λ number. ⌜ (number ≡ 0 → take (now (count .exit)) (drop (now (start .exit)) (now (tape .entry))) ≡ cutPart (cutOutcome (now (tape .entry)) first last)) ⌝ }
@@ -161,7 +161,7 @@ pub extern "C" fn fibexp_cut(
 #[no_mangle]
 pub extern "C" fn fibexp_listing(bytes: &[u8], lines: &mut [u8], written: &mut u32) -> u32
     ensures { λ number. ⌜ number ≡ listingAnswer (now (bytes .entry)) (length (now (lines .entry))) .number ⌝ }
-    ensures { λ _. ⌜ now (lines .exit) ≡ listingRow (now (bytes .entry)) (now (lines .entry)) ⌝ }
+    ensures { λ _. ⌜ now (lines .exit) ≡ listingBuffer (now (bytes .entry)) (now (lines .entry)) ⌝ }
     ensures { λ _. ⌜ now (written .exit) ≡ after (roomOutcome (listingOf (now (bytes .entry))) (length (now (lines .entry)))) (now (written .entry)) ⌝ }
 {
     let listed = lister::listing(bytes, lines);
@@ -174,7 +174,7 @@ pub extern "C" fn fibexp_listing(bytes: &[u8], lines: &mut [u8], written: &mut u
 }
 
 // The tool's reply to a command line and standard input: its status, 0 answered, 1 refused, 2 not understood. Its text is put from the
-// row's start, and `written` is how many bytes of it stand there; in a row of `tool::MOST_TEXT` bytes or more, all. The arguments are the
+// buffer's start, and `written` is how many bytes of it stand there; in a row of `tool::MAX_TEXT` bytes or more, all. The arguments are the
 // words after the tool's name, a zero byte after each.
 #[no_mangle]
 pub extern "C" fn fibexp_reply(
@@ -183,9 +183,9 @@ pub extern "C" fn fibexp_reply(
     text: &mut [u8],
     written: &mut usize,
 ) -> u32
-    ensures { λ status. ⌜ status ≡ reply (wordsOf (now (arguments .entry))) (now (input .entry)) .status ⌝ }
-    ensures { λ _. ⌜ Put (now (text .entry)) 0 (reply (wordsOf (now (arguments .entry))) (now (input .entry)) .text) (now (written .exit)) (now (text .exit)) ⌝ }
-    ensures { λ _. ⌜ length (reply (wordsOf (now (arguments .entry))) (now (input .entry)) .text) ≤ mostText ⌝ }
+    ensures { λ status. ⌜ status ≡ reply (splitWords (now (arguments .entry))) (now (input .entry)) .status ⌝ }
+    ensures { λ _. ⌜ Put (now (text .entry)) 0 (reply (splitWords (now (arguments .entry))) (now (input .entry)) .text) (now (written .exit)) (now (text .exit)) ⌝ }
+    ensures { λ _. ⌜ length (reply (splitWords (now (arguments .entry))) (now (input .entry)) .text) ≤ maxText ⌝ }
 {
     let told = command::reply(arguments, input, text);
     *written = told.length;
@@ -195,7 +195,7 @@ pub extern "C" fn fibexp_reply(
 // 1 where the tool reads a tape from standard input for a command line, else 0.
 #[no_mangle]
 pub extern "C" fn fibexp_reads(arguments: &[u8]) -> u32
-    ensures { λ r. ⌜ r ≡ bit (readsTape (wordsOf (now (arguments .entry)))) ⌝ }
+    ensures { λ r. ⌜ r ≡ bit (readsTape (splitWords (now (arguments .entry)))) ⌝ }
 {
     if command::reads_tape(arguments) {
         return 1;
@@ -206,7 +206,7 @@ pub extern "C" fn fibexp_reads(arguments: &[u8]) -> u32
 // Stores an answer that fits 32 bits.
 fn store_u32(answer: NumberAnswer, place: &mut u32) -> u32
     requires { ⌜ ((x : ℕ) → numberOutcomeOf answer ≡ answered x → x < 2 ^ 32) ⌝ }
-    ensures { λ n. ⌜ n ≡ numberIn (numberOutcomeOf answer) ⌝ }
+    ensures { λ n. ⌜ n ≡ refusalNumber (numberOutcomeOf answer) ⌝ }
     ensures { λ _. ⌜ now (place .exit) ≡ after (numberOutcomeOf answer) (now (place .entry)) ⌝ }
 {
     match answer {

@@ -6,8 +6,8 @@ mod values;
 ghost use mathlib.Core.Path.{_≡_};
 ghost use Prim.Native.Nat.{_≤_};
 ghost use lib.ListN.{length};
-ghost use Rattle.text.specs.Reading.{wordsOf};
-ghost use Rattle.tool.specs.Verbs.{mostParameters, limitOf};
+ghost use Rattle.text.specs.Reading.{splitWords};
+ghost use Rattle.tool.specs.Verbs.{maxParameters, limitOf};
 ghost use Rattle.tool.specs.Calls.{askedBy};
 ghost use Rattle.tool.specs.Replies.{means, ownIn, replyTo, reply, answers, verbIn, readsTape, readsScript, writesTape};
 ghost use Rattle.tool.specs.Texts.{usage, versionLine};
@@ -21,10 +21,10 @@ use encoding::WORD_BYTES;
 use encoding::tape_words;
 use numbers::build;
 use numbers::on_numbers;
-use parsing::word;
+use parsing::nth_word;
 use putting::put;
 use refusal::Refusal;
-use tape::MOST_WORDS;
+use tape::MAX_WORDS;
 use tapes::on_tape;
 use tool::ANSWERED;
 use tool::Call;
@@ -37,11 +37,11 @@ use verbs::takes_lines;
 use verbs::takes_tape;
 
 // The tool's reply to a command line and standard input. The arguments are the words after the tool's name, a zero byte after each. The
-// text is put from the row's start; in a row of `tool::MOST_TEXT` bytes or more it stands whole.
+// text is put from the buffer's start; in a row of `tool::MAX_TEXT` bytes or more it stands whole.
 pub fn reply(arguments: &[u8], input: &[u8], text: &mut [u8]) -> Reply
-    ensures { λ r. ⌜ Told (now (text .entry)) (reply (wordsOf (now (arguments .entry))) (now (input .entry))) r (now (text .exit)) ⌝ }
+    ensures { λ r. ⌜ Told (now (text .entry)) (reply (splitWords (now (arguments .entry))) (now (input .entry))) r (now (text .exit)) ⌝ }
 {
-    let mut row = [0u32; MOST_WORDS];
+    let mut row = [0u32; MAX_WORDS];
     let count = tape_words(input, &mut row);
     let whole = input.len() % WORD_BYTES == 0;
     let tape = &row[..count];
@@ -58,19 +58,19 @@ pub fn reply_on(
     tapes: &[u32],
     text: &mut [u8],
 ) -> Reply
-    ensures { λ r. ⌜ Told (now (text .entry)) (replyTo (askedBy in_script (wordsOf (now (arguments .entry)))) whole (now (tape .entry)) (now (tapes .entry))) r (now (text .exit)) ⌝ }
+    ensures { λ r. ⌜ Told (now (text .entry)) (replyTo (askedBy in_script (splitWords (now (arguments .entry)))) whole (now (tape .entry)) (now (tapes .entry))) r (now (text .exit)) ⌝ }
 {
     let line = understand(arguments, in_script);
     let call = line.call;
     let values = line.values;
     match call {
         Call::NoWord => complaint(put_usage(text)),
-        Call::NoVerb => complaint(put_no_verb(text, word(arguments, 0))),
+        Call::NoVerb => complaint(put_no_verb(text, nth_word(arguments, 0))),
         Call::WrongCount { row, given } => {
-            complaint(put_wrong_count(text, word(arguments, 0), row, given))
+            complaint(put_wrong_count(text, nth_word(arguments, 0), row, given))
         }
         Call::Unread { row, index } => {
-            complaint(put_unread(text, word(arguments, index), row, index - 1))
+            complaint(put_unread(text, nth_word(arguments, index), row, index - 1))
         }
         Call::Known { row, count } => perform(row, whole, &values[..count], tape, tapes, text),
     }
@@ -78,28 +78,28 @@ pub fn reply_on(
 
 // Whether the tool reads a tape from standard input for a command line.
 pub fn reads_tape(arguments: &[u8]) -> bool
-    ensures { λ r. ⌜ r ≡ readsTape (wordsOf (now (arguments .entry))) ⌝ }
+    ensures { λ r. ⌜ r ≡ readsTape (splitWords (now (arguments .entry))) ⌝ }
 {
     takes_tape(verb_in(arguments))
 }
 
 // Whether it reads a script.
 pub fn reads_script(arguments: &[u8]) -> bool
-    ensures { λ r. ⌜ r ≡ readsScript (wordsOf (now (arguments .entry))) ⌝ }
+    ensures { λ r. ⌜ r ≡ readsScript (splitWords (now (arguments .entry))) ⌝ }
 {
     takes_lines(verb_in(arguments))
 }
 
 // Whether its reply, where it is answered, is the bytes of a tape.
 pub fn writes_tape(arguments: &[u8]) -> bool
-    ensures { λ r. ⌜ r ≡ writesTape (wordsOf (now (arguments .entry))) ⌝ }
+    ensures { λ r. ⌜ r ≡ writesTape (splitWords (now (arguments .entry))) ⌝ }
 {
     gives_tape(verb_in(arguments))
 }
 
 // The verb of a command line that is understood.
 fn verb_in(arguments: &[u8]) -> Verb
-    ensures { λ verb. ⌜ verb ≡ verbIn (wordsOf (now (arguments .entry))) ⌝ }
+    ensures { λ verb. ⌜ verb ≡ verbIn (splitWords (now (arguments .entry))) ⌝ }
 {
     let line = understand(arguments, false);
     let call = line.call;
@@ -130,7 +130,7 @@ fn perform(
     tapes: &[u32],
     text: &mut [u8],
 ) -> Reply
-    requires { ⌜ (length (now values) ≤ mostParameters) × Within (limitOf (row .verb)) (now values) ⌝ }
+    requires { ⌜ (length (now values) ≤ maxParameters) × Within (limitOf (row .verb)) (now values) ⌝ }
     ensures { λ r. ⌜ Told (now (text .entry)) (means (row .verb) (ownIn row whole) (now (values .entry)) (now (tape .entry)) (now (tapes .entry))) r (now (text .exit)) ⌝ }
 {
     let own = own_in(row, whole);

@@ -3,7 +3,7 @@ ghost use mathlib.Core.Path.{_≡_};
 ghost use mathlib.Core.List.{[], _∷_};
 ghost use Prim.Native.Nat.{_≤_};
 ghost use lib.ListN.{length};
-ghost use Rattle.tool.specs.Verbs.{largest8, largest32, mostParameters, limitOn};
+ghost use Rattle.tool.specs.Verbs.{largest8, largest32, maxParameters, limitOn};
 ghost use Rattle.fibonacci.specs.Services.{bit};
 ghost use Rattle.tool.specs.Replies.{built, numberReply};
 ghost use Rattle.tool.specs.Rows.{Told, Within};
@@ -17,15 +17,15 @@ use printing::answer;
 use printing::number;
 use printing::refuse;
 use refusal::NumberAnswer;
-use tape::MOST_WORDS;
+use tape::MAX_WORDS;
 use tool::ANSWERED;
-use tool::MOST_PARAMETERS;
+use tool::MAX_PARAMETERS;
 use tool::NumberVerb;
 use tool::Reply;
 
 // A verb on its parameters.
 pub(crate) fn on_numbers(verb: NumberVerb, own: u32, values: &[u64], text: &mut [u8]) -> Reply
-    requires { ⌜ (length (now values) ≤ mostParameters) × Within (limitOn verb) (now values) ⌝ }
+    requires { ⌜ (length (now values) ≤ maxParameters) × Within (limitOn verb) (now values) ⌝ }
     ensures { λ r. ⌜ Told (now (text .entry)) (numberReply verb own (now (values .entry))) r (now (text .exit)) ⌝ }
 {
     match verb {
@@ -71,7 +71,7 @@ pub(crate) fn build(own: u32, values: &[u64], text: &mut [u8]) -> Reply
     requires { ⌜ Within largest32 (now values) ⌝ }
     ensures { λ r. ⌜ Told (now (text .entry)) (built own (now (values .entry))) r (now (text .exit)) ⌝ }
 {
-    let mut row = [0u32; MOST_WORDS];
+    let mut row = [0u32; MAX_WORDS];
     let p = small(values, 0);
     let r = small(values, 1);
     let k = small(values, 2);
@@ -103,10 +103,10 @@ fn places(n: u64, text: &mut [u8]) -> Reply
 
 // The number of a list of places.
 fn number_of(own: u32, values: &[u64], text: &mut [u8]) -> Reply
-    requires { ⌜ (length (now values) ≤ mostParameters) × Within largest8 (now values) ⌝ }
+    requires { ⌜ (length (now values) ≤ maxParameters) × Within largest8 (now values) ⌝ }
     ensures { λ r. ⌜ Told (now (text .entry)) (numberReply NumberVerb.NumberOf own (now (values .entry))) r (now (text .exit)) ⌝ }
 {
-    let mut row = [0u8; MOST_PARAMETERS];
+    let mut row = [0u8; MAX_PARAMETERS];
     let count = bytes(values, &mut row);
     answer(text, own, zeckendorf::number(&row[..count]))
 }

@@ -11,7 +11,7 @@ ghost use Rattle.sequencer.specs.Services.{runOutcome, cutOutcome};
 ghost use Rattle.machine.specs.Machine.{valuesOf};
 ghost use Rattle.sequencer.specs.Lists.{requestsOf};
 ghost use Rattle.listing.specs.Listing.{linesFor};
-ghost use Rattle.tool.specs.Verbs.{largest32, mostParameters};
+ghost use Rattle.tool.specs.Verbs.{largest32, maxParameters};
 ghost use Rattle.tool.specs.Replies.{answers, printed, registersIn, runsTold, played, tapeReply};
 ghost use Rattle.tool.specs.Rows.{Told, Within};
 use crate::values::past_registers;
@@ -26,7 +26,7 @@ use printing::forward;
 use printing::refuse;
 use printing::standing;
 use tool::ANSWERED;
-use tool::MOST_PARAMETERS;
+use tool::MAX_PARAMETERS;
 use tool::Reply;
 use tool::TapeVerb;
 
@@ -45,7 +45,7 @@ pub(crate) fn on_tape(
     tapes: &[u32],
     text: &mut [u8],
 ) -> Reply
-    requires { ⌜ (length (now values) ≤ mostParameters) × Within largest32 (now values) ⌝ }
+    requires { ⌜ (length (now values) ≤ maxParameters) × Within largest32 (now values) ⌝ }
     ensures { λ r. ⌜ Told (now (text .entry)) (tapeReply verb own (now (values .entry)) (now (tape .entry)) (now (tapes .entry))) r (now (text .exit)) ⌝ }
 {
     match verb {
@@ -98,13 +98,13 @@ fn cut(own: u32, tape: &[u32], first: u32, last: u32, text: &mut [u8]) -> Reply
 
 // A list of runs: four registers, then the requests. Told are the registers at its end, then each run's number.
 fn play(values: &[u64], tapes: &[u32], text: &mut [u8]) -> Reply
-    requires { ⌜ (length (now values) ≤ mostParameters) × Within largest32 (now values) ⌝ }
+    requires { ⌜ (length (now values) ≤ maxParameters) × Within largest32 (now values) ⌝ }
     ensures { λ r. ⌜ Told (now (text .entry)) (played (now (values .entry)) (now (tapes .entry))) r (now (text .exit)) ⌝ }
 {
-    let mut row = [0u32; MOST_PARAMETERS];
+    let mut row = [0u32; MAX_PARAMETERS];
     let count = words(values, &mut row);
     let requests = past_registers(&row[..count]);
-    let mut told = [0u32; MOST_PARAMETERS];
+    let mut told = [0u32; MAX_PARAMETERS];
     let length = runs(tapes, requests, registers(values), &mut told);
     Reply {
         status: ANSWERED,

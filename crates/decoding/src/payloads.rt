@@ -1,7 +1,7 @@
 // What a word's payload means, by its kind.
 ghost use mathlib.Core.Path.{_≡_};
 ghost use Rattle.tape.specs.declared.Step.the-variants.{Mul, Div};
-ghost use Rattle.tape.specs.Words.{headingIn, areApart, actionIn, swapIn};
+ghost use Rattle.tape.specs.Words.{headingIn, areDistinct, actionIn, swapIn};
 use tape::Decoded;
 use tape::FORMAT;
 use tape::FORMATS;
@@ -33,7 +33,7 @@ pub(crate) fn heading_in(payload: u32) -> Decoded
 pub(crate) fn multiplication_in(payload: u32) -> Decoded
     ensures { λ d. ⌜ d ≡ actionIn Mul payload ⌝ }
 {
-    if !are_apart(payload) {
+    if !are_distinct(payload) {
         return Decoded::Bad;
     }
     Decoded::Action(Step::Mul(payload % REGISTERS, payload / REGISTERS))
@@ -43,7 +43,7 @@ pub(crate) fn multiplication_in(payload: u32) -> Decoded
 pub(crate) fn division_in(payload: u32) -> Decoded
     ensures { λ d. ⌜ d ≡ actionIn Div payload ⌝ }
 {
-    if !are_apart(payload) {
+    if !are_distinct(payload) {
         return Decoded::Bad;
     }
     Decoded::Action(Step::Div(payload % REGISTERS, payload / REGISTERS))
@@ -63,8 +63,8 @@ pub(crate) fn swap_in(payload: u32) -> Decoded
 }
 
 // A payload holds two registers that differ.
-fn are_apart(payload: u32) -> bool
-    ensures { λ r. ⌜ r ≡ areApart payload ⌝ }
+fn are_distinct(payload: u32) -> bool
+    ensures { λ r. ⌜ r ≡ areDistinct payload ⌝ }
 {
     if REGISTER_PAIRS <= payload {
         return false;

@@ -9,8 +9,8 @@ use crate::payloads::REGISTERS;
 use tape::NUMBER_LIMIT;
 use tape::Step;
 
-// Whether a word is a step's. Its kinds are told apart by arithmetic: a way of its own for each would cost a wrong guess of the
-// processor at most steps.
+// Whether a word is a step's. Its kinds are told apart by arithmetic: a branch for each is mispredicted at most
+// steps.
 pub fn is_step(word: u32) -> bool
     ensures { λ r. ⌜ r ≡ eqb (sortOf (decoded word)) 5 ⌝ }
 {

@@ -1,4 +1,4 @@
 -- A bounded search and small divisors, in reading order.
 pub mod Search
 pub mod Small
-pub mod Inverted
+pub mod Inner

@@ -6,7 +6,7 @@ ghost use mathlib.Core.Path.{_≡_};
 ghost use Prim.Native.Nat.{_≤_};
 ghost use lib.ListN.{length};
 ghost use Rattle.divisors.specs.Small.{hasSmallDivisor};
-ghost use Rattle.divisors.specs.Inverted.{quotientBy, isQuotient, FirstAtMost, TellsOf};
+ghost use Rattle.divisors.specs.Inner.Inverted.{quotientBy, isQuotient, FirstAtMost, DividesBy};
 use table::INVERSES;
 
 // Whether a number from 2 to 2^14, other than p, divides p.
@@ -26,7 +26,7 @@ pub fn has_small_divisor(p: u32) -> bool
 // is above p / (2 i + 5). Few of the other products are as small, and a division tells those apart.
 fn has_divisor_of(p: u32, inverses: &[u32]) -> bool
     requires { ⌜ length (now inverses) ≤ 65536 ⌝ }
-    ensures { λ r. ⌜ TellsOf (now (inverses .entry)) p r ⌝ }
+    ensures { λ r. ⌜ DividesBy (now (inverses .entry)) p r ⌝ }
 {
     let mut i: usize = 0;
     while i < inverses.len() {

@@ -2,12 +2,12 @@
 ghost use mathlib.Core.Path.{_≡_};
 ghost use Prim.Native.Nat.{_≤_};
 ghost use lib.ListN.{length, take};
-ghost use Rattle.scripting.specs.Script.{mostPrinted, lineDone};
+ghost use Rattle.scripting.specs.Script.{maxPrinted, lineDone};
 ghost use Rattle.scripting.specs.States.{capacityOf, stateIn, insideOf};
 use libc::STDIN_FILENO;
 use script::line;
-use scripting::MOST_PRINTED;
-use scripting::MOST_TAPES;
+use scripting::MAX_PRINTED;
+use scripting::MAX_TAPES;
 use scripting::Marks;
 use scripting::Printed;
 use scripting::START;
@@ -29,11 +29,11 @@ const LINE_BYTES: usize = 4096;
 const PIECE_BYTES: usize = 65536;
 
 // A script has at most so many pieces, which is far above any use: a program ends on every input.
-const MOST_PIECES: u64 = 1099511627776;
+const MAX_PIECES: u64 = 1099511627776;
 
 // Reads a script from standard input, and prints what each line comes to.
 pub fn run_script() {
-    let mut tapes = [0u32; MOST_TAPES];
+    let mut tapes = [0u32; MAX_TAPES];
     let mut held = [0u8; LINE_BYTES];
     let mut piece = [0u8; PIECE_BYTES];
     let mut pending = Pending {
@@ -42,7 +42,7 @@ pub fn run_script() {
         failed: false,
     };
     let mut pieces: u64 = 0;
-    while pieces < MOST_PIECES {
+    while pieces < MAX_PIECES {
         let got = libc::read(STDIN_FILENO, &mut piece);
         if got < 0 {
             os::fail(b"fibexp: standard input");
@@ -106,7 +106,7 @@ fn end_line(held: &[u8], tapes: &mut [u32], pending: Pending) -> Pending
     requires { ⌜ pending .length ≤ length (now held) ⌝ }
     ensures { λ r. ⌜ r .length ≤ 0 ⌝ }
 {
-    let mut text = [0u8; MOST_PRINTED];
+    let mut text = [0u8; MAX_PRINTED];
     let length = pending.length;
     let before = pending.marks;
     let printed = whole_line(&held[..length], tapes, before, &mut text);
@@ -122,7 +122,7 @@ fn end_line(held: &[u8], tapes: &mut [u32], pending: Pending) -> Pending
 
 // The line in a row that nothing it prints is too long for: nothing of it is dropped.
 fn whole_line(held: &[u8], tapes: &mut [u32], marks: Marks, text: &mut [u8]) -> Printed
-    requires { ⌜ mostPrinted ≤ length (now text) ⌝ }
+    requires { ⌜ maxPrinted ≤ length (now text) ⌝ }
     ensures { λ r. ⌜ take (r .length) (now (text .exit)) ≡ lineDone (capacityOf (now (tapes .entry))) (now (held .entry)) (stateIn (insideOf marks (capacityOf (now (tapes .entry)))) (now (tapes .entry))) .text ⌝ }
     ensures { λ r. ⌜ r .length ≤ length (now (text .exit)) ⌝ }
 {

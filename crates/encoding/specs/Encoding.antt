@@ -4,15 +4,15 @@ use mathlib.Core.List.{List, [], _∷_}
 use Prim.Native.Nat.{ℕ, _+_, _*_, _/_, _%_}
 use lib.Dec.{ltb, eqb}
 use lib.ListN.{length}
-use Rattle.tape.specs.Layout.{mostWords}
+use Rattle.tape.specs.Layout.{maxWords}
 
 -- the bytes of a word
 abbrev pub wordBytes : ℕ
 wordBytes = 4
 
 -- the most bytes of a tape: 2048
-abbrev pub mostBytes : ℕ
-mostBytes = wordBytes * mostWords
+abbrev pub maxBytes : ℕ
+maxBytes = wordBytes * maxWords
 
 -- four bytes, least significant first
 abbrev pub wordOf : ℕ → ℕ → ℕ → ℕ → ℕ
@@ -33,7 +33,7 @@ bytesOf (w ∷ words) = w % 256 ∷ w / 256 % 256 ∷ w / 65536 % 256 ∷ w / 16
 
 -- above the most bytes of a tape, or not a multiple of 4
 unfoldable pub noTape : List ℕ → Bool
-noTape bytes = ltb mostBytes (length bytes) || not (eqb (length bytes % wordBytes) 0)
+noTape bytes = ltb maxBytes (length bytes) || not (eqb (length bytes % wordBytes) 0)
 
 -- the tape that bytes give; those that are no tape give the empty one, which is too short to be laid out (`words-none` of Laws/Cases)
 unfoldable pub tapeIn : List ℕ → List ℕ

@@ -1,2 +1,2 @@
--- A tape as bytes, as document 01's "Listing" has it.
+-- A tape as bytes, as REQUIREMENTS 11 has it.
 pub mod Encoding

@@ -6,16 +6,16 @@ ghost use Rattle.text.specs.Rows.{Put};
 ghost use Rattle.encoding.specs.Encoding.{wordOf, tapeOf};
 use crate::WORD_BYTES;
 
-// Writes the words from the row's start, and answers how many they are; up to three bytes left over are no word.
-pub(crate) fn words(bytes: &[u8], row: &mut [u32]) -> usize
-    requires { ⌜ length (now bytes) / 4 ≤ length (now row) ⌝ }
-    ensures { λ count. ⌜ Put (now (row .entry)) 0 (tapeOf (now (bytes .entry))) count (now (row .exit)) ⌝ }
+// Writes the words from the buffer's start, and answers how many they are; up to three bytes left over are no word.
+pub(crate) fn words(bytes: &[u8], buffer: &mut [u32]) -> usize
+    requires { ⌜ length (now bytes) / 4 ≤ length (now buffer) ⌝ }
+    ensures { λ count. ⌜ Put (now (buffer .entry)) 0 (tapeOf (now (bytes .entry))) count (now (buffer .exit)) ⌝ }
 {
     let count = bytes.len() / WORD_BYTES;
     let mut i: usize = 0;
     while i < count {
         let at = WORD_BYTES * i;
-        row[i] = word(bytes[at], bytes[at + 1], bytes[at + 2], bytes[at + 3]);
+        buffer[i] = word(bytes[at], bytes[at + 1], bytes[at + 2], bytes[at + 3]);
         i += 1;
     }
     i

@@ -3,34 +3,34 @@
 ghost use mathlib.Core.Path.{_≡_};
 ghost use Prim.Native.Nat.{_≤_};
 ghost use lib.ListN.{length, take};
-ghost use Rattle.text.specs.Reading.{wordsOf};
+ghost use Rattle.text.specs.Reading.{splitWords};
 ghost use Rattle.tool.specs.Replies.{reply};
-ghost use Rattle.tool.specs.Rows.{mostText};
+ghost use Rattle.tool.specs.Rows.{maxText};
 use command::reads_script;
 use command::reads_tape;
 use command::reply;
 use command::writes_tape;
 use driver::run_script;
-use encoding::MOST_BYTES;
+use encoding::MAX_BYTES;
 use encoding::WORD_BYTES;
 use libc::STDERR_FILENO;
 use libc::STDOUT_FILENO;
 use streams::read_input;
 use streams::write_output;
 use tool::ANSWERED;
-use tool::MOST_TEXT;
+use tool::MAX_TEXT;
 use tool::Reply;
 
 // One word more than a tape has is enough to see that there are too many.
-const MOST_READ: usize = MOST_BYTES + WORD_BYTES;
+const MAX_READ: usize = MAX_BYTES + WORD_BYTES;
 
 // The words of a command line, a zero byte after each.
-const MOST_ARGUMENTS: usize = 4096;
+const MAX_ARGUMENTS: usize = 4096;
 
 fn main() {
-    let mut arguments = [0u8; MOST_ARGUMENTS];
+    let mut arguments = [0u8; MAX_ARGUMENTS];
     let count = gather(&mut arguments);
-    if count == MOST_ARGUMENTS {
+    if count == MAX_ARGUMENTS {
         io::write_all(
             STDERR_FILENO,
             b"fibexp: a command line of more than 4095 bytes\n",
@@ -83,7 +83,7 @@ fn answer(arguments: &[u8]) {
         write(arguments, b"");
         return;
     }
-    let mut bytes = [0u8; MOST_READ];
+    let mut bytes = [0u8; MAX_READ];
     let input = read_input(&mut bytes);
     if input.failed {
         return;
@@ -94,7 +94,7 @@ fn answer(arguments: &[u8]) {
 
 // Writes the reply to the stream that its status names.
 fn write(arguments: &[u8], input: &[u8]) {
-    let mut text = [0u8; MOST_TEXT];
+    let mut text = [0u8; MAX_TEXT];
     let made = whole_reply(arguments, input, &mut text);
     let count = made.length;
     if made.status != ANSWERED {
@@ -113,10 +113,10 @@ fn write(arguments: &[u8], input: &[u8]) {
 
 // The reply in a row that no reply is too long for: nothing of it is dropped.
 fn whole_reply(arguments: &[u8], input: &[u8], text: &mut [u8]) -> Reply
-    requires { ⌜ mostText ≤ length (now text) ⌝ }
-    ensures { λ r. ⌜ take (r .length) (now (text .exit)) ≡ reply (wordsOf (now (arguments .entry))) (now (input .entry)) .text ⌝ }
+    requires { ⌜ maxText ≤ length (now text) ⌝ }
+    ensures { λ r. ⌜ take (r .length) (now (text .exit)) ≡ reply (splitWords (now (arguments .entry))) (now (input .entry)) .text ⌝ }
     ensures { λ r. ⌜ r .length ≤ length (now (text .exit)) ⌝ }
-    ensures { λ r. ⌜ r .status ≡ reply (wordsOf (now (arguments .entry))) (now (input .entry)) .status ⌝ }
+    ensures { λ r. ⌜ r .status ≡ reply (splitWords (now (arguments .entry))) (now (input .entry)) .status ⌝ }
 {
     reply(arguments, input, text)
 }

@@ -5,7 +5,7 @@ use Prim.Native.Nat.{ℕ, _-_, _^_}
 use lib.Dec.{leb, ltb}
 use lib.ListN.{length, replicate}
 use Rattle.refusal.specs.declared.Refusal.the-variants.{Room, Range, Index}
-use Rattle.refusal.specs.Outcomes.{Outcome, outcome, _given-if_, rowAfter}
+use Rattle.refusal.specs.Outcomes.{Outcome, outcome, _given-if_, bufferAfter}
 use Rattle.fibonacci.specs.Fibonacci.{fib}
 use Rattle.fibonacci.specs.Forms.{pad, zeckendorf, places, weight, arePlaces}
 
@@ -47,8 +47,8 @@ unfoldable pub placesOutcome : ℕ → ℕ → Outcome ℕ
 placesOutcome n room = outcome ((Room given-if ltb room (length (placesOf n))) ∷ []) (length (placesOf n))
 
 -- and the row at exit
-unfoldable pub placesRow : ℕ → List ℕ → List ℕ
-placesRow n row = rowAfter (placesOutcome n (length row)) (placesOf n) row
+unfoldable pub placesBuffer : ℕ → List ℕ → List ℕ
+placesBuffer n row = bufferAfter (placesOutcome n (length row)) (placesOf n) row
 
 -- the number that a list stands for, where it fits 64 bits
 unfoldable pub totalOutcome : List ℕ → Outcome ℕ

@@ -1,4 +1,4 @@
-// Document 01, "Numbers the steps stand on": Fibonacci numbers, Zeckendorf forms, Hofstadter's G and h. The definitions and laws of this
+// REQUIREMENTS 2: Fibonacci numbers, Zeckendorf forms, Hofstadter's G and h. The definitions and laws of this
 // layer, and the types that they name; it has no functions.
 
 // The Zeckendorf form of a 64-bit number: its places, highest first, and their count; zeros past them.

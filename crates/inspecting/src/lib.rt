@@ -1,7 +1,7 @@
 // Trace and cut: what a tape shows without a run.
 ghost use mathlib.Core.Path.{_≡_};
 ghost use mathlib.Core.Bool.{true};
-ghost use Rattle.refusal.specs.Outcomes.{answered, numberIn};
+ghost use Rattle.refusal.specs.Outcomes.{answered, refusalNumber};
 ghost use Rattle.tape.specs.Layout.{stepsIn};
 ghost use Rattle.machine.specs.Exponents.{exponentsOutcomeOf, allInRange, staysInRange, shiftAll};
 ghost use Rattle.program.specs.Services.{acceptOutcome};
@@ -34,7 +34,7 @@ pub fn trace(tape: &[u32], position: u32) -> ExponentsAnswer
 // check's refusals, 10.
 pub fn cut<'a>(tape: &'a [u32], first: u32, last: u32, number: &mut u32) -> &'a [u32]
     ensures { λ part. ⌜ now part ≡ cutPart (cutOutcome (now (tape .entry)) first last) ⌝ }
-    ensures { λ _. ⌜ now (number .exit) ≡ numberIn (cutOutcome (now (tape .entry)) first last) ⌝ }
+    ensures { λ _. ⌜ now (number .exit) ≡ refusalNumber (cutOutcome (now (tape .entry)) first last) ⌝ }
 {
     match accepting::accept(tape) {
         HeaderAnswer::Refused(e) => {
@@ -86,7 +86,7 @@ fn cut_accepted<'a>(
 ) -> &'a [u32]
     requires { ⌜ acceptOutcome (now tape) ≡ answered header ⌝ }
     ensures { λ part. ⌜ now part ≡ cutPart (cutOutcome (now (tape .entry)) first last) ⌝ }
-    ensures { λ _. ⌜ now (number .exit) ≡ numberIn (cutOutcome (now (tape .entry)) first last) ⌝ }
+    ensures { λ _. ⌜ now (number .exit) ≡ refusalNumber (cutOutcome (now (tape .entry)) first last) ⌝ }
 {
     if is_bad_cut(header.steps, first, last) {
         *number = refusal::number(Refusal::Position);

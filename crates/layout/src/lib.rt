@@ -3,7 +3,7 @@ mod rules;
 
 ghost use mathlib.Core.Path.{_≡_};
 ghost use lib.ListN.{length};
-ghost use Rattle.tape.specs.Layout.{headerOutcome, readOutcome, headerOutcomeOf, wordCount, layBegin, laidRow};
+ghost use Rattle.tape.specs.Layout.{headerOutcome, readOutcome, headerOutcomeOf, wordCount, layBegin, laidBuffer};
 use parts::steps;
 use refusal::Refusal;
 use rules::are_steps;
@@ -62,21 +62,21 @@ pub fn word_count(header: Header) -> usize
 }
 
 // Lays a tape out: writes the words before the steps and the word past them, and answers the index of the first step's word. Where
-// the row is too short or a number doesn't fit its word, it writes nothing and answers 0.
-pub fn lay_out(row: &mut [u32], header: Header) -> usize
-    ensures { λ begin. ⌜ begin ≡ layBegin header (length (now (row .entry))) ⌝ }
-    ensures { λ begin. ⌜ now (row .exit) ≡ laidRow header (now (row .entry)) ⌝ }
+// the buffer is too short or a number doesn't fit its word, it writes nothing and answers 0.
+pub fn lay_out(buffer: &mut [u32], header: Header) -> usize
+    ensures { λ begin. ⌜ begin ≡ layBegin header (length (now (buffer .entry))) ⌝ }
+    ensures { λ begin. ⌜ now (buffer .exit) ≡ laidBuffer header (now (buffer .entry)) ⌝ }
 {
-    if row.len() < word_count(header) {
+    if buffer.len() < word_count(header) {
         return 0;
     }
     if !numbers_fit(header) {
         return 0;
     }
-    row[0] = NUMBER_LIMIT + (FORMAT + FORMATS * header.variant);
-    row[1] = 2 * NUMBER_LIMIT + header.modulus;
-    row[2] = 3 * NUMBER_LIMIT + header.order;
-    row[3] = 4 * NUMBER_LIMIT + header.exponent;
-    row[HEADER_WORDS + header.steps as usize] = 15 * NUMBER_LIMIT + header.steps;
+    buffer[0] = NUMBER_LIMIT + (FORMAT + FORMATS * header.variant);
+    buffer[1] = 2 * NUMBER_LIMIT + header.modulus;
+    buffer[2] = 3 * NUMBER_LIMIT + header.order;
+    buffer[3] = 4 * NUMBER_LIMIT + header.exponent;
+    buffer[HEADER_WORDS + header.steps as usize] = 15 * NUMBER_LIMIT + header.steps;
     HEADER_WORDS
 }

@@ -3,13 +3,13 @@ ghost use mathlib.Core.Path.{_≡_};
 ghost use Prim.Native.Nat.{_≤_};
 ghost use lib.ListN.{length};
 ghost use Rattle.tape.specs.Words.{decoded};
-ghost use Rattle.tape.specs.Layout.{mostWords, stepCount, endAt, sortOf, valueOf, meansAt, headerOf, isLength, isHeader, isFreeOrNamed, allSteps, isEnd, numbersFit};
+ghost use Rattle.tape.specs.Layout.{maxWords, stepCount, endAt, sortOf, valueOf, meansAt, headerOf, isLength, isHeader, isFreeOrNamed, allSteps, isEnd, numbersFit};
 use decoding::decode;
 use decoding::is_step;
 use tape::Decoded;
 use tape::HEADER_WORDS;
 use tape::Header;
-use tape::MOST_WORDS;
+use tape::MAX_WORDS;
 use tape::NUMBER_LIMIT;
 use tape::OTHER_WORDS;
 
@@ -23,7 +23,7 @@ pub(crate) fn is_length(tape: &[u32]) -> bool
     if tape.len() < OTHER_WORDS {
         return false;
     }
-    tape.len() <= MOST_WORDS
+    tape.len() <= MAX_WORDS
 }
 
 // Words of kind 1, 2, 3, 4 come first, in that order.
@@ -44,7 +44,7 @@ pub(crate) fn is_header(tape: &[u32]) -> bool
 
 // What a tape gives beside its steps.
 pub(crate) fn header_of(tape: &[u32]) -> Header
-    requires { ⌜ length (now tape) ≤ mostWords ⌝ }
+    requires { ⌜ length (now tape) ≤ maxWords ⌝ }
     ensures { λ h. ⌜ h ≡ headerOf (now (tape .entry)) ⌝ }
 {
     Header {

@@ -1,2 +1,2 @@
--- Document 01, "Listing".
+-- REQUIREMENTS 11.
 pub mod Listing

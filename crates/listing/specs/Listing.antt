@@ -3,11 +3,11 @@ use mathlib.Core.List.{List, [], _∷_, _++_}
 use Prim.Native.Nat.{ℕ, _+_, _*_}
 use lib.ListN.{length}
 use Rattle.refusal.specs.declared.Refusal.the-variants.{Length}
-use Rattle.refusal.specs.Outcomes.{Outcome, Rule, refused, answered, outcome, _given-if_, numberIn, rowAfter}
+use Rattle.refusal.specs.Outcomes.{Outcome, Rule, refused, answered, outcome, _given-if_, refusalNumber, bufferAfter}
 use Rattle.tape.specs.declared.Step.{Step}
 use Rattle.tape.specs.declared.Step.the-variants.{Mul, Div, Swp}
 use Rattle.tape.specs.declared.Header.{Header}
-use Rattle.tape.specs.Layout.{mostSteps, headerOf, stepsOf}
+use Rattle.tape.specs.Layout.{maxSteps, headerOf, stepsOf}
 use Rattle.encoding.specs.Encoding.{tapeOf, noTape}
 use Rattle.named.specs.Named.{variantNames, variantName, longest}
 use Rattle.program.specs.Services.{roomOutcome, checkRules}
@@ -26,7 +26,7 @@ listingOutcome bytes = outcome (listingRules bytes) (headerOf (tapeOf bytes))
 
 -- 0 where the tape is accepted
 abbrev pub listingNumber : List ℕ → ℕ
-listingNumber bytes = numberIn (listingOutcome bytes)
+listingNumber bytes = refusalNumber (listingOutcome bytes)
 
 -- ---- its lines
 
@@ -68,8 +68,8 @@ unfoldable pub listingOf : List ℕ → List ℕ
 listingOf bytes = linesFor (listingOutcome bytes) (stepsOf (tapeOf bytes))
 
 -- no listing is longer (`listing-most` of Laws/Lengths): 47 bytes and a variant's name for the first line, 12 for each step
-abbrev pub mostWritten : ℕ
-mostWritten = 47 + longest variantNames + mostSteps * 12
+abbrev pub maxWritten : ℕ
+maxWritten = 47 + longest variantNames + maxSteps * 12
 
 -- ---- the service, into a row that is lent
 
@@ -82,5 +82,5 @@ unfoldable pub listingAnswer : List ℕ → ℕ → Listed
 listingAnswer bytes room = listedAs (roomOutcome (listingOf bytes) room) (listingNumber bytes)
 
 -- and the row at exit
-unfoldable pub listingRow : List ℕ → List ℕ → List ℕ
-listingRow bytes row = rowAfter (roomOutcome (listingOf bytes) (length row)) (listingOf bytes) row
+unfoldable pub listingBuffer : List ℕ → List ℕ → List ℕ
+listingBuffer bytes row = bufferAfter (roomOutcome (listingOf bytes) (length row)) (listingOf bytes) row

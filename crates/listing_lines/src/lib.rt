@@ -7,7 +7,7 @@ ghost use Rattle.named.specs.Named.{variantName};
 ghost use Rattle.listing.specs.Listing.{refusedLine, firstLine, namedLine, stepLine, stepLines};
 use decoding::nth_step;
 use named::VARIANT_NAMES;
-use parsing::word;
+use parsing::nth_word;
 use putting::put;
 use putting::put_number_then;
 use putting::put_then;
@@ -33,69 +33,74 @@ const DIV: [u8; 3] = *b"div";
 const SWP: [u8; 3] = *b"swp";
 
 // The line of a refusal, with its number.
-pub fn refused_line(row: &mut [u8], at: usize, n: u32) -> usize
-    ensures { λ next. ⌜ Put (now (row .entry)) at (refusedLine n) next (now (row .exit)) ⌝ }
+pub fn refused_line(buffer: &mut [u8], at: usize, n: u32) -> usize
+    ensures { λ next. ⌜ Put (now (buffer .entry)) at (refusedLine n) next (now (buffer .exit)) ⌝ }
 {
-    let b = put_then(row, at, &REFUSED, BLANK);
-    put_number_then(row, b, n as u64, NEWLINE)
+    let b = put_then(buffer, at, &REFUSED, BLANK);
+    put_number_then(buffer, b, n as u64, NEWLINE)
 }
 
 // The first line: the variant's name, p, r, k and the step count.
-pub fn first_line(row: &mut [u8], at: usize, header: Header) -> usize
-    ensures { λ next. ⌜ Put (now (row .entry)) at (firstLine header) next (now (row .exit)) ⌝ }
+pub fn first_line(buffer: &mut [u8], at: usize, header: Header) -> usize
+    ensures { λ next. ⌜ Put (now (buffer .entry)) at (firstLine header) next (now (buffer .exit)) ⌝ }
 {
-    let b = variant_name(row, at, header.variant);
-    let c = labelled(row, b, &P, header.modulus, BLANK);
-    let d = labelled(row, c, &R, header.order, BLANK);
-    let e = labelled(row, d, &K, header.exponent, BLANK);
-    labelled(row, e, &STEPS, header.steps, NEWLINE)
+    let b = variant_name(buffer, at, header.variant);
+    let c = labelled(buffer, b, &P, header.modulus, BLANK);
+    let d = labelled(buffer, c, &R, header.order, BLANK);
+    let e = labelled(buffer, d, &K, header.exponent, BLANK);
+    labelled(buffer, e, &STEPS, header.steps, NEWLINE)
 }
 
 // A line for each step, numbered from 1.
-pub fn step_lines(row: &mut [u8], at: usize, words: &[u32]) -> usize
-    ensures { λ next. ⌜ Put (now (row .entry)) at (stepLines 1 (stepsIn (now (words .entry)))) next (now (row .exit)) ⌝ }
+pub fn step_lines(buffer: &mut [u8], at: usize, words: &[u32]) -> usize
+    ensures { λ next. ⌜ Put (now (buffer .entry)) at (stepLines 1 (stepsIn (now (words .entry)))) next (now (buffer .exit)) ⌝ }
 {
     let mut next = at;
     let mut i: usize = 0;
     while i < words.len() {
-        next = step_line(row, next, i as u64 + 1, nth_step(words, i));
+        next = step_line(buffer, next, i as u64 + 1, nth_step(words, i));
         i += 1;
     }
     next
 }
 
 // A step's line.
-fn step_line(row: &mut [u8], at: usize, n: u64, step: Step) -> usize
-    ensures { λ next. ⌜ Put (now (row .entry)) at (stepLine n step) next (now (row .exit)) ⌝ }
+fn step_line(buffer: &mut [u8], at: usize, n: u64, step: Step) -> usize
+    ensures { λ next. ⌜ Put (now (buffer .entry)) at (stepLine n step) next (now (buffer .exit)) ⌝ }
 {
     match step {
-        Step::Mul(target, source) => named_line(row, at, n, &MUL, target, source),
-        Step::Div(target, source) => named_line(row, at, n, &DIV, target, source),
-        Step::Swp(target, source) => named_line(row, at, n, &SWP, target, source),
+        Step::Mul(target, source) => named_line(buffer, at, n, &MUL, target, source),
+        Step::Div(target, source) => named_line(buffer, at, n, &DIV, target, source),
+        Step::Swp(target, source) => named_line(buffer, at, n, &SWP, target, source),
     }
 }
 
 // A step's number, its name, target and source.
-fn named_line(row: &mut [u8], at: usize, n: u64, name: &[u8], target: u32, source: u32) -> usize
-    ensures { λ next. ⌜ Put (now (row .entry)) at (namedLine n (now (name .entry)) target source) next (now (row .exit)) ⌝ }
+fn named_line(buffer: &mut [u8], at: usize, n: u64, name: &[u8], target: u32, source: u32) -> usize
+    ensures { λ next. ⌜ Put (now (buffer .entry)) at (namedLine n (now (name .entry)) target source) next (now (buffer .exit)) ⌝ }
 {
-    let b = put_number_then(row, at, n, BLANK);
-    let c = put_then(row, b, name, BLANK);
-    let d = put_number_then(row, c, target as u64, BLANK);
-    put_number_then(row, d, source as u64, NEWLINE)
+    let b = put_number_then(buffer, at, n, BLANK);
+    let c = put_then(buffer, b, name, BLANK);
+    let d = put_number_then(buffer, c, target as u64, BLANK);
+    put_number_then(buffer, d, source as u64, NEWLINE)
 }
 
 // The name of a variant, and a blank.
-fn variant_name(row: &mut [u8], at: usize, variant: u32) -> usize
-    ensures { λ next. ⌜ Put (now (row .entry)) at (variantName variant ++ blank ∷ []) next (now (row .exit)) ⌝ }
+fn variant_name(buffer: &mut [u8], at: usize, variant: u32) -> usize
+    ensures { λ next. ⌜ Put (now (buffer .entry)) at (variantName variant ++ blank ∷ []) next (now (buffer .exit)) ⌝ }
 {
-    put_then(row, at, word(&VARIANT_NAMES, variant as usize), BLANK)
+    put_then(
+        buffer,
+        at,
+        nth_word(&VARIANT_NAMES, variant as usize),
+        BLANK,
+    )
 }
 
 // A number behind its label, and a byte.
-fn labelled(row: &mut [u8], at: usize, label: &[u8], n: u32, last: u8) -> usize
-    ensures { λ next. ⌜ Put (now (row .entry)) at (now (label .entry) ++ decimal n ++ last ∷ []) next (now (row .exit)) ⌝ }
+fn labelled(buffer: &mut [u8], at: usize, label: &[u8], n: u32, last: u8) -> usize
+    ensures { λ next. ⌜ Put (now (buffer .entry)) at (now (label .entry) ++ decimal n ++ last ∷ []) next (now (buffer .exit)) ⌝ }
 {
-    let b = put(row, at, label);
-    put_number_then(row, b, n as u64, last)
+    let b = put(buffer, at, label);
+    put_number_then(buffer, b, n as u64, last)
 }

@@ -1,4 +1,4 @@
--- Document 01, "Services and refusals", trace: each register's whole exponent, unreduced, minus signs kept.
+-- REQUIREMENTS 8, trace: each register's whole exponent, unreduced, minus signs kept.
 use mathlib.Core.Bool.{Bool, true, cond, _&&_}
 use mathlib.Core.List.{List, [], _∷_}
 use Prim.Native.Nat.{ℕ, suc, _-_, _%_, _^_}

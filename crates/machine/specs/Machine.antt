@@ -28,10 +28,10 @@ apply p (Div t s) v = set v t (times p (reg v t) (inverse p (reg v s)))
 apply p (Swp t s) v = set (set v t (reg v s)) s (reg v t)
 
 -- undone, mul is div, div is mul, swp is swp
-unfoldable pub opposite : Step → Step
-opposite (Mul t s) = Div t s
-opposite (Div t s) = Mul t s
-opposite (Swp t s) = Swp t s
+unfoldable pub inverseStep : Step → Step
+inverseStep (Mul t s) = Div t s
+inverseStep (Div t s) = Mul t s
+inverseStep (Swp t s) = Swp t s
 
 -- the steps of a list done one after another, and undone from the last to the first
 unfoldable pub doAll : ℕ → List Step → List ℕ → List ℕ
@@ -40,19 +40,19 @@ doAll p (x ∷ xs) v = doAll p xs (apply p x v)
 
 unfoldable pub undoAll : ℕ → List Step → List ℕ → List ℕ
 undoAll p [] v = v
-undoAll p (x ∷ xs) v = apply p (opposite x) (undoAll p xs v)
+undoAll p (x ∷ xs) v = apply p (inverseStep x) (undoAll p xs v)
 
 -- From position i to position j: the steps numbered i + 1 to j done, or those numbered j + 1 to i undone.
 unfoldable pub run : ℕ → List Step → ℕ → ℕ → List ℕ → List ℕ
 run p xs i j v = cond (leb i j) (doAll p (slice i j xs) v) (undoAll p (slice j i xs) v)
 
 -- a list of steps taken back: the opposite steps in reverse order
-unfoldable pub back : List Step → List Step
-back [] = []
-back (x ∷ xs) = back xs ++ opposite x ∷ []
+unfoldable pub inverted : List Step → List Step
+inverted [] = []
+inverted (x ∷ xs) = inverted xs ++ inverseStep x ∷ []
 
 -- four residues
-pub record Good (p : ℕ) (v : List ℕ) : Type 0 where
+pub record Residues (p : ℕ) (v : List ℕ) : Type 0 where
   pub four : length v ≡ 4
   pub residue : (i : ℕ) → i < 4 → Residue p (reg v i)
 

@@ -1,4 +1,4 @@
-// Document 01, "Machine and variants": four registers, what a step makes of them modulo p, and of their whole exponents. The definitions
+// REQUIREMENTS 3: four registers, what a step makes of them modulo p, and of their whole exponents. The definitions
 // and laws of this layer, and the types that they name; it has no functions.
 use refusal::Refusal;
 

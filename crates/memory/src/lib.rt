@@ -1,7 +1,7 @@
 // Between the caller's memory and the services' values: an answer is stored and 0 comes back, a refusal stores nothing and its number
 // comes back.
 ghost use mathlib.Core.Path.{_≡_};
-ghost use Rattle.refusal.specs.Outcomes.{numberOutcomeOf, numberIn, after};
+ghost use Rattle.refusal.specs.Outcomes.{numberOutcomeOf, refusalNumber, after};
 ghost use Rattle.machine.specs.Machine.{valuesOf};
 ghost use Rattle.machine.specs.Exponents.{exponentsOutcomeOf};
 ghost use Rattle.sequencer.specs.Services.{registersOutcomeOf};
@@ -12,7 +12,7 @@ use register_steps::registers_of;
 use sequencer::RegistersAnswer;
 
 pub fn store_u64(answer: NumberAnswer, place: &mut u64) -> u32
-    ensures { λ n. ⌜ n ≡ numberIn (numberOutcomeOf answer) ⌝ }
+    ensures { λ n. ⌜ n ≡ refusalNumber (numberOutcomeOf answer) ⌝ }
     ensures { λ _. ⌜ now (place .exit) ≡ after (numberOutcomeOf answer) (now (place .entry)) ⌝ }
 {
     match answer {
@@ -25,7 +25,7 @@ pub fn store_u64(answer: NumberAnswer, place: &mut u64) -> u32
 }
 
 pub fn store_registers(answer: RegistersAnswer, row: &mut [u32; 4]) -> u32
-    ensures { λ n. ⌜ n ≡ numberIn (registersOutcomeOf answer) ⌝ }
+    ensures { λ n. ⌜ n ≡ refusalNumber (registersOutcomeOf answer) ⌝ }
     ensures { λ _. ⌜ now (row .exit) ≡ after (registersOutcomeOf answer) (now (row .entry)) ⌝ }
 {
     match answer {
@@ -38,7 +38,7 @@ pub fn store_registers(answer: RegistersAnswer, row: &mut [u32; 4]) -> u32
 }
 
 pub fn store_exponents(answer: ExponentsAnswer, row: &mut [i64; 4]) -> u32
-    ensures { λ n. ⌜ n ≡ numberIn (exponentsOutcomeOf answer) ⌝ }
+    ensures { λ n. ⌜ n ≡ refusalNumber (exponentsOutcomeOf answer) ⌝ }
     ensures { λ _. ⌜ now (row .exit) ≡ after (exponentsOutcomeOf answer) (now (row .entry)) ⌝ }
 {
     match answer {

@@ -1,4 +1,4 @@
--- Document 01, "Numbers the steps stand on": the inverse of k modulo r, and the inverse service.
+-- REQUIREMENTS 2: the inverse of k modulo r, and the inverse service.
 use mathlib.Core.Path.{_≡_}
 use mathlib.Core.Bool.{Bool, _&&_, _||_}
 use mathlib.Core.List.{[], _∷_}

@@ -1,4 +1,4 @@
--- Document 01, "Bench figures": those with a star, each beside what document 01 says.
+-- REQUIREMENTS 12: those with a star, each beside what document 01 says.
 use mathlib.Core.Path.{_≡_}
 use mathlib.Core.List.{List, [], _∷_, map}
 use Prim.Native.Nat.{ℕ, suc, _*_}

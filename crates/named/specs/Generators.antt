@@ -1,4 +1,4 @@
--- Document 01, "Machine and variants": the steps of a program, generated from Fibonacci forms (lists of bits, place 1 first).
+-- REQUIREMENTS 4: the steps of a program, generated from Fibonacci forms (lists of bits, place 1 first).
 use mathlib.Core.Path.{_≡_}
 use mathlib.Core.Bool.{Bool, true, false}
 use mathlib.Core.List.{List, [], _∷_, _++_}
@@ -8,7 +8,7 @@ use Rattle.fibonacci.specs.Forms.{pad}
 use Rattle.tape.specs.declared.Step.{Step}
 use Rattle.tape.specs.declared.Step.the-variants.{Mul, Swp}
 use Rattle.modular.specs.Residues.{Residue}
-use Rattle.machine.specs.Machine.{back, doAll, undoAll, start}
+use Rattle.machine.specs.Machine.{inverted, doAll, undoAll, start}
 use Rattle.named.specs.declared.Figure.{Figure}
 use Rattle.named.specs.declared.Figure.the-variants.{Two, Four, Six}
 
@@ -47,15 +47,15 @@ descend (b ∷ bs) = descend bs ++ downSteps b
 
 -- Figure 2: up the form of k and the chain back; swap; the chain up and the form of K back
 unfoldable pub basic : List Bool → List Bool → List Step
-basic ks Ks = ascend ks [] ++ (back (chain (length ks)) ++ Swp 1 2 ∷ (chain (length Ks) ++ back (ascend Ks [])))
+basic ks Ks = ascend ks [] ++ (inverted (chain (length ks)) ++ Swp 1 2 ∷ (chain (length Ks) ++ inverted (ascend Ks [])))
 
 -- Figure 4: up two forms; swap both pairs; two forms back
 unfoldable pub dual : List Bool → List Bool → List Bool → List Bool → List Step
-dual ss ts Ss Ts = ascend ss ts ++ Swp 0 2 ∷ Swp 1 3 ∷ back (ascend Ss Ts)
+dual ss ts Ss Ts = ascend ss ts ++ Swp 0 2 ∷ Swp 1 3 ∷ inverted (ascend Ss Ts)
 
 -- Figure 6: swp 0 1; down the form of v; the reordering; the form of K back
 unfoldable pub hybrid : List Bool → List Bool → List Step
-hybrid vs Ks = Swp 0 1 ∷ (descend vs ++ Swp 0 1 ∷ Swp 1 2 ∷ back (ascend Ks []))
+hybrid vs Ks = Swp 0 1 ∷ (descend vs ++ Swp 0 1 ∷ Swp 1 2 ∷ inverted (ascend Ks []))
 
 -- The forms that a program is drawn from, and the figure that draws it: `first` is the form of its first loop and `last` that of its
 -- last, which is taken back; Figure 4 selects two more beside them.
@@ -91,5 +91,5 @@ abbrev pub Raises : ℕ → ℕ → ℕ → List Step → Type 0
 Raises p r k xs = (a : ℕ) → Residue p a → a ^ r % p ≡ 1 → doAll p xs (start a) ≡ start (a ^ k % p)
 
 -- Undone, they take (1, b, 1, 1) to (1, b^K, 1, 1), for every b from 1 to p - 1 with b^r = 1 modulo p.
-abbrev pub Lowers : ℕ → ℕ → ℕ → List Step → Type 0
-Lowers p r K xs = (b : ℕ) → Residue p b → b ^ r % p ≡ 1 → undoAll p xs (start b) ≡ start (b ^ K % p)
+abbrev pub UndoneRaises : ℕ → ℕ → ℕ → List Step → Type 0
+UndoneRaises p r K xs = (b : ℕ) → Residue p b → b ^ r % p ≡ 1 → undoAll p xs (start b) ≡ start (b ^ K % p)

@@ -1,4 +1,4 @@
--- Document 01, refusal 8: steps are one of the programs that a list has, with the test that tells it (`one-of-member` and
+-- REQUIREMENTS 7.1, refusal 8: steps are one of the programs that a list has, with the test that tells it (`one-of-member` and
 -- `member-one-of` of proofs/Laws/Members).
 use mathlib.Core.Path.{_≡_}
 use mathlib.Core.Bool.{Bool, true, false, _&&_, _||_}

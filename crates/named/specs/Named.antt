@@ -10,7 +10,7 @@ use Rattle.fibonacci.specs.Fibonacci.{fib}
 use Rattle.fibonacci.specs.Forms.{pad, zeckendorf}
 use Rattle.fibonacci.specs.Height.{height, oddHeight}
 use Rattle.tape.specs.declared.Step.{Step}
-use Rattle.tape.specs.Layout.{Program, wordsOf}
+use Rattle.tape.specs.Layout.{Program, programWords}
 use Rattle.named.specs.declared.Figure.the-variants.{Two, Four, Six}
 use Rattle.named.specs.Generators.{Forms, lone, generated}
 
@@ -94,4 +94,4 @@ namedProgram p r k variant =
 
 -- the words of a named program
 abbrev pub namedWords : ℕ → ℕ → ℕ → ℕ → List ℕ
-namedWords p r k variant = wordsOf (namedProgram p r k variant)
+namedWords p r k variant = programWords (namedProgram p r k variant)

@@ -1,4 +1,4 @@
--- Document 01, "Services and refusals": what p, r, k and the variant of a named program may be. Each test says that a number is refused.
+-- REQUIREMENTS 7.1: what p, r, k and the variant of a named program may be. Each test says that a number is refused.
 use mathlib.Core.Bool.{Bool, not, _&&_, _||_, cond}
 use Prim.Native.Nat.{ℕ, _-_}
 use lib.Dec.{leb, ltb, eqb}
@@ -21,5 +21,5 @@ unfoldable pub goodInverse : ℕ → ℕ → ℕ
 goodInverse k r = cond (badExponent k r) 0 (inverse r k)
 
 -- refusal 4 in build: no variant of the table has the number
-unfoldable pub unnamed : ℕ → Bool
-unnamed variant = eqb variant 0 || ltb lastVariant variant
+unfoldable pub badVariant : ℕ → Bool
+badVariant variant = eqb variant 0 || ltb lastVariant variant

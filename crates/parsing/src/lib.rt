@@ -5,7 +5,7 @@ mod words;
 ghost use mathlib.Core.Path.{_≡_};
 ghost use mathlib.Core.List.{[]};
 ghost use lib.ListN.{length, getD};
-ghost use Rattle.text.specs.Reading.{numberIn, wordsOf};
+ghost use Rattle.text.specs.Reading.{parseNumber, splitWords};
 use numbers::in_base;
 use numbers::is_hexadecimal;
 use text::Parsed;
@@ -14,8 +14,8 @@ use words::word_begin;
 use words::word_end;
 
 // Reads a whole number: hexadecimal digits behind `0x`, or decimal ones; one or more, nothing else, and none above `most`.
-pub fn number(text: &[u8], most: u64) -> Parsed
-    ensures { λ r. ⌜ r ≡ numberIn most (now (text .entry)) ⌝ }
+pub fn parse_number(text: &[u8], most: u64) -> Parsed
+    ensures { λ r. ⌜ r ≡ parseNumber most (now (text .entry)) ⌝ }
 {
     if is_hexadecimal(text) {
         return in_base(&text[2..], most, 16);
@@ -25,7 +25,7 @@ pub fn number(text: &[u8], most: u64) -> Parsed
 
 // How many words arguments have.
 pub fn word_count(arguments: &[u8]) -> usize
-    ensures { λ count. ⌜ count ≡ length (wordsOf (now (arguments .entry))) ⌝ }
+    ensures { λ count. ⌜ count ≡ length (splitWords (now (arguments .entry))) ⌝ }
 {
     let mut count: usize = 0;
     let mut at: usize = 0;
@@ -37,8 +37,8 @@ pub fn word_count(arguments: &[u8]) -> usize
 }
 
 // The word of an index, from 0; the empty one past the last.
-pub fn word(arguments: &[u8], index: usize) -> &[u8]
-    ensures { λ r. ⌜ now r ≡ getD (wordsOf (now (arguments .entry))) index [] ⌝ }
+pub fn nth_word(arguments: &[u8], index: usize) -> &[u8]
+    ensures { λ r. ⌜ now r ≡ getD (splitWords (now (arguments .entry))) index [] ⌝ }
 {
     let begin = word_begin(arguments, index);
     let end = word_end(arguments, begin);

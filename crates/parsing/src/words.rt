@@ -2,12 +2,12 @@
 ghost use mathlib.Core.Path.{_≡_};
 ghost use Prim.Native.Nat.{_+_, _≤_, _<_};
 ghost use lib.ListN.{length, drop};
-ghost use Rattle.text.specs.Reading.{firstWord, pastWord, wordsOf};
+ghost use Rattle.text.specs.Reading.{firstWord, pastWord, splitWords};
 
 // Where the word of an index begins; past the last word, the length.
 pub(crate) fn word_begin(arguments: &[u8], index: usize) -> usize
     ensures { λ begin. ⌜ begin ≤ length (now (arguments .entry)) ⌝ }
-    ensures { λ begin. ⌜ wordsOf (drop begin (now (arguments .entry))) ≡ drop index (wordsOf (now (arguments .entry))) ⌝ }
+    ensures { λ begin. ⌜ splitWords (drop begin (now (arguments .entry))) ≡ drop index (splitWords (now (arguments .entry))) ⌝ }
 {
     let mut begin: usize = 0;
     let mut i: usize = 0;

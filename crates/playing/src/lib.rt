@@ -2,7 +2,7 @@
 ghost use mathlib.Core.Path.{_≡_};
 ghost use lib.ListN.{set};
 ghost use lib.Seq.{sets};
-ghost use Rattle.refusal.specs.Outcomes.{after, numberIn};
+ghost use Rattle.refusal.specs.Outcomes.{after, refusalNumber};
 ghost use Rattle.machine.specs.Machine.{valuesOf};
 ghost use Rattle.sequencer.specs.Services.{registersOutcomeOf};
 ghost use Rattle.sequencer.specs.Lists.{afterAll, numbersAll, requestsOf};
@@ -16,7 +16,7 @@ use sequencer::RegistersAnswer;
 const REQUEST_WORDS: usize = 4;
 
 // A list of runs, one after another, each on the registers that those before it left; the number of each, 0 or its refusal's, goes
-// into the lent row, as far as that has places. A request is four words: where its tape begins and ends in the row of tapes, and its
+// into the lent buffer, as far as that has places. A request is four words: where its tape begins and ends in the row of tapes, and its
 // two positions. A tape past that row is the empty one, so run refuses it with 6. Nothing is refused here: one to three words left
 // over are no request.
 pub fn play(tapes: &[u32], requests: &[u32], registers: Registers, numbers: &mut [u32]) -> Registers
@@ -51,7 +51,7 @@ fn after_run(answer: RegistersAnswer, registers: Registers) -> Registers
 
 // The number of a run, 0 or its refusal's, put into a row; past the row there is no place for it.
 fn note(numbers: &mut [u32], at: usize, answer: RegistersAnswer)
-    ensures { λ _. ⌜ now (numbers .exit) ≡ set (now (numbers .entry)) at (numberIn (registersOutcomeOf answer)) ⌝ }
+    ensures { λ _. ⌜ now (numbers .exit) ≡ set (now (numbers .entry)) at (refusalNumber (registersOutcomeOf answer)) ⌝ }
 {
     if at < numbers.len() {
         numbers[at] = number_of(answer);
@@ -59,7 +59,7 @@ fn note(numbers: &mut [u32], at: usize, answer: RegistersAnswer)
 }
 
 fn number_of(answer: RegistersAnswer) -> u32
-    ensures { λ n. ⌜ n ≡ numberIn (registersOutcomeOf answer) ⌝ }
+    ensures { λ n. ⌜ n ≡ refusalNumber (registersOutcomeOf answer) ⌝ }
 {
     match answer {
         RegistersAnswer::Answered(registers) => 0,

@@ -12,7 +12,7 @@ ghost use Rattle.tool.specs.Texts.{exponentsLine, powerLines, reasonFor};
 ghost use Rattle.tool.specs.Replies.{refuses, printed};
 ghost use Rattle.tool.specs.Rows.{Told};
 use machine::ExponentsAnswer;
-use parsing::word;
+use parsing::nth_word;
 use putting::put;
 use putting::put_number;
 use putting::put_then;
@@ -30,13 +30,13 @@ use tool::Reply;
 const REFUSED_TEXT: [u8; 16] = *b"fibexp: refused ";
 
 // A refusal, with what it is given for.
-pub fn refuse(row: &mut [u8], own: u32, number: u32) -> Reply
-    ensures { λ r. ⌜ Told (now (row .entry)) (refuses own number) r (now (row .exit)) ⌝ }
+pub fn refuse(buffer: &mut [u8], own: u32, number: u32) -> Reply
+    ensures { λ r. ⌜ Told (now (buffer .entry)) (refuses own number) r (now (buffer .exit)) ⌝ }
 {
-    let a = put(row, 0, &REFUSED_TEXT);
-    let b = put_number(row, a, number as u64);
-    let c = put(row, b, b": ");
-    let length = put_reason(row, c, own, number);
+    let a = put(buffer, 0, &REFUSED_TEXT);
+    let b = put_number(buffer, a, number as u64);
+    let c = put(buffer, b, b": ");
+    let length = put_reason(buffer, c, own, number);
     Reply {
         status: REFUSED,
         length,
@@ -44,51 +44,51 @@ pub fn refuse(row: &mut [u8], own: u32, number: u32) -> Reply
 }
 
 // What a refusal is given for, and the end of the line.
-fn put_reason(row: &mut [u8], at: usize, own: u32, number: u32) -> usize
-    ensures { λ next. ⌜ Put (now (row .entry)) at (reasonFor own number ++ newline ∷ []) next (now (row .exit)) ⌝ }
+fn put_reason(buffer: &mut [u8], at: usize, own: u32, number: u32) -> usize
+    ensures { λ next. ⌜ Put (now (buffer .entry)) at (reasonFor own number ++ newline ∷ []) next (now (buffer .exit)) ⌝ }
 {
     if number == own {
-        return put_then(row, at, word(&OWN_REASONS, number as usize), NEWLINE);
+        return put_then(buffer, at, nth_word(&OWN_REASONS, number as usize), NEWLINE);
     }
-    put_then(row, at, word(&REASONS, number as usize), NEWLINE)
+    put_then(buffer, at, nth_word(&REASONS, number as usize), NEWLINE)
 }
 
 // One number, or the refusal.
-pub fn answer(row: &mut [u8], own: u32, answer: NumberAnswer) -> Reply
-    ensures { λ r. ⌜ Told (now (row .entry)) (printed own (numberOutcomeOf answer) numberLine) r (now (row .exit)) ⌝ }
+pub fn answer(buffer: &mut [u8], own: u32, answer: NumberAnswer) -> Reply
+    ensures { λ r. ⌜ Told (now (buffer .entry)) (printed own (numberOutcomeOf answer) numberLine) r (now (buffer .exit)) ⌝ }
 {
     match answer {
-        NumberAnswer::Answered(n) => number(row, n),
-        NumberAnswer::Refused(e) => refuse(row, own, refusal::number(e)),
+        NumberAnswer::Answered(n) => number(buffer, n),
+        NumberAnswer::Refused(e) => refuse(buffer, own, refusal::number(e)),
     }
 }
 
 // Four registers, or the refusal.
-pub fn standing(row: &mut [u8], own: u32, answer: RegistersAnswer) -> Reply
-    ensures { λ r. ⌜ Told (now (row .entry)) (printed own (registersOutcomeOf answer) numbersLine) r (now (row .exit)) ⌝ }
+pub fn standing(buffer: &mut [u8], own: u32, answer: RegistersAnswer) -> Reply
+    ensures { λ r. ⌜ Told (now (buffer .entry)) (printed own (registersOutcomeOf answer) numbersLine) r (now (buffer .exit)) ⌝ }
 {
     match answer {
-        RegistersAnswer::Answered(values) => registers(row, values),
-        RegistersAnswer::Refused(e) => refuse(row, own, refusal::number(e)),
+        RegistersAnswer::Answered(values) => registers(buffer, values),
+        RegistersAnswer::Refused(e) => refuse(buffer, own, refusal::number(e)),
     }
 }
 
 // The same, with register 1 on a line of its own before them.
-pub fn forward(row: &mut [u8], own: u32, answer: RegistersAnswer) -> Reply
-    ensures { λ r. ⌜ Told (now (row .entry)) (printed own (registersOutcomeOf answer) powerLines) r (now (row .exit)) ⌝ }
+pub fn forward(buffer: &mut [u8], own: u32, answer: RegistersAnswer) -> Reply
+    ensures { λ r. ⌜ Told (now (buffer .entry)) (printed own (registersOutcomeOf answer) powerLines) r (now (buffer .exit)) ⌝ }
 {
     match answer {
-        RegistersAnswer::Answered(values) => power(row, values),
-        RegistersAnswer::Refused(e) => refuse(row, own, refusal::number(e)),
+        RegistersAnswer::Answered(values) => power(buffer, values),
+        RegistersAnswer::Refused(e) => refuse(buffer, own, refusal::number(e)),
     }
 }
 
 // Four exponents, or the refusal.
-pub fn trace(row: &mut [u8], own: u32, answer: ExponentsAnswer) -> Reply
-    ensures { λ r. ⌜ Told (now (row .entry)) (printed own (exponentsOutcomeOf answer) exponentsLine) r (now (row .exit)) ⌝ }
+pub fn trace(buffer: &mut [u8], own: u32, answer: ExponentsAnswer) -> Reply
+    ensures { λ r. ⌜ Told (now (buffer .entry)) (printed own (exponentsOutcomeOf answer) exponentsLine) r (now (buffer .exit)) ⌝ }
 {
     match answer {
-        ExponentsAnswer::Answered(values) => exponents(row, values),
-        ExponentsAnswer::Refused(e) => refuse(row, own, refusal::number(e)),
+        ExponentsAnswer::Answered(values) => exponents(buffer, values),
+        ExponentsAnswer::Refused(e) => refuse(buffer, own, refusal::number(e)),
     }
 }

@@ -21,56 +21,56 @@ use tool::ANSWERED;
 use tool::Reply;
 
 // A number on a line of its own.
-pub fn number(row: &mut [u8], n: u64) -> Reply
-    ensures { λ r. ⌜ Told (now (row .entry)) (answers (numberLine n)) r (now (row .exit)) ⌝ }
+pub fn number(buffer: &mut [u8], n: u64) -> Reply
+    ensures { λ r. ⌜ Told (now (buffer .entry)) (answers (numberLine n)) r (now (buffer .exit)) ⌝ }
 {
     Reply {
         status: ANSWERED,
-        length: number_line(row, 0, n),
+        length: number_line(buffer, 0, n),
     }
 }
 
 // The four registers on one line.
-pub(crate) fn registers(row: &mut [u8], registers: Registers) -> Reply
-    ensures { λ r. ⌜ Told (now (row .entry)) (answers (numbersLine (valuesOf registers))) r (now (row .exit)) ⌝ }
+pub(crate) fn registers(buffer: &mut [u8], registers: Registers) -> Reply
+    ensures { λ r. ⌜ Told (now (buffer .entry)) (answers (numbersLine (valuesOf registers))) r (now (buffer .exit)) ⌝ }
 {
     let values = [registers.c, registers.d, registers.e, registers.f];
     Reply {
         status: ANSWERED,
-        length: numbers_line(row, 0, &values),
+        length: numbers_line(buffer, 0, &values),
     }
 }
 
 // Register 1, and the four registers.
-pub(crate) fn power(row: &mut [u8], registers: Registers) -> Reply
-    ensures { λ r. ⌜ Told (now (row .entry)) (answers (powerLines (valuesOf registers))) r (now (row .exit)) ⌝ }
+pub(crate) fn power(buffer: &mut [u8], registers: Registers) -> Reply
+    ensures { λ r. ⌜ Told (now (buffer .entry)) (answers (powerLines (valuesOf registers))) r (now (buffer .exit)) ⌝ }
 {
-    let next = number_line(row, 0, registers.d as u64);
+    let next = number_line(buffer, 0, registers.d as u64);
     let values = [registers.c, registers.d, registers.e, registers.f];
     Reply {
         status: ANSWERED,
-        length: numbers_line(row, next, &values),
+        length: numbers_line(buffer, next, &values),
     }
 }
 
 // Four exponents on one line.
-pub(crate) fn exponents(row: &mut [u8], exponents: Exponents) -> Reply
-    ensures { λ r. ⌜ Told (now (row .entry)) (answers (exponentsLine (exponentsOf exponents))) r (now (row .exit)) ⌝ }
+pub(crate) fn exponents(buffer: &mut [u8], exponents: Exponents) -> Reply
+    ensures { λ r. ⌜ Told (now (buffer .entry)) (answers (exponentsLine (exponentsOf exponents))) r (now (buffer .exit)) ⌝ }
 {
-    let c = put_exponent(row, 0, exponents.c, BLANK);
-    let d = put_exponent(row, c, exponents.d, BLANK);
-    let e = put_exponent(row, d, exponents.e, BLANK);
+    let c = put_exponent(buffer, 0, exponents.c, BLANK);
+    let d = put_exponent(buffer, c, exponents.d, BLANK);
+    let e = put_exponent(buffer, d, exponents.e, BLANK);
     Reply {
         status: ANSWERED,
-        length: put_exponent(row, e, exponents.f, NEWLINE),
+        length: put_exponent(buffer, e, exponents.f, NEWLINE),
     }
 }
 
 // A whole number, and a byte.
-fn put_exponent(row: &mut [u8], at: usize, n: i64, last: u8) -> usize
-    ensures { λ next. ⌜ Put (now (row .entry)) at (whole n ++ last ∷ []) next (now (row .exit)) ⌝ }
+fn put_exponent(buffer: &mut [u8], at: usize, n: i64, last: u8) -> usize
+    ensures { λ next. ⌜ Put (now (buffer .entry)) at (whole n ++ last ∷ []) next (now (buffer .exit)) ⌝ }
     ensures { λ _. ⌜ length (whole n) ≤ 21 ⌝ }
 {
-    let next = put_whole(row, at, n);
-    put_byte(row, next, last)
+    let next = put_whole(buffer, at, n);
+    put_byte(buffer, next, last)
 }

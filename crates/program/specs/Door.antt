@@ -1,4 +1,4 @@
--- Document 01, "Services and refusals": a service on a tape refuses what check refuses, then by its own list, else it answers.
+-- REQUIREMENTS 8: a service on a tape refuses what check refuses, then by its own list, else it answers.
 use mathlib.Core.List.{List, _++_}
 use Prim.Native.Nat.{ℕ}
 use Rattle.refusal.specs.Outcomes.{Outcome, Rule, outcome}

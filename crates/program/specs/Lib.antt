@@ -2,6 +2,4 @@
 pub mod Services
 pub mod Door
 pub mod Same
-pub mod Forms
-pub mod Writing
-pub mod Building
+pub mod Inner

@@ -1,17 +1,17 @@
--- Document 01, "Services and refusals": build and check.
+-- REQUIREMENTS 8: build and check.
 use mathlib.Core.Bool.{Bool, not, _&&_}
 use mathlib.Core.List.{List, [], _∷_}
 use Prim.Native.Nat.{ℕ}
 use lib.Dec.{ltb, eqb}
 use lib.ListN.{length}
 use Rattle.refusal.specs.declared.Refusal.the-variants.{Modulus, Order, Exponent, Variant, Room, Length, Word, Mismatch}
-use Rattle.refusal.specs.Outcomes.{Outcome, Rule, outcome, _given-if_, rowAfter}
+use Rattle.refusal.specs.Outcomes.{Outcome, Rule, outcome, _given-if_, bufferAfter}
 use Rattle.modular.specs.Inverses.{badExponent}
 use Rattle.tape.specs.declared.Header.{Header}
 use Rattle.tape.specs.Layout.{headerOf, stepsOf, isLength, laidOut}
 use Rattle.named.specs.Named.{lastVariant, programsFor, namedWords}
 use Rattle.named.specs.Members.{isOneOf}
-use Rattle.named.specs.Parameters.{badModulus, badOrder, unnamed}
+use Rattle.named.specs.Parameters.{badModulus, badOrder, badVariant}
 
 -- refusal 5 for the words of a result, into a row of `room` words
 unfoldable pub roomOutcome : List ℕ → ℕ → Outcome ℕ
@@ -24,14 +24,14 @@ buildOutcome p r k variant room =
     ((Modulus given-if badModulus p)
     ∷ (Order given-if badOrder p r)
     ∷ (Exponent given-if badExponent k r)
-    ∷ (Variant given-if unnamed variant)
+    ∷ (Variant given-if badVariant variant)
     ∷ (Room given-if ltb room (length (namedWords p r k variant)))
     ∷ [])
     (length (namedWords p r k variant))
 
 -- and the row at exit
-unfoldable pub buildRow : ℕ → ℕ → ℕ → ℕ → List ℕ → List ℕ
-buildRow p r k variant row = rowAfter (buildOutcome p r k variant (length row)) (namedWords p r k variant) row
+unfoldable pub buildBuffer : ℕ → ℕ → ℕ → ℕ → List ℕ → List ℕ
+buildBuffer p r k variant row = bufferAfter (buildOutcome p r k variant (length row)) (namedWords p r k variant) row
 
 -- the program is named: its variant isn't 0
 abbrev pub isNamed : Header → Bool

@@ -11,16 +11,16 @@ pub use quoting::put_quoted;
 const MINUS: u8 = b'-';
 
 // Puts a text from `at` on, as much of it as fits, and answers the index past it.
-pub fn put(row: &mut [u8], at: usize, text: &[u8]) -> usize
-    ensures { λ next. ⌜ Put (now (row .entry)) at (now (text .entry)) next (now (row .exit)) ⌝ }
+pub fn put(buffer: &mut [u8], at: usize, text: &[u8]) -> usize
+    ensures { λ next. ⌜ Put (now (buffer .entry)) at (now (text .entry)) next (now (buffer .exit)) ⌝ }
 {
     let mut next = at;
     let mut i: usize = 0;
     while i < text.len() {
-        if row.len() <= next {
+        if buffer.len() <= next {
             return next;
         }
-        row[next] = text[i];
+        buffer[next] = text[i];
         next += 1;
         i += 1;
     }
@@ -28,50 +28,50 @@ pub fn put(row: &mut [u8], at: usize, text: &[u8]) -> usize
 }
 
 // Puts a byte.
-pub fn put_byte(row: &mut [u8], at: usize, byte: u8) -> usize
-    ensures { λ next. ⌜ Put (now (row .entry)) at (byte ∷ []) next (now (row .exit)) ⌝ }
+pub fn put_byte(buffer: &mut [u8], at: usize, byte: u8) -> usize
+    ensures { λ next. ⌜ Put (now (buffer .entry)) at (byte ∷ []) next (now (buffer .exit)) ⌝ }
 {
-    if row.len() <= at {
+    if buffer.len() <= at {
         return at;
     }
-    row[at] = byte;
+    buffer[at] = byte;
     at + 1
 }
 
 // Puts a number in decimal.
-pub fn put_number(row: &mut [u8], at: usize, n: u64) -> usize
-    ensures { λ next. ⌜ Put (now (row .entry)) at (decimal n) next (now (row .exit)) ⌝ }
+pub fn put_number(buffer: &mut [u8], at: usize, n: u64) -> usize
+    ensures { λ next. ⌜ Put (now (buffer .entry)) at (decimal n) next (now (buffer .exit)) ⌝ }
 {
     let mut digits = [0u8; 20];
     let count = io::decimal(n, &mut digits);
-    put(row, at, &digits[..count])
+    put(buffer, at, &digits[..count])
 }
 
 // Puts a text and a byte behind it.
-pub fn put_then(row: &mut [u8], at: usize, text: &[u8], last: u8) -> usize
-    ensures { λ next. ⌜ Put (now (row .entry)) at (now (text .entry) ++ last ∷ []) next (now (row .exit)) ⌝ }
+pub fn put_then(buffer: &mut [u8], at: usize, text: &[u8], last: u8) -> usize
+    ensures { λ next. ⌜ Put (now (buffer .entry)) at (now (text .entry) ++ last ∷ []) next (now (buffer .exit)) ⌝ }
 {
-    let next = put(row, at, text);
-    put_byte(row, next, last)
+    let next = put(buffer, at, text);
+    put_byte(buffer, next, last)
 }
 
 // Puts a number in decimal and a byte behind it.
-pub fn put_number_then(row: &mut [u8], at: usize, n: u64, last: u8) -> usize
-    ensures { λ next. ⌜ Put (now (row .entry)) at (decimal n ++ last ∷ []) next (now (row .exit)) ⌝ }
+pub fn put_number_then(buffer: &mut [u8], at: usize, n: u64, last: u8) -> usize
+    ensures { λ next. ⌜ Put (now (buffer .entry)) at (decimal n ++ last ∷ []) next (now (buffer .exit)) ⌝ }
 {
-    let next = put_number(row, at, n);
-    put_byte(row, next, last)
+    let next = put_number(buffer, at, n);
+    put_byte(buffer, next, last)
 }
 
 // Puts a whole number in decimal.
-pub fn put_whole(row: &mut [u8], at: usize, n: i64) -> usize
-    ensures { λ next. ⌜ Put (now (row .entry)) at (whole n) next (now (row .exit)) ⌝ }
+pub fn put_whole(buffer: &mut [u8], at: usize, n: i64) -> usize
+    ensures { λ next. ⌜ Put (now (buffer .entry)) at (whole n) next (now (buffer .exit)) ⌝ }
 {
     if n < 0 {
-        let next = put_byte(row, at, MINUS);
-        return put_number(row, next, magnitude(n));
+        let next = put_byte(buffer, at, MINUS);
+        return put_number(buffer, next, magnitude(n));
     }
-    put_number(row, at, magnitude(n))
+    put_number(buffer, at, magnitude(n))
 }
 
 // The number behind the sign. Below 0 it is made from -1 - n, since the opposite of the lowest i64 is none.

@@ -14,41 +14,41 @@ const BACKSLASH: u8 = 92;
 const SHOWN: usize = 64;
 
 // Puts a word in quotes, cut where it is long, each byte that has no glyph by its number.
-pub fn put_quoted(row: &mut [u8], at: usize, word: &[u8]) -> usize
-    ensures { λ next. ⌜ Put (now (row .entry)) at (quoted (now (word .entry))) next (now (row .exit)) ⌝ }
+pub fn put_quoted(buffer: &mut [u8], at: usize, word: &[u8]) -> usize
+    ensures { λ next. ⌜ Put (now (buffer .entry)) at (quoted (now (word .entry))) next (now (buffer .exit)) ⌝ }
 {
-    let open = put_byte(row, at, QUOTE);
+    let open = put_byte(buffer, at, QUOTE);
     if word.len() <= SHOWN {
-        let all = put_escapes(row, open, word);
-        return put_byte(row, all, QUOTE);
+        let all = put_escapes(buffer, open, word);
+        return put_byte(buffer, all, QUOTE);
     }
-    let part = put_escapes(row, open, &word[..SHOWN]);
-    let dots = put(row, part, b"...");
-    put_byte(row, dots, QUOTE)
+    let part = put_escapes(buffer, open, &word[..SHOWN]);
+    let dots = put(buffer, part, b"...");
+    put_byte(buffer, dots, QUOTE)
 }
 
 // Puts bytes, each escaped where it isn't plain.
-fn put_escapes(row: &mut [u8], at: usize, bytes: &[u8]) -> usize
-    ensures { λ next. ⌜ Put (now (row .entry)) at (escapes (now (bytes .entry))) next (now (row .exit)) ⌝ }
+fn put_escapes(buffer: &mut [u8], at: usize, bytes: &[u8]) -> usize
+    ensures { λ next. ⌜ Put (now (buffer .entry)) at (escapes (now (bytes .entry))) next (now (buffer .exit)) ⌝ }
 {
     let mut next = at;
     let mut i: usize = 0;
     while i < bytes.len() {
-        next = put_escaped(row, next, bytes[i]);
+        next = put_escaped(buffer, next, bytes[i]);
         i += 1;
     }
     next
 }
 
 // Puts a byte as itself, or by its number in two hexadecimal digits.
-fn put_escaped(row: &mut [u8], at: usize, byte: u8) -> usize
-    ensures { λ next. ⌜ Put (now (row .entry)) at (escaped byte) next (now (row .exit)) ⌝ }
+fn put_escaped(buffer: &mut [u8], at: usize, byte: u8) -> usize
+    ensures { λ next. ⌜ Put (now (buffer .entry)) at (escaped byte) next (now (buffer .exit)) ⌝ }
 {
     if is_plain(byte) {
-        return put_byte(row, at, byte);
+        return put_byte(buffer, at, byte);
     }
     let bytes = [BACKSLASH, b'x', hex_digit(byte / 16), hex_digit(byte % 16)];
-    put(row, at, &bytes)
+    put(buffer, at, &bytes)
 }
 
 // Whether a byte has a glyph or is a blank, and isn't one of the two that quoting uses.

@@ -1,4 +1,4 @@
--- Document 01, "Services and refusals": the numbers of the refusals, what a call comes to, and what it leaves in a lent row.
+-- REQUIREMENTS 7: the numbers of the refusals, what a call comes to, and what it leaves in a lent buffer.
 pub mod Refusals
 pub mod Outcomes
 pub mod Rows

@@ -36,9 +36,9 @@ numberOutcomeOf (Answered n) = answered n
 numberOutcomeOf (Refused e) = refused (numberOf e)
 
 -- the number that comes back: 0 where the call isn't refused
-abbrev pub numberIn : {A : Type 0} → Outcome A → ℕ
-numberIn (refused n) = n
-numberIn (answered x) = 0
+abbrev pub refusalNumber : {A : Type 0} → Outcome A → ℕ
+refusalNumber (refused n) = n
+refusalNumber (answered x) = 0
 
 -- what comes next where the first is not refused
 abbrev pub andThen : {A B : Type 0} → Outcome A → (A → Outcome B) → Outcome B
@@ -50,10 +50,10 @@ abbrev pub after : {A : Type 0} → Outcome A → A → A
 after (refused n) held = held
 after (answered x) held = x
 
--- a lent row at exit: refused, what it held; answered, what was written, with what stood past it
-abbrev pub rowAfter : {A : Type 0} → Outcome A → List ℕ → List ℕ → List ℕ
-rowAfter (refused n) wrote row = row
-rowAfter (answered x) wrote row = wrote ++ drop (length wrote) row
+-- a lent buffer at exit: refused, what it held; answered, what was written, with what stood past it
+abbrev pub bufferAfter : {A : Type 0} → Outcome A → List ℕ → List ℕ → List ℕ
+bufferAfter (refused n) wrote row = row
+bufferAfter (answered x) wrote row = wrote ++ drop (length wrote) row
 
 -- the laws of the list: its first test holds, or does not
 pub gives : {A : Type 0} {t : Bool} (e : Refusal) (rules : List Rule) (x : A) → t ≡ true → outcome ((e given-if t) ∷ rules) x ≡ refused (numberOf e)
@@ -69,8 +69,8 @@ unfolding outcome
 answers x = refl
 
 -- the row at exit, by the call's outcome
-pub row-kept : {A : Type 0} {o : Outcome A} {n : ℕ} (wrote row : List ℕ) → o ≡ refused n → rowAfter o wrote row ≡ row
+pub row-kept : {A : Type 0} {o : Outcome A} {n : ℕ} (wrote row : List ℕ) → o ≡ refused n → bufferAfter o wrote row ≡ row
 row-kept wrote row e = rw e refl
 
-pub row-written : {A : Type 0} {o : Outcome A} {x : A} (wrote row : List ℕ) → o ≡ answered x → rowAfter o wrote row ≡ wrote ++ drop (length wrote) row
+pub row-written : {A : Type 0} {o : Outcome A} {x : A} (wrote row : List ℕ) → o ≡ answered x → bufferAfter o wrote row ≡ wrote ++ drop (length wrote) row
 row-written wrote row e = rw e refl

@@ -1,4 +1,4 @@
--- Document 01's table of refusals: the number of each.
+-- REQUIREMENTS 7.1, the table of refusals: the number of each.
 use Prim.Native.Nat.{ℕ}
 use Rattle.refusal.specs.declared.Refusal.{Refusal}
 use Rattle.refusal.specs.declared.Refusal.the-variants.{Modulus, Order, Exponent, Variant, Room, Length, Word, Mismatch, Register, Position, Base, Range, Index}

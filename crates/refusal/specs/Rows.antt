@@ -1,4 +1,4 @@
--- Writing words into a lent row, one after another.
+-- Writing words into a lent buffer, one after another.
 use mathlib.Core.Path.{_≡_}
 use mathlib.Core.List.{List}
 use Prim.Native.Nat.{ℕ, _+_}

@@ -1,4 +1,4 @@
-// Document 01, "Services and refusals": the refusals, and the answer of a service whose result is one number.
+// REQUIREMENTS 7: the refusals, and the answer of a service whose result is one number.
 ghost use mathlib.Core.Path.{_≡_};
 ghost use Rattle.refusal.specs.Refusals.{numberOf};
 

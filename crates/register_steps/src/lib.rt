@@ -2,8 +2,8 @@
 ghost use mathlib.Core.Path.{_≡_};
 ghost use lib.ListN.{set};
 ghost use Rattle.modular.specs.Residues.{times};
-ghost use Rattle.machine.specs.Machine.{valuesOf, reg, opposite};
-ghost use Rattle.machine.specs.Carried.{firstFour, inverses, applyWith};
+ghost use Rattle.machine.specs.Machine.{valuesOf, reg, inverseStep};
+ghost use Rattle.machine.specs.Inner.Carried.{firstFour, inverses, applyWith};
 use machine::Registers;
 use modular::inverse_or_zero;
 use modular::product;
@@ -67,8 +67,8 @@ pub fn apply_with(values: &mut [u32], inverses: &mut [u32], p: u32, step: Step)
 }
 
 // Undone, mul is div, div is mul, swp is swp.
-pub fn opposite(step: Step) -> Step
-    ensures { λ r. ⌜ r ≡ opposite step ⌝ }
+pub fn inverse_step(step: Step) -> Step
+    ensures { λ r. ⌜ r ≡ inverseStep step ⌝ }
 {
     match step {
         Step::Mul(t, s) => Step::Div(t, s),

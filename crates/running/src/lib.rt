@@ -1,6 +1,6 @@
 // Load, run, and both in one.
 mod conditions;
-mod travel;
+mod positions;
 
 ghost use mathlib.Core.Path.{_≡_};
 ghost use Rattle.refusal.specs.Outcomes.{answered};
@@ -12,11 +12,11 @@ use conditions::is_bad_register;
 use conditions::is_some_bad;
 use machine::Registers;
 use parts::steps;
+use positions::run_steps;
 use refusal::Refusal;
 use sequencer::RegistersAnswer;
 use tape::Header;
 use tape::HeaderAnswer;
-use travel::travel;
 
 // The registers (1, a, 1, 1) for a base a: check's refusals, 9, and for named programs 11.
 pub fn load(tape: &[u32], base: u32) -> RegistersAnswer
@@ -87,7 +87,7 @@ fn run_accepted(
     if header.steps < to {
         return RegistersAnswer::Refused(Refusal::Position);
     }
-    RegistersAnswer::Answered(travel(steps(tape), header.modulus, registers, from, to))
+    RegistersAnswer::Answered(run_steps(steps(tape), header.modulus, registers, from, to))
 }
 
 // Forward through a program that is accepted: load's refusals, and run has none left.

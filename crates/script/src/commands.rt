@@ -3,8 +3,8 @@ ghost use mathlib.Core.Path.{_≡_};
 ghost use mathlib.Core.Bool.{true};
 ghost use Prim.Native.Nat.{_≤_};
 ghost use lib.ListN.{length, getD};
-ghost use Rattle.text.specs.Reading.{wordsOf};
-ghost use Rattle.tool.specs.Verbs.{mostParameters, limitOf, largest32};
+ghost use Rattle.text.specs.Reading.{splitWords};
+ghost use Rattle.tool.specs.Verbs.{maxParameters, limitOf, largest32};
 ghost use Rattle.tool.specs.Calls.{known, askedBy};
 ghost use Rattle.tool.specs.Rows.{Within};
 ghost use Rattle.scripting.specs.Script.{isPlaces, isListing, buildBy, byVerb, replied, commanded};
@@ -32,7 +32,7 @@ pub(crate) fn commanded(
     text: &mut [u8],
 ) -> Printed
     requires { ⌜ Inside marks (now tapes) ⌝ }
-    ensures { λ r. ⌜ Did (commanded (length (now (tapes .entry))) (askedBy true (wordsOf (now (arguments .entry)))) (stateIn marks (now (tapes .entry)))) (now (text .entry)) r (now (tapes .exit)) (now (text .exit)) ⌝ }
+    ensures { λ r. ⌜ Did (commanded (length (now (tapes .entry))) (askedBy true (splitWords (now (arguments .entry)))) (stateIn marks (now (tapes .entry)))) (now (text .entry)) r (now (tapes .exit)) (now (text .exit)) ⌝ }
 {
     let line = understand(arguments, true);
     let call = line.call;
@@ -49,7 +49,7 @@ pub(crate) fn commanded(
 // As the tool replies, on the tape at hand.
 fn as_tool(arguments: &[u8], tapes: &[u32], marks: Marks, text: &mut [u8]) -> Printed
     requires { ⌜ Inside marks (now tapes) ⌝ }
-    ensures { λ r. ⌜ Did (replied (askedBy true (wordsOf (now (arguments .entry)))) (stateIn marks (now (tapes .entry)))) (now (text .entry)) r (now (tapes .entry)) (now (text .exit)) ⌝ }
+    ensures { λ r. ⌜ Did (replied (askedBy true (splitWords (now (arguments .entry)))) (stateIn marks (now (tapes .entry)))) (now (text .entry)) r (now (tapes .entry)) (now (text .exit)) ⌝ }
 {
     let begin = marks.begin;
     let end = marks.end;
@@ -77,8 +77,8 @@ fn perform(
     text: &mut [u8],
 ) -> Printed
     requires { ⌜ Inside marks (now tapes) ⌝ }
-    requires { ⌜ askedBy true (wordsOf (now arguments)) ≡ known row (now values) ⌝ }
-    requires { ⌜ (length (now values) ≤ mostParameters) × Within (limitOf (row .verb)) (now values) ⌝ }
+    requires { ⌜ askedBy true (splitWords (now arguments)) ≡ known row (now values) ⌝ }
+    requires { ⌜ (length (now values) ≤ maxParameters) × Within (limitOf (row .verb)) (now values) ⌝ }
     ensures { λ r. ⌜ Did (byVerb (length (now (tapes .entry))) (row .verb) row (now (values .entry)) (stateIn marks (now (tapes .entry)))) (now (text .entry)) r (now (tapes .exit)) (now (text .exit)) ⌝ }
 {
     let verb = row.verb;
@@ -117,7 +117,7 @@ fn on_numbers(
     text: &mut [u8],
 ) -> Printed
     requires { ⌜ Inside marks (now tapes) ⌝ }
-    requires { ⌜ (row .verb ≡ Verb.OnNumbers verb) × (askedBy true (wordsOf (now arguments)) ≡ known row (now values)) ⌝ }
+    requires { ⌜ (row .verb ≡ Verb.OnNumbers verb) × (askedBy true (splitWords (now arguments)) ≡ known row (now values)) ⌝ }
     ensures { λ r. ⌜ Did (byVerb (length (now (tapes .entry))) (row .verb) row (now (values .entry)) (stateIn marks (now (tapes .entry)))) (now (text .entry)) r (now (tapes .entry)) (now (text .exit)) ⌝ }
 {
     if !marks.roomed {
@@ -143,7 +143,7 @@ fn on_tape(
     text: &mut [u8],
 ) -> Printed
     requires { ⌜ Inside marks (now tapes) ⌝ }
-    requires { ⌜ (row .verb ≡ Verb.OnTape verb) × (askedBy true (wordsOf (now arguments)) ≡ known row (now values)) ⌝ }
+    requires { ⌜ (row .verb ≡ Verb.OnTape verb) × (askedBy true (splitWords (now arguments)) ≡ known row (now values)) ⌝ }
     ensures { λ r. ⌜ Did (byVerb (length (now (tapes .entry))) (row .verb) row (now (values .entry)) (stateIn marks (now (tapes .entry)))) (now (text .entry)) r (now (tapes .entry)) (now (text .exit)) ⌝ }
 {
     if !marks.roomed {

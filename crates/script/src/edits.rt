@@ -6,7 +6,7 @@ ghost use lib.ListN.{length, take, drop, getD};
 ghost use Rattle.refusal.specs.Rows.{Wrote};
 ghost use Rattle.text.specs.Text.{numberLine};
 ghost use Rattle.text.specs.Rows.{Put};
-ghost use Rattle.tool.specs.Verbs.{mostParameters, mostRoom, largest32, limitIn};
+ghost use Rattle.tool.specs.Verbs.{maxParameters, maxRoom, largest32, limitIn};
 ghost use Rattle.tool.specs.Rows.{Within};
 ghost use Rattle.scripting.specs.Script.{prints, fullLine, edited, inScript};
 ghost use Rattle.scripting.specs.States.{stateIn, Inside, Did};
@@ -29,7 +29,7 @@ pub(crate) fn edit(
     text: &mut [u8],
 ) -> Printed
     requires { ⌜ Inside marks (now tapes) ⌝ }
-    requires { ⌜ (length (now values) ≤ mostParameters) × Within (limitIn verb) (now values) ⌝ }
+    requires { ⌜ (length (now values) ≤ maxParameters) × Within (limitIn verb) (now values) ⌝ }
     ensures { λ r. ⌜ Did (inScript (length (now (tapes .entry))) verb (now (values .entry)) (stateIn marks (now (tapes .entry)))) (now (text .entry)) r (now (tapes .exit)) (now (text .exit)) ⌝ }
 {
     match verb {
@@ -170,7 +170,7 @@ fn behind(tapes: &[u32], marks: Marks, text: &mut [u8]) -> Printed
 // The room from now on; without a parameter, none.
 fn room(values: &[u64], tapes: &[u32], marks: Marks, text: &mut [u8]) -> Printed
     requires { ⌜ Inside marks (now tapes) ⌝ }
-    requires { ⌜ Within mostRoom (now values) ⌝ }
+    requires { ⌜ Within maxRoom (now values) ⌝ }
     ensures { λ r. ⌜ Did (inScript (length (now (tapes .entry))) ScriptVerb.Room (now (values .entry)) (stateIn marks (now (tapes .entry)))) (now (text .entry)) r (now (tapes .entry)) (now (text .exit)) ⌝ }
 {
     if values.len() == 0 {

@@ -7,11 +7,11 @@ ghost use Rattle.refusal.specs.Outcomes.{numberOutcomeOf};
 ghost use Rattle.refusal.specs.Rows.{Wrote};
 ghost use Rattle.text.specs.Text.{numberLine, numbersLine};
 ghost use Rattle.text.specs.Rows.{Put};
-ghost use Rattle.tool.specs.Verbs.{largest32, mostRoom};
-ghost use Rattle.tape.specs.Layout.{mostWords};
+ghost use Rattle.tool.specs.Verbs.{largest32, maxRoom};
+ghost use Rattle.tape.specs.Layout.{maxWords};
 ghost use Rattle.tool.specs.Replies.{printed};
 ghost use Rattle.tool.specs.Rows.{Within};
-ghost use Rattle.scripting.specs.Script.{mostTapes, mostCommanded, withTape, builtAs, buildInto, placesInto, listInto, buildLine, buildIn, placesIn, listIn};
+ghost use Rattle.scripting.specs.Script.{maxTapes, maxCommanded, withTape, builtAs, buildInto, placesInto, listInto, buildLine, buildIn, placesIn, listIn};
 ghost use Rattle.scripting.specs.States.{stateIn, Inside, countIn, Did};
 use crate::edits::ending;
 use crate::edits::full;
@@ -24,17 +24,17 @@ use lines::numbers_line;
 use printing::answer;
 use printing::refuse;
 use refusal::NumberAnswer;
-use scripting::MOST_ROOM;
-use scripting::MOST_TAPES;
+use scripting::MAX_ROOM;
+use scripting::MAX_TAPES;
 use scripting::Marks;
 use scripting::Printed;
-use tape::MOST_WORDS;
+use tape::MAX_WORDS;
 
 // What an element of a buffer holds before a call.
 const HELD: u8 = 255;
 
 // The bytes of as many words as a row of tapes has.
-const MOST_TAPE_BYTES: usize = MOST_TAPES * WORD_BYTES;
+const MAX_TAPE_BYTES: usize = MAX_TAPES * WORD_BYTES;
 
 // Build's tape at hand, and its words.
 pub(crate) fn build_line(
@@ -48,7 +48,7 @@ pub(crate) fn build_line(
     requires { ⌜ Within largest32 (now values) ⌝ }
     ensures { λ r. ⌜ Did (buildLine (length (now (tapes .entry))) own (now (values .entry)) (stateIn marks (now (tapes .entry)))) (now (text .entry)) r (now (tapes .exit)) (now (text .exit)) ⌝ }
 {
-    let mut row = [0u32; MOST_WORDS];
+    let mut row = [0u32; MAX_WORDS];
     let p = parameter(values, 0);
     let r = parameter(values, 1);
     let k = parameter(values, 2);
@@ -66,7 +66,7 @@ fn built(
     text: &mut [u8],
 ) -> Printed
     requires { ⌜ Inside marks (now tapes) ⌝ }
-    requires { ⌜ (length (now row) ≤ mostWords) × (countIn answer ≤ length (now row)) ⌝ }
+    requires { ⌜ (length (now row) ≤ maxWords) × (countIn answer ≤ length (now row)) ⌝ }
     ensures { λ r. ⌜ Did (builtAs (length (now (tapes .entry))) (stateIn marks (now (tapes .entry))) (numberOutcomeOf answer) (take (countIn answer) (now (row .entry))) (printed own (numberOutcomeOf answer) numberLine .text) (numbersLine (take (countIn answer) (now (row .entry))))) (now (text .entry)) r (now (tapes .exit)) (now (text .exit)) ⌝ }
 {
     match answer {
@@ -83,7 +83,7 @@ fn built(
 
 // Words that are the tape at hand from now on, printed.
 fn leave(words: &[u32], tapes: &mut [u32], marks: Marks, text: &mut [u8]) -> Printed
-    requires { ⌜ Inside marks (now tapes) × (length (now words) ≤ mostWords) ⌝ }
+    requires { ⌜ Inside marks (now tapes) × (length (now words) ≤ maxWords) ⌝ }
     ensures { λ r. ⌜ Did (withTape (length (now (tapes .entry))) (stateIn marks (now (tapes .entry))) (now (words .entry)) (numbersLine (now (words .entry)))) (now (text .entry)) r (now (tapes .exit)) (now (text .exit)) ⌝ }
 {
     let begin = marks.begin;
@@ -122,7 +122,7 @@ pub(crate) fn build_in(
     requires { ⌜ Within largest32 (now values) ⌝ }
     ensures { λ r. ⌜ Did (buildIn (length (now (tapes .entry))) (marks .room) own (now (values .entry)) (stateIn marks (now (tapes .entry)))) (now (text .entry)) r (now (tapes .exit)) (now (text .exit)) ⌝ }
 {
-    let mut row = [HELD as u32; MOST_ROOM];
+    let mut row = [HELD as u32; MAX_ROOM];
     let room = marks.room;
     build_into(own, values, &mut row[..room], tapes, marks, text)
 }
@@ -135,7 +135,7 @@ fn build_into(
     marks: Marks,
     text: &mut [u8],
 ) -> Printed
-    requires { ⌜ Inside marks (now tapes) × (length (now row) ≤ mostRoom) ⌝ }
+    requires { ⌜ Inside marks (now tapes) × (length (now row) ≤ maxRoom) ⌝ }
     requires { ⌜ Within largest32 (now values) ⌝ }
     ensures { λ r. ⌜ Did (buildInto (length (now (tapes .entry))) (now (row .entry)) own (now (values .entry)) (stateIn marks (now (tapes .entry)))) (now (text .entry)) r (now (tapes .exit)) (now (text .exit)) ⌝ }
 {
@@ -156,7 +156,7 @@ fn show(
     text: &mut [u8],
 ) -> Printed
     requires { ⌜ Inside marks (now tapes) ⌝ }
-    requires { ⌜ (length (now row) ≤ mostRoom) × (countIn answer ≤ length (now row)) ⌝ }
+    requires { ⌜ (length (now row) ≤ maxRoom) × (countIn answer ≤ length (now row)) ⌝ }
     ensures { λ r. ⌜ Did (builtAs (length (now (tapes .entry))) (stateIn marks (now (tapes .entry))) (numberOutcomeOf answer) (take (countIn answer) (now (row .entry))) (printed own (numberOutcomeOf answer) numberLine .text ++ numbersLine (now (row .entry))) (printed own (numberOutcomeOf answer) numberLine .text ++ numbersLine (now (row .entry)))) (now (text .entry)) r (now (tapes .exit)) (now (text .exit)) ⌝ }
 {
     match answer {
@@ -185,18 +185,18 @@ fn show(
 
 // Places into a buffer: their count or the refusal, and the buffer.
 pub(crate) fn places_in(own: u32, n: u64, room: usize, text: &mut [u8]) -> usize
-    requires { ⌜ room ≤ mostRoom ⌝ }
+    requires { ⌜ room ≤ maxRoom ⌝ }
     ensures { λ length. ⌜ Put (now (text .entry)) 0 (placesIn room own (n ∷ [])) length (now (text .exit)) ⌝ }
-    ensures { λ _. ⌜ length (placesIn room own (n ∷ [])) ≤ mostCommanded ⌝ }
+    ensures { λ _. ⌜ length (placesIn room own (n ∷ [])) ≤ maxCommanded ⌝ }
 {
-    let mut row = [HELD; MOST_ROOM];
+    let mut row = [HELD; MAX_ROOM];
     places_into(own, n, &mut row[..room], text)
 }
 
 fn places_into(own: u32, n: u64, row: &mut [u8], text: &mut [u8]) -> usize
-    requires { ⌜ length (now row) ≤ mostRoom ⌝ }
+    requires { ⌜ length (now row) ≤ maxRoom ⌝ }
     ensures { λ length. ⌜ Put (now (text .entry)) 0 (placesInto (now (row .entry)) own (n ∷ [])) length (now (text .exit)) ⌝ }
-    ensures { λ _. ⌜ length (placesInto (now (row .entry)) own (n ∷ [])) ≤ mostCommanded ⌝ }
+    ensures { λ _. ⌜ length (placesInto (now (row .entry)) own (n ∷ [])) ≤ maxCommanded ⌝ }
 {
     let found = zeckendorf::places(n, row);
     let next = answer(text, own, found).length;
@@ -205,20 +205,20 @@ fn places_into(own: u32, n: u64, row: &mut [u8], text: &mut [u8]) -> usize
 
 // The listing into a buffer: how many bytes were written and its number, and the buffer.
 pub(crate) fn list_in(tape: &[u32], room: usize, text: &mut [u8]) -> usize
-    requires { ⌜ (room ≤ mostRoom) × (length (now tape) ≤ mostTapes) ⌝ }
+    requires { ⌜ (room ≤ maxRoom) × (length (now tape) ≤ maxTapes) ⌝ }
     ensures { λ length. ⌜ Put (now (text .entry)) 0 (listIn room (now (tape .entry))) length (now (text .exit)) ⌝ }
-    ensures { λ _. ⌜ length (listIn room (now (tape .entry))) ≤ mostCommanded ⌝ }
+    ensures { λ _. ⌜ length (listIn room (now (tape .entry))) ≤ maxCommanded ⌝ }
 {
-    let mut bytes = [0u8; MOST_TAPE_BYTES];
+    let mut bytes = [0u8; MAX_TAPE_BYTES];
     let count = tape_bytes(&mut bytes, 0, tape);
-    let mut row = [HELD; MOST_ROOM];
+    let mut row = [HELD; MAX_ROOM];
     list_into(&bytes[..count], &mut row[..room], text)
 }
 
 fn list_into(bytes: &[u8], row: &mut [u8], text: &mut [u8]) -> usize
-    requires { ⌜ length (now row) ≤ mostRoom ⌝ }
+    requires { ⌜ length (now row) ≤ maxRoom ⌝ }
     ensures { λ length. ⌜ Put (now (text .entry)) 0 (listInto (now (row .entry)) (now (bytes .entry))) length (now (text .exit)) ⌝ }
-    ensures { λ _. ⌜ length (listInto (now (row .entry)) (now (bytes .entry))) ≤ mostCommanded ⌝ }
+    ensures { λ _. ⌜ length (listInto (now (row .entry)) (now (bytes .entry))) ≤ maxCommanded ⌝ }
 {
     let listed = lister::listing(bytes, row);
     let said = [listed.written as u32, listed.number];

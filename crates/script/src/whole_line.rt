@@ -9,13 +9,13 @@ ghost use Rattle.refusal.specs.Rows.{Wrote};
 ghost use Rattle.text.specs.Text.{blank, newline};
 ghost use Rattle.text.specs.Rows.{Put};
 ghost use Rattle.program.specs.Same.{sameWords};
-ghost use Rattle.scripting.specs.Script.{argumentsOf, isEquals, equalsIn, isCopied, verdict, judged, mostLine, commandDone, lineDone};
+ghost use Rattle.scripting.specs.Script.{argumentsOf, isEquals, equalsIn, isCopied, verdict, judged, maxLine, commandDone, lineDone};
 ghost use Rattle.scripting.specs.States.{stateIn, Inside, Did, DidLine};
 use crate::commands::commanded;
 use putting::put;
 use putting::put_then;
-use scripting::MOST_LINE;
-use scripting::MOST_PRINTED;
+use scripting::MAX_LINE;
+use scripting::MAX_PRINTED;
 use scripting::Marks;
 use scripting::Printed;
 use text::BLANK;
@@ -33,7 +33,7 @@ pub(crate) fn done(line: &[u8], tapes: &mut [u32], marks: Marks, text: &mut [u8]
     requires { ⌜ Inside marks (now tapes) ⌝ }
     ensures { λ r. ⌜ DidLine (lineDone (length (now (tapes .entry))) (now (line .entry)) (stateIn marks (now (tapes .entry)))) (now (text .entry)) r (now (tapes .exit)) (now (text .exit)) ⌝ }
 {
-    if MOST_LINE < line.len() {
+    if MAX_LINE < line.len() {
         let length = put_then(text, 0, b"fibexp: a line of more than 4095 bytes", NEWLINE);
         return Printed { marks, length };
     }
@@ -91,10 +91,10 @@ fn is_equals(line: &[u8], at: usize) -> bool
 // A command line up to `at`, and what its reply is said to be.
 fn judge(line: &[u8], at: usize, tapes: &mut [u32], marks: Marks, text: &mut [u8]) -> Printed
     requires { ⌜ Inside marks (now tapes) ⌝ }
-    requires { ⌜ (at ≡ equalsIn (now line)) × (at < length (now line)) × (length (now line) ≤ mostLine) ⌝ }
+    requires { ⌜ (at ≡ equalsIn (now line)) × (at < length (now line)) × (length (now line) ≤ maxLine) ⌝ }
     ensures { λ r. ⌜ DidLine (judged (commandDone (length (now (tapes .entry))) (take at (now (line .entry))) (stateIn marks (now (tapes .entry)))) (drop (at + 3) (now (line .entry)))) (now (text .entry)) r (now (tapes .exit)) (now (text .exit)) ⌝ }
 {
-    let mut space = [0u8; MOST_PRINTED];
+    let mut space = [0u8; MAX_PRINTED];
     let made = command(&line[..at], tapes, marks, &mut space);
     let left = made.marks;
     let count = made.length;
@@ -138,10 +138,10 @@ fn is_line(text: &[u8], line: &[u8]) -> bool
 
 fn command(line: &[u8], tapes: &mut [u32], marks: Marks, text: &mut [u8]) -> Printed
     requires { ⌜ Inside marks (now tapes) ⌝ }
-    requires { ⌜ length (now line) ≤ mostLine ⌝ }
+    requires { ⌜ length (now line) ≤ maxLine ⌝ }
     ensures { λ r. ⌜ Did (commandDone (length (now (tapes .entry))) (now (line .entry)) (stateIn marks (now (tapes .entry)))) (now (text .entry)) r (now (tapes .exit)) (now (text .exit)) ⌝ }
 {
-    let mut row = [0u8; MOST_LINE];
+    let mut row = [0u8; MAX_LINE];
     let count = to_arguments(line, &mut row);
     commanded(&row[..count], tapes, marks, text)
 }

@@ -7,13 +7,13 @@ use lib.Dec.{leb, ltb, eqb}
 use lib.ListN.{length, take, drop, set, replicate}
 use Rattle.refusal.specs.Outcomes.{Outcome, refused, answered}
 use Rattle.text.specs.Text.{ascii, decimal, blank, newline, numberLine, numbersLine}
-use Rattle.text.specs.Reading.{wordsOf}
-use Rattle.fibonacci.specs.Services.{placesOutcome, placesRow}
+use Rattle.text.specs.Reading.{splitWords}
+use Rattle.fibonacci.specs.Services.{placesOutcome, placesBuffer}
 use Rattle.encoding.specs.Encoding.{bytesOf}
 use Rattle.named.specs.Named.{namedWords}
-use Rattle.program.specs.Services.{buildOutcome, buildRow}
+use Rattle.program.specs.Services.{buildOutcome, buildBuffer}
 use Rattle.program.specs.Same.{sameWords}
-use Rattle.listing.specs.Listing.{listingAnswer, listingRow}
+use Rattle.listing.specs.Listing.{listingAnswer, listingBuffer}
 use Rattle.tool.specs.declared.TapeVerb.{TapeVerb}
 use Rattle.tool.specs.declared.TapeVerb.the-variants.{Check, Listing, Load, Run, Power, Trace, Cut, Play}
 use Rattle.tool.specs.declared.NumberVerb.{NumberVerb}
@@ -24,7 +24,7 @@ use Rattle.tool.specs.declared.Verb.{Verb}
 use Rattle.tool.specs.declared.Verb.the-variants.{Unknown, Build, Script, Help, Version, OnTape, OnNumbers, InScript}
 use Rattle.tool.specs.declared.Row.{Row}
 use Rattle.tool.specs.Calls.{Asked, noWord, noVerb, wrongCount, unread, known, askedBy}
-use Rattle.tape.specs.Layout.{mostWords}
+use Rattle.tape.specs.Layout.{maxWords}
 use Rattle.tool.specs.Replies.{printed, at, replyTo}
 
 -- ---- the state
@@ -53,8 +53,8 @@ prints s text = record { state = s; text = text }
 -- ---- the tape at hand
 
 -- the most words of a row of tapes
-abbrev pub mostTapes : ℕ
-mostTapes = 4096
+abbrev pub maxTapes : ℕ
+maxTapes = 4096
 
 unfoldable pub fullLine : ℕ → List ℕ
 fullLine capacity = ascii "fibexp: a row of tapes has at most " ++ decimal capacity ++ ascii " words" ++ newline ∷ []
@@ -96,16 +96,16 @@ filled room = replicate room 255
 unfoldable pub buildInto : ℕ → List ℕ → ℕ → List ℕ → State → Done
 buildInto capacity row own v s =
     let outcome = buildOutcome (at v 0) (at v 1) (at v 2) (at v 3) (length row) in
-    let text = printed own outcome numberLine .text ++ numbersLine (buildRow (at v 0) (at v 1) (at v 2) (at v 3) row) in
+    let text = printed own outcome numberLine .text ++ numbersLine (buildBuffer (at v 0) (at v 1) (at v 2) (at v 3) row) in
     builtAs capacity s outcome (namedWords (at v 0) (at v 1) (at v 2) (at v 3)) text text
 
 unfoldable pub placesInto : List ℕ → ℕ → List ℕ → List ℕ
-placesInto row own v = printed own (placesOutcome (at v 0) (length row)) numberLine .text ++ numbersLine (placesRow (at v 0) row)
+placesInto row own v = printed own (placesOutcome (at v 0) (length row)) numberLine .text ++ numbersLine (placesBuffer (at v 0) row)
 
 unfoldable pub listInto : List ℕ → List ℕ → List ℕ
 listInto row bytes =
     let listed = listingAnswer bytes (length row) in
-    numbersLine (listed .written ∷ listed .number ∷ []) ++ numbersLine (listingRow bytes row)
+    numbersLine (listed .written ∷ listed .number ∷ []) ++ numbersLine (listingBuffer bytes row)
 
 unfoldable pub buildIn : ℕ → ℕ → ℕ → List ℕ → State → Done
 buildIn capacity room own v s = buildInto capacity (filled room) own v s
@@ -126,7 +126,7 @@ replied asked s = prints s (replyTo asked true (atHand s) (s .tapes) .text)
 unfoldable pub buildLine : ℕ → ℕ → List ℕ → State → Done
 buildLine capacity own v s =
     let words = namedWords (at v 0) (at v 1) (at v 2) (at v 3) in
-    let outcome = buildOutcome (at v 0) (at v 1) (at v 2) (at v 3) mostWords in
+    let outcome = buildOutcome (at v 0) (at v 1) (at v 2) (at v 3) maxWords in
     builtAs capacity s outcome words (printed own outcome numberLine .text) (numbersLine words)
 
 -- places and list look at the room
@@ -190,7 +190,7 @@ abbrev pub argumentsOf : List ℕ → List ℕ
 argumentsOf line = map (λ (b : ℕ). cond (eqb b blank) 0 b) line
 
 unfoldable pub commandDone : ℕ → List ℕ → State → Done
-commandDone capacity line s = commanded capacity (askedBy true (wordsOf (argumentsOf line))) s
+commandDone capacity line s = commanded capacity (askedBy true (splitWords (argumentsOf line))) s
 
 -- a blank, an equals sign and a blank
 abbrev pub isEquals : List ℕ → Bool
@@ -212,8 +212,8 @@ abbrev pub judged : Done → List ℕ → Done
 judged done said = prints (done .state) (done .text ++ verdict (done .text) said)
 
 -- the most bytes of a line
-abbrev pub mostLine : ℕ
-mostLine = 4095
+abbrev pub maxLine : ℕ
+maxLine = 4095
 
 abbrev pub longLine : List ℕ
 longLine = ascii "fibexp: a line of more than 4095 bytes" ++ newline ∷ []
@@ -226,18 +226,18 @@ isCopied (b ∷ line) = eqb b (code "#")
 -- a line, by what it is
 unfoldable pub lineDone : ℕ → List ℕ → State → Done
 lineDone capacity line s =
-    cond (ltb mostLine (length line)) (prints s longLine)
+    cond (ltb maxLine (length line)) (prints s longLine)
     (cond (isCopied line) (prints s (line ++ newline ∷ []))
     (cond (ltb (equalsIn line) (length line)) (judged (commandDone capacity (take (equalsIn line) line) s) (drop (equalsIn line + 3) line))
     (commandDone capacity line s)))
 
 -- no line prints more
-abbrev pub mostPrinted : ℕ
-mostPrinted = 65536
+abbrev pub maxPrinted : ℕ
+maxPrinted = 65536
 
 -- and no command line more than this, so that a verdict has room behind it
-abbrev pub mostCommanded : ℕ
-mostCommanded = 57344
+abbrev pub maxCommanded : ℕ
+maxCommanded = 57344
 
 -- ---- a script
 

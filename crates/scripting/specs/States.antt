@@ -7,10 +7,10 @@ use lib.ListN.{length, take}
 use Rattle.refusal.specs.declared.NumberAnswer.{NumberAnswer}
 use Rattle.refusal.specs.declared.NumberAnswer.the-variants.{Answered, Refused}
 use Rattle.text.specs.Rows.{Put}
-use Rattle.tool.specs.Verbs.{mostRoom}
+use Rattle.tool.specs.Verbs.{maxRoom}
 use Rattle.scripting.specs.declared.Marks.{Marks}
 use Rattle.scripting.specs.declared.Printed.{Printed}
-use Rattle.scripting.specs.Script.{State, Done, lineDone, mostTapes, mostPrinted, mostCommanded}
+use Rattle.scripting.specs.Script.{State, Done, lineDone, maxTapes, maxPrinted, maxCommanded}
 
 abbrev pub roomIn : Marks → List ℕ
 roomIn m = cond (m .roomed) (m .room ∷ []) []
@@ -20,20 +20,20 @@ abbrev pub stateIn : Marks → List ℕ → State
 stateIn m row = record { tapes = take (m .end) row; begin = m .begin; room = roomIn m }
 
 pub record Inside (m : Marks) (row : List ℕ) : Type 0 where
-  pub size : length row ≤ mostTapes
+  pub size : length row ≤ maxTapes
   pub begin : m .begin ≤ m .end
   pub end : m .end ≤ length row
-  pub room : m .room ≤ mostRoom
+  pub room : m .room ≤ maxRoom
 
 -- how many words of a row are used
 abbrev pub capacityOf : List ℕ → ℕ
-capacityOf row = min (length row) mostTapes
+capacityOf row = min (length row) maxTapes
 
 -- marks brought into a row
 unfoldable pub insideOf : Marks → ℕ → Marks
 insideOf m capacity =
     let end = min (m .end) capacity in
-    record { begin = min (m .begin) end; end = end; room = min (m .room) mostRoom; roomed = m .roomed }
+    record { begin = min (m .begin) end; end = end; room = min (m .room) maxRoom; roomed = m .roomed }
 
 -- the words that an answer counts
 abbrev pub countIn : NumberAnswer → ℕ
@@ -50,10 +50,10 @@ pub record DidWithin (most : ℕ) (done : Done) (text : List ℕ) (r : Printed) 
 
 -- a command, and any line
 abbrev pub Did : Done → List ℕ → Printed → List ℕ → List ℕ → Type 0
-Did = DidWithin mostCommanded
+Did = DidWithin maxCommanded
 
 abbrev pub DidLine : Done → List ℕ → Printed → List ℕ → List ℕ → Type 0
-DidLine = DidWithin mostPrinted
+DidLine = DidWithin maxPrinted
 
 -- Lines done one after another, each as the contract of a line says, on the marks and the row that those before it left: the lines, the
 -- marks and the row at first, and what all of them print.

@@ -16,16 +16,16 @@ pub struct Printed {
 }
 
 // The most words of a row of tapes.
-pub const MOST_TAPES: usize = 4096;
+pub const MAX_TAPES: usize = 4096;
 
 // The most bytes of a line. One byte more is enough to see that there are too many.
-pub const MOST_LINE: usize = 4095;
+pub const MAX_LINE: usize = 4095;
 
 // No line prints more.
-pub const MOST_PRINTED: usize = 65536;
+pub const MAX_PRINTED: usize = 65536;
 
 // The most elements of a buffer.
-pub const MOST_ROOM: usize = 4096;
+pub const MAX_ROOM: usize = 4096;
 
 // At first there is no tape and no room.
 pub const START: Marks = Marks {

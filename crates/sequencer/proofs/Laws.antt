@@ -1,6 +1,6 @@
 -- Load, run and trace by cases, what their answers say, forward, and demand 3.
 pub mod Cases
-pub mod Travel
+pub mod Positions
 pub mod Requests
 pub mod Answers
 pub mod Forward

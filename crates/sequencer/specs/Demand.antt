@@ -1,14 +1,14 @@
--- Demand 3, in the words of document 01, "Services and refusals": chains and rewinds, each a claim about a list of runs as a whole.
+-- Demand 3, REQUIREMENTS 10: chains and rewinds, each a claim about a list of runs as a whole.
 use mathlib.Core.Path.{_≡_}
 use mathlib.Core.Logic.{_⊎_}
 use mathlib.Core.Bool.{true, false, cond}
 use mathlib.Core.List.{List, [], _∷_}
 use Prim.Native.Nat.{ℕ, _*_, _%_, _^_, _≤_}
 use lib.Dec.{ltb}
-use Rattle.refusal.specs.Outcomes.{refused, answered, applies, numberIn, after}
+use Rattle.refusal.specs.Outcomes.{refused, answered, applies, refusalNumber, after}
 use Rattle.modular.specs.Inverses.{inverse}
 use Rattle.tape.specs.Layout.{headerOf, stepsOf}
-use Rattle.machine.specs.Machine.{run, Good, start}
+use Rattle.machine.specs.Machine.{run, Residues, start}
 use Rattle.program.specs.Services.{isNamed, checkOutcome}
 use Rattle.sequencer.specs.Services.{loadOutcome, runRules}
 use Rattle.sequencer.specs.Lists.{Request, answerTo, performed}
@@ -29,7 +29,7 @@ AsSaid q v =
 unfoldable pub EachAsSaid : List Request → List ℕ → List ℕ → Type 0
 EachAsSaid [] v numbers = Unit {0}
 EachAsSaid (q ∷ qs) v [] = AsSaid q v × EachAsSaid qs (after (answerTo q v) v) []
-EachAsSaid (q ∷ qs) v (n ∷ numbers) = AsSaid q v × (n ≡ numberIn (answerTo q v)) × EachAsSaid qs (after (answerTo q v) v) numbers
+EachAsSaid (q ∷ qs) v (n ∷ numbers) = AsSaid q v × (n ≡ refusalNumber (answerTo q v)) × EachAsSaid qs (after (answerTo q v) v) numbers
 
 -- ---- chains
 
@@ -82,7 +82,7 @@ Returns tape home at (q ∷ qs) = (q .tape ≡ tape) × (q .from ≡ at) × Retu
 pub record Rewind (tape : List ℕ) (home : ℕ) (qs : List Request) (v : List ℕ) : Type 0 where
   pub accepted : checkOutcome tape ≡ answered 0
   pub position : home ≤ headerOf tape .steps
-  pub registers : Good (headerOf tape .modulus) v
+  pub registers : Residues (headerOf tape .modulus) v
   pub returns : Returns tape home home (performed qs v)
 
 -- DEMAND 3, REWIND. If a list is a rewind from registers v, every run in it is refused or answers as said, with its number among

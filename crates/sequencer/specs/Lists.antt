@@ -3,7 +3,7 @@
 use mathlib.Core.Path.{_≡_}
 use mathlib.Core.List.{List, [], _∷_, _++_}
 use Prim.Native.Nat.{ℕ, _^_, _<_}
-use Rattle.refusal.specs.Outcomes.{Outcome, refused, answered, numberIn, after}
+use Rattle.refusal.specs.Outcomes.{Outcome, refused, answered, refusalNumber, after}
 use Rattle.tape.specs.Layout.{part}
 use Rattle.sequencer.specs.Services.{runOutcome}
 
@@ -24,7 +24,7 @@ afterAll (q ∷ qs) v = afterAll qs (after (answerTo q v) v)
 -- the number of each run of a list, in order: 0 or its refusal's
 unfoldable pub numbersAll : List Request → List ℕ → List ℕ
 numbersAll [] v = []
-numbersAll (q ∷ qs) v = numberIn (answerTo q v) ∷ numbersAll qs (after (answerTo q v) v)
+numbersAll (q ∷ qs) v = refusalNumber (answerTo q v) ∷ numbersAll qs (after (answerTo q v) v)
 
 -- the runs of a list that aren't refused, in order
 abbrev pub unlessRefused : Outcome (List ℕ) → Request → List Request → List Request
@@ -53,7 +53,7 @@ AllBelow limit [] = Unit {0}
 AllBelow limit (x ∷ xs) = (x < limit) × AllBelow limit xs
 
 -- a row and words of 32 bits that give a list
-pub record Given (qs : List Request) : Type 0 where
+pub record EncodedRequests (qs : List Request) : Type 0 where
   pub row : List ℕ
   pub words : List ℕ
   pub row-fits : AllBelow (2 ^ 32) row

@@ -47,22 +47,21 @@ unfoldable pub loadOutcome : List ℕ → ℕ → Outcome (List ℕ)
 loadOutcome tape a = onTape tape (baseRules (headerOf tape) a) (start a)
 
 -- run's own refusals: 9, 10
-unfoldable pub travelRules : Header → List ℕ → ℕ → ℕ → List Rule
-travelRules h v from goal =
+unfoldable pub positionRules : Header → List ℕ → ℕ → ℕ → List Rule
+positionRules h v from goal =
     (Register given-if badRegisters (h .modulus) v)
     ∷ (Position given-if (ltb (h .steps) from || ltb (h .steps) goal))
     ∷ []
 
 -- the refusals listed for run
 unfoldable pub runRules : List ℕ → List ℕ → ℕ → ℕ → List Rule
-runRules tape v from goal = checkRules tape ++ travelRules (headerOf tape) v from goal
+runRules tape v from goal = checkRules tape ++ positionRules (headerOf tape) v from goal
 
 -- run: the registers at its goal
 unfoldable pub runOutcome : List ℕ → List ℕ → ℕ → ℕ → Outcome (List ℕ)
 runOutcome tape v from goal =
     let h = headerOf tape in
-    onTape tape (travelRules h v from goal) (run (h .modulus) (stepsOf tape) from goal v)
-
+    onTape tape (positionRules h v from goal) (run (h .modulus) (stepsOf tape) from goal v)
 
 -- forward: load, then run from 0 to the step count
 unfoldable pub forwardOutcome : List ℕ → ℕ → Outcome (List ℕ)

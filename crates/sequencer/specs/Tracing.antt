@@ -1,4 +1,4 @@
--- Document 01, "Services and refusals", trace: what is said of every answer of it.
+-- REQUIREMENTS 8, trace: what is said of every answer of it.
 use mathlib.Core.Path.{_≡_}
 use mathlib.Core.Bool.{true}
 use mathlib.Core.List.{List, map}

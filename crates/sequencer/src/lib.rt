@@ -1,4 +1,4 @@
-// Document 01, "Services and refusals": load, run, trace, cut, and lists of runs. The definitions and laws of this layer, demand 3 among
+// REQUIREMENTS 8: load, run, trace, cut, and lists of runs. The definitions and laws of this layer, demand 3 among
 // them, and the type that they name; it has no functions.
 use machine::Registers;
 use refusal::Refusal;

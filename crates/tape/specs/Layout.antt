@@ -29,11 +29,11 @@ abbrev pub otherWords : ℕ
 otherWords = headerWords + 1
 
 -- the most words of a tape, and the most steps
-abbrev pub mostWords : ℕ
-mostWords = 512
+abbrev pub maxWords : ℕ
+maxWords = 512
 
-abbrev pub mostSteps : ℕ
-mostSteps = mostWords - otherWords
+abbrev pub maxSteps : ℕ
+maxSteps = maxWords - otherWords
 
 abbrev pub stepCount : List ℕ → ℕ
 stepCount tape = length tape - otherWords
@@ -113,7 +113,7 @@ stepsOf tape = stepsIn (stepWordsOf tape)
 
 -- 5 to 512 words
 unfoldable pub isLength : List ℕ → Bool
-isLength tape = leb otherWords (length tape) && leb (length tape) mostWords
+isLength tape = leb otherWords (length tape) && leb (length tape) maxWords
 
 unfoldable pub isHeader : List ℕ → Bool
 isHeader tape =
@@ -176,8 +176,8 @@ abbrev pub headerFor : Program → Header
 headerFor q = record { variant = q .variant; modulus = q .modulus; order = q .order; exponent = q .exponent; steps = length (q .steps) }
 
 -- the header, a word for each step, the end
-unfoldable pub wordsOf : Program → List ℕ
-wordsOf q = firstWords (headerFor q) ++ (map stepWord (q .steps) ++ encoded (End (length (q .steps))) ∷ [])
+unfoldable pub programWords : Program → List ℕ
+programWords q = firstWords (headerFor q) ++ (map stepWord (q .steps) ++ encoded (End (length (q .steps))) ∷ [])
 
 abbrev pub programOf : List ℕ → Program
 programOf tape =
@@ -208,8 +208,8 @@ abbrev pub layBegin : Header → ℕ → ℕ
 layBegin h room = cond (hasPlace h room) headerWords 0
 
 -- the row with all words but those of the steps
-abbrev pub laidRow : Header → List ℕ → List ℕ
-laidRow h row =
+abbrev pub laidBuffer : Header → List ℕ → List ℕ
+laidBuffer h row =
     cond (hasPlace h (length row))
     (set (sets row 0 (firstWords h)) (headerWords + h .steps) (encoded (End (h .steps))))
     row

@@ -1,4 +1,4 @@
--- Document 01, "Tape words", in its order.
+-- REQUIREMENTS 5, in its order.
 pub mod Steps
 pub mod Words
 pub mod Layout

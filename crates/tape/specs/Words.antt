@@ -29,11 +29,11 @@ unfoldable pub headingIn : ℕ → Decoded
 headingIn payload = cond (eqb (payload % 256) 1 && ltb payload 4096) (Heading (payload / 256)) Bad
 
 -- kinds 5, 6, 7: bits 0-1 are the target, bits 2-3 the source, which differ; in swp the target is the smaller
-abbrev pub areApart : ℕ → Bool
-areApart payload = ltb payload 16 && not (eqb (payload % 4) (payload / 4))
+abbrev pub areDistinct : ℕ → Bool
+areDistinct payload = ltb payload 16 && not (eqb (payload % 4) (payload / 4))
 
 unfoldable pub actionIn : (ℕ → ℕ → Step) → ℕ → Decoded
-actionIn step payload = cond (areApart payload) (Action (step (payload % 4) (payload / 4))) Bad
+actionIn step payload = cond (areDistinct payload) (Action (step (payload % 4) (payload / 4))) Bad
 
 unfoldable pub swapIn : ℕ → Decoded
 swapIn payload = cond (ltb payload 16 && ltb (payload % 4) (payload / 4)) (Action (Swp (payload % 4) (payload / 4))) Bad

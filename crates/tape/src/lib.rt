@@ -1,4 +1,4 @@
-// Document 01, "Tape words": what a word means, and the layout of a tape. The definitions and laws of this layer, and the types and
+// REQUIREMENTS 5: what a word means, and the layout of a tape. The definitions and laws of this layer, and the types and
 // limits that they name; it has no functions.
 use refusal::Refusal;
 
@@ -36,10 +36,10 @@ pub enum HeaderAnswer {
 }
 
 // The most words of a tape.
-pub const MOST_WORDS: usize = 512;
+pub const MAX_WORDS: usize = 512;
 
 // The most steps of a tape.
-pub const MOST_STEPS: usize = MOST_WORDS - OTHER_WORDS;
+pub const MAX_STEPS: usize = MAX_WORDS - OTHER_WORDS;
 
 // The words before the first step.
 pub const HEADER_WORDS: usize = 4;

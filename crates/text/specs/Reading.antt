@@ -44,8 +44,8 @@ unfoldable pub isHexadecimal : List ℕ → Bool
 isHexadecimal text = eqb (getD text 0 0) (code "0") && eqb (getD text 1 0) (code "x")
 
 -- hexadecimal digits behind `0x`, or decimal ones
-unfoldable pub numberIn : ℕ → List ℕ → Parsed
-numberIn most text = cond (isHexadecimal text) (inBase 16 most (drop 2 text)) (inBase 10 most text)
+unfoldable pub parseNumber : ℕ → List ℕ → Parsed
+parseNumber most text = cond (isHexadecimal text) (inBase 16 most (drop 2 text)) (inBase 10 most text)
 
 -- a number that was read is at most the largest
 abbrev pub Small : ℕ → Parsed → Type 0
@@ -71,7 +71,7 @@ inFront b [] = (b ∷ []) ∷ []
 inFront b (word ∷ words) = (b ∷ word) ∷ words
 
 -- words that a zero byte each ends; the last may lack it where it isn't empty
-unfoldable pub wordsOf : List ℕ → List (List ℕ)
-wordsOf [] = []
-wordsOf (zero ∷ bytes) = [] ∷ wordsOf bytes
-wordsOf (suc b ∷ bytes) = inFront (suc b) (wordsOf bytes)
+unfoldable pub splitWords : List ℕ → List (List ℕ)
+splitWords [] = []
+splitWords (zero ∷ bytes) = [] ∷ splitWords bytes
+splitWords (suc b ∷ bytes) = inFront (suc b) (splitWords bytes)

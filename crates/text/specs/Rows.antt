@@ -1,4 +1,4 @@
--- Putting bytes into a lent row, one text after another. Whatever the row's length, what doesn't fit is dropped.
+-- Putting bytes into a lent buffer, one text after another. Whatever the row's length, what doesn't fit is dropped.
 use mathlib.Core.Path.{_≡_}
 use mathlib.Core.List.{List}
 use Prim.Native.Nat.{ℕ, _+_, _-_, min}

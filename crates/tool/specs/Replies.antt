@@ -14,7 +14,7 @@ use Rattle.fibonacci.specs.Hofstadter.{G}
 use Rattle.fibonacci.specs.Height.{height}
 use Rattle.fibonacci.specs.Services.{fibonacciOutcome, placesOf, numberOutcome, bit}
 use Rattle.tape.specs.Words.{decoded}
-use Rattle.tape.specs.Layout.{mostWords, stepsOf}
+use Rattle.tape.specs.Layout.{maxWords, stepsOf}
 use Rattle.encoding.specs.Encoding.{bytesOf, tapeIn, wordBytes}
 use Rattle.named.specs.Named.{namedWords}
 use Rattle.program.specs.Services.{buildOutcome, checkOutcome, acceptOutcome}
@@ -53,20 +53,20 @@ printed own (answered x) show = answers (show x)
 
 -- ---- the two streams
 
-abbrev pub standardOutput : Replied → List ℕ
-standardOutput r = cond (eqb (r .status) 0) (r .text) []
+abbrev pub stdout : Replied → List ℕ
+stdout r = cond (eqb (r .status) 0) (r .text) []
 
-abbrev pub standardError : Replied → List ℕ
-standardError r = cond (eqb (r .status) 0) [] (r .text)
+abbrev pub stderr : Replied → List ℕ
+stderr r = cond (eqb (r .status) 0) [] (r .text)
 
 -- Standard output has the text of what is answered and nothing else, standard error every other text. No text is empty, so standard output
 -- is empty exactly where the call was refused or not understood.
 pub record Streams (r : Replied) : Type 0 where
   pub some : 0 < length (r .text)
-  pub results : r .status ≡ 0 → standardOutput r ≡ r .text
-  pub empty : ¬ (r .status ≡ 0) → standardOutput r ≡ []
-  pub silent : r .status ≡ 0 → standardError r ≡ []
-  pub told : ¬ (r .status ≡ 0) → standardError r ≡ r .text
+  pub results : r .status ≡ 0 → stdout r ≡ r .text
+  pub empty : ¬ (r .status ≡ 0) → stdout r ≡ []
+  pub silent : r .status ≡ 0 → stderr r ≡ []
+  pub told : ¬ (r .status ≡ 0) → stderr r ≡ r .text
 
 -- ---- what each verb prints for its parameters
 
@@ -78,11 +78,10 @@ at values place = getD values place 0
 abbrev pub registersIn : List ℕ → List ℕ
 registersIn v = at v 0 ∷ at v 1 ∷ at v 2 ∷ at v 3 ∷ []
 
-
 -- the tape's bytes
 unfoldable pub built : ℕ → List ℕ → Replied
 built own v =
-    printed own (buildOutcome (at v 0) (at v 1) (at v 2) (at v 3) mostWords) (λ (n : ℕ). bytesOf (namedWords (at v 0) (at v 1) (at v 2) (at v 3)))
+    printed own (buildOutcome (at v 0) (at v 1) (at v 2) (at v 3) maxWords) (λ (n : ℕ). bytesOf (namedWords (at v 0) (at v 1) (at v 2) (at v 3)))
 
 unfoldable pub numberReply : NumberVerb → ℕ → List ℕ → Replied
 numberReply Decode own v = answers (meaning (decoded (at v 0)))

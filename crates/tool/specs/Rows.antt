@@ -9,20 +9,20 @@ use Rattle.tool.specs.declared.Row.{Row}
 use Rattle.tool.specs.declared.Reply.{Reply}
 use Rattle.tool.specs.declared.Call.{Call}
 use Rattle.tool.specs.declared.Call.the-variants.{NoWord, NoVerb, WrongCount, Unread, Known}
-use Rattle.tool.specs.Verbs.{mostParameters, largest64, limitOf}
+use Rattle.tool.specs.Verbs.{maxParameters, largest64, limitOf}
 use Rattle.tool.specs.Calls.{Asked, noWord, noVerb, wrongCount, unread, known, numbersFrom, withNumbers, askedBy}
 use Rattle.tool.specs.Replies.{Replied}
 
 -- no text of a reply is longer
-abbrev pub mostText : ℕ
-mostText = 8192
+abbrev pub maxText : ℕ
+maxText = 8192
 
 -- a reply stands in a row from its start: its status, its text, which is never too long, and how many of its bytes stand there. Where the
 -- row is shorter, what doesn't fit is dropped.
 pub record Told (before : List ℕ) (r : Replied) (told : Reply) (after : List ℕ) : Type 0 where
   pub status : told .status ≡ r .status
   pub text : Put before 0 (r .text) (told .length) after
-  pub short : length (r .text) ≤ mostText
+  pub short : length (r .text) ≤ maxText
 
 -- all of a row are at most a number
 abbrev pub Within : ℕ → List ℕ → Type 0
@@ -45,17 +45,17 @@ abbrev pub InRange : Call → List (List ℕ) → List ℕ → Type 0
 InRange NoWord words values = 0 ≤ 0
 InRange NoVerb words values = 0 ≤ 0
 InRange (WrongCount row given) words values =
-    (length (getD words 0 []) ≤ longestName) × (row .least ≤ mostParameters) × (row .most ≤ mostParameters) × (given ≤ largest64)
+    (length (getD words 0 []) ≤ longestName) × (row .least ≤ maxParameters) × (row .most ≤ maxParameters) × (given ≤ largest64)
 InRange (Unread row index) words values = (1 ≤ index) × (row .largest ≤ largest64)
-InRange (Known row count) words values = (count ≤ mostParameters) × Within (limitOf (row .verb)) (take count values)
+InRange (Known row count) words values = (count ≤ maxParameters) × Within (limitOf (row .verb)) (take count values)
 
 pub record Understood (inScript : Bool) (words : List (List ℕ)) (r : Call) (values : List ℕ) : Type 0 where
   pub asked : askedFor r words values ≡ askedBy inScript words
   pub inRange : InRange r words values
-  pub size : length values ≡ mostParameters
+  pub size : length values ≡ maxParameters
 
 -- the same of a verb whose count of parameters is right
 pub record Gathered (row : Row) (words : List (List ℕ)) (r : Call) (values : List ℕ) : Type 0 where
   pub asked : askedFor r words values ≡ withNumbers row (drop 1 words) (numbersFrom row 0 (drop 1 words))
   pub inRange : InRange r words values
-  pub size : length values ≡ mostParameters
+  pub size : length values ≡ maxParameters

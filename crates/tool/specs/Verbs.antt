@@ -8,7 +8,7 @@ use lib.ListN.{length, getD}
 use Rattle.text.specs.Text.{ascii}
 use Rattle.text.specs.declared.Parsed.{Parsed}
 use Rattle.text.specs.declared.Parsed.the-variants.{Number}
-use Rattle.text.specs.Reading.{numberIn}
+use Rattle.text.specs.Reading.{parseNumber}
 use Rattle.named.specs.Named.{variantNames}
 use Rattle.program.specs.Same.{sameWords}
 use Rattle.tool.specs.declared.TapeVerb.the-variants.{Check, Listing, Load, Run, Power, Trace, Cut, Play}
@@ -23,12 +23,12 @@ use Rattle.tool.specs.declared.Row.{Row}
 -- ---- the table
 
 -- the most parameters of all
-abbrev pub mostParameters : ℕ
-mostParameters = 64
+abbrev pub maxParameters : ℕ
+maxParameters = 64
 
 -- the most elements of a buffer that a script gives
-abbrev pub mostRoom : ℕ
-mostRoom = 4096
+abbrev pub maxRoom : ℕ
+maxRoom = 4096
 
 abbrev pub largest8 : ℕ
 largest8 = 255
@@ -65,23 +65,23 @@ entries =
     ∷ entry "power" (OnTape Power) 1 1 largest32 0
     ∷ entry "trace" (OnTape Trace) 1 1 largest32 0
     ∷ entry "cut" (OnTape Cut) 2 2 largest32 10
-    ∷ entry "play" (OnTape Play) 4 mostParameters largest32 0
+    ∷ entry "play" (OnTape Play) 4 maxParameters largest32 0
     ∷ entry "decode" (OnNumbers Decode) 1 1 largest32 0
     ∷ entry "fibonacci" (OnNumbers Fibonacci) 1 1 largest32 13
     ∷ entry "places" (OnNumbers Places) 1 1 largest64 0
-    ∷ entry "number" (OnNumbers NumberOf) 0 mostParameters largest8 12
+    ∷ entry "number" (OnNumbers NumberOf) 0 maxParameters largest8 12
     ∷ entry "hofstadter" (OnNumbers Hofstadter) 1 1 largest64 0
     ∷ entry "inverse" (OnNumbers Inverse) 2 2 largest32 2
     ∷ entry "height" (OnNumbers Height) 1 1 largest32 0
     ∷ entry "prime" (OnNumbers Prime) 1 1 largest32 0
     ∷ entry "mulmod" (OnNumbers MulMod) 3 3 largest32 0
     ∷ entry "powmod" (OnNumbers PowMod) 3 3 largest32 0
-    ∷ entry "tape" (InScript Tape) 0 mostParameters largest32 0
-    ∷ entry "append" (InScript Append) 0 mostParameters largest32 0
+    ∷ entry "tape" (InScript Tape) 0 maxParameters largest32 0
+    ∷ entry "append" (InScript Append) 0 maxParameters largest32 0
     ∷ entry "change" (InScript Change) 2 2 largest32 0
     ∷ entry "drop" (InScript Drop) 1 1 largest32 0
     ∷ entry "behind" (InScript Behind) 0 0 largest32 0
-    ∷ entry "room" (InScript Room) 0 1 mostRoom 0
+    ∷ entry "room" (InScript Room) 0 1 maxRoom 0
     ∷ []
 
 unfoldable pub names : List (List ℕ)
@@ -166,7 +166,7 @@ limitIn Append = largest32
 limitIn Change = largest32
 limitIn Drop = largest32
 limitIn Behind = largest32
-limitIn Room = mostRoom
+limitIn Room = maxRoom
 
 abbrev pub limitOf : Verb → ℕ
 limitOf (OnNumbers v) = limitOn v
@@ -195,7 +195,7 @@ isVariant (InScript v) place = false
 unfoldable pub variantIn : List ℕ → Parsed
 variantIn word =
     let variant = indexIn word variantNames in
-    cond (ltb variant (length variantNames)) (Number variant) (numberIn largest32 word)
+    cond (ltb variant (length variantNames)) (Number variant) (parseNumber largest32 word)
 
 unfoldable pub parameterIn : Row → ℕ → List ℕ → Parsed
-parameterIn row place word = cond (isVariant (row .verb) place) (variantIn word) (numberIn (row .largest) word)
+parameterIn row place word = cond (isVariant (row .verb) place) (variantIn word) (parseNumber (row .largest) word)

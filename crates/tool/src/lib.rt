@@ -70,7 +70,7 @@ pub enum Call {
 // A call with its parameters.
 pub struct CommandLine {
     pub call: Call,
-    pub values: [u64; MOST_PARAMETERS],
+    pub values: [u64; MAX_PARAMETERS],
 }
 
 // A reply whose text stands in a row: its status, 0 answered, 1 refused, 2 not understood, and how many bytes of the text stand there.
@@ -86,13 +86,13 @@ pub const REFUSED: u32 = 1;
 pub const NOT_UNDERSTOOD: u32 = 2;
 
 // No text of a reply is longer.
-pub const MOST_TEXT: usize = 8192;
+pub const MAX_TEXT: usize = 8192;
 
 // The most parameters of all.
-pub const MOST_PARAMETERS: usize = 64;
+pub const MAX_PARAMETERS: usize = 64;
 
 // The most elements of a buffer that a script gives.
-pub const MOST_ROOM: u64 = 4096;
+pub const MAX_ROOM: u64 = 4096;
 
 pub const LARGEST_8: u64 = 255;
 
@@ -217,7 +217,7 @@ pub const TABLE: [Row; ROWS] = [
     Row {
         verb: Verb::OnTape(TapeVerb::Play),
         least: 4,
-        most: MOST_PARAMETERS,
+        most: MAX_PARAMETERS,
         largest: LARGEST_32,
         own: 0,
     },
@@ -245,7 +245,7 @@ pub const TABLE: [Row; ROWS] = [
     Row {
         verb: Verb::OnNumbers(NumberVerb::NumberOf),
         least: 0,
-        most: MOST_PARAMETERS,
+        most: MAX_PARAMETERS,
         largest: LARGEST_8,
         own: 12,
     },
@@ -294,14 +294,14 @@ pub const TABLE: [Row; ROWS] = [
     Row {
         verb: Verb::InScript(ScriptVerb::Tape),
         least: 0,
-        most: MOST_PARAMETERS,
+        most: MAX_PARAMETERS,
         largest: LARGEST_32,
         own: 0,
     },
     Row {
         verb: Verb::InScript(ScriptVerb::Append),
         least: 0,
-        most: MOST_PARAMETERS,
+        most: MAX_PARAMETERS,
         largest: LARGEST_32,
         own: 0,
     },
@@ -330,7 +330,7 @@ pub const TABLE: [Row; ROWS] = [
         verb: Verb::InScript(ScriptVerb::Room),
         least: 0,
         most: 1,
-        largest: MOST_ROOM,
+        largest: MAX_ROOM,
         own: 0,
     },
 ];

@@ -8,15 +8,15 @@ ghost use Rattle.refusal.specs.Outcomes.{numberOutcomeOf};
 ghost use Rattle.fibonacci.specs.Forms.{zeckendorf};
 ghost use Rattle.fibonacci.specs.Hofstadter.{G};
 ghost use Rattle.fibonacci.specs.Height.{height};
-ghost use Rattle.fibonacci.specs.Services.{fibonacciOrZero, fibonacciOutcome, placesOf, formRow, bitRow, placesOutcome, placesRow, numberOutcome};
+ghost use Rattle.fibonacci.specs.Services.{fibonacciOrZero, fibonacciOutcome, placesOf, formRow, bitRow, placesOutcome, placesBuffer, numberOutcome};
 use fibonacci::BitString;
 use fibonacci::Form;
 use list::are_places;
 use list::total;
 use refusal::NumberAnswer;
 use refusal::Refusal;
-use weights::FOOT;
-use weights::climb;
+use weights::PLACE_ZERO;
+use weights::ascend_to;
 use weights::fib_at;
 use weights::highest;
 use weights::lower;
@@ -85,18 +85,18 @@ pub fn bit_string(n: u64) -> BitString
     }
 }
 
-// Number to list: the places of n, highest first, into the row; the bytes past them stay.
-pub fn places(n: u64, row: &mut [u8]) -> NumberAnswer
-    ensures { λ answer. ⌜ numberOutcomeOf answer ≡ placesOutcome n (length (now (row .entry))) ⌝ }
-    ensures { λ _. ⌜ now (row .exit) ≡ placesRow n (now (row .entry)) ⌝ }
+// Number to list: the places of n, highest first, into the buffer; the bytes past them stay.
+pub fn places(n: u64, buffer: &mut [u8]) -> NumberAnswer
+    ensures { λ answer. ⌜ numberOutcomeOf answer ≡ placesOutcome n (length (now (buffer .entry))) ⌝ }
+    ensures { λ _. ⌜ now (buffer .exit) ≡ placesBuffer n (now (buffer .entry)) ⌝ }
 {
     let form = zeckendorf(n);
     let list = form.places;
     let count = form.count;
-    if row.len() < count {
+    if buffer.len() < count {
         return NumberAnswer::Refused(Refusal::Room);
     }
-    bytes::copy(&list[..count], row);
+    bytes::copy(&list[..count], buffer);
     NumberAnswer::Answered(count as u64)
 }
 
@@ -117,11 +117,11 @@ pub fn hofstadter(n: u64) -> u64
     let form = zeckendorf(n);
     let places = form.places;
     let mut sum: u64 = 0;
-    let mut at = FOOT;
+    let mut at = PLACE_ZERO;
     let mut i = form.count;
     while i > 0 {
         i -= 1;
-        at = climb(at, places[i] as usize);
+        at = ascend_to(at, places[i] as usize);
         sum += at.below;
     }
     sum

@@ -4,8 +4,8 @@ ghost use mathlib.Core.Bool.{true};
 ghost use Rattle.refusal.specs.Outcomes.{numberOutcomeOf};
 ghost use Rattle.fibonacci.specs.Forms.{arePlaces};
 ghost use Rattle.fibonacci.specs.Services.{lastPlace, totalOutcome};
-use crate::weights::FOOT;
-use crate::weights::climb;
+use crate::weights::PLACE_ZERO;
+use crate::weights::ascend_to;
 use refusal::NumberAnswer;
 use refusal::Refusal;
 
@@ -35,11 +35,11 @@ pub(crate) fn total(list: &[u8]) -> NumberAnswer
     ensures { λ answer. ⌜ numberOutcomeOf answer ≡ totalOutcome (now (list .entry)) ⌝ }
 {
     let mut sum: u64 = 0;
-    let mut at = FOOT;
+    let mut at = PLACE_ZERO;
     let mut i = list.len();
     while i > 0 {
         i -= 1;
-        at = climb(at, list[i] as usize);
+        at = ascend_to(at, list[i] as usize);
         if 0xFFFF_FFFF_FFFF_FFFF - sum < at.weight {
             return NumberAnswer::Refused(Refusal::Range);
         }

@@ -3,11 +3,11 @@
 ghost use mathlib.Core.Path.{_≡_};
 ghost use Prim.Native.Nat.{suc, _<_, _≤_};
 ghost use Rattle.fibonacci.specs.Fibonacci.{fib};
-ghost use Rattle.fibonacci.specs.Weights.{Weighs};
+ghost use Rattle.fibonacci.specs.Inner.Weights.{IsWeight};
 use fibonacci::Weight;
 
 // Below place 1.
-pub(crate) const FOOT: Weight = Weight {
+pub(crate) const PLACE_ZERO: Weight = Weight {
     place: 0,
     weight: 1,
     below: 0,
@@ -21,15 +21,15 @@ pub(crate) fn fib_at(i: usize) -> u64
     if i == 0 {
         return 0;
     }
-    climb(FOOT, i - 1).weight
+    ascend_to(PLACE_ZERO, i - 1).weight
 }
 
 // Up to a place.
-pub(crate) fn climb(from: Weight, place: usize) -> Weight
-    requires { ⌜ Weighs from ⌝ }
+pub(crate) fn ascend_to(from: Weight, place: usize) -> Weight
+    requires { ⌜ IsWeight from ⌝ }
     requires { ⌜ from .place ≤ place ⌝ }
     requires { ⌜ place ≤ 92 ⌝ }
-    ensures { λ r. ⌜ Weighs r ⌝ }
+    ensures { λ r. ⌜ IsWeight r ⌝ }
     ensures { λ r. ⌜ r .place ≡ place ⌝ }
 {
     let mut at = from;
@@ -41,11 +41,11 @@ pub(crate) fn climb(from: Weight, place: usize) -> Weight
 
 // The highest place whose weight is at most n; below place 1 where n is 0.
 pub(crate) fn highest(n: u64) -> Weight
-    ensures { λ r. ⌜ Weighs r ⌝ }
+    ensures { λ r. ⌜ IsWeight r ⌝ }
     ensures { λ r. ⌜ r .place ≤ 92 ⌝ }
     ensures { λ r. ⌜ n < fib (suc (suc (r .place))) ⌝ }
 {
-    let mut at = FOOT;
+    let mut at = PLACE_ZERO;
     while at.weight <= n - at.below {
         at = above(at);
     }
@@ -54,9 +54,9 @@ pub(crate) fn highest(n: u64) -> Weight
 
 // One place up, where its weight fits 64 bits.
 fn above(at: Weight) -> Weight
-    requires { ⌜ Weighs at ⌝ }
+    requires { ⌜ IsWeight at ⌝ }
     requires { ⌜ at .place < 92 ⌝ }
-    ensures { λ r. ⌜ Weighs r ⌝ }
+    ensures { λ r. ⌜ IsWeight r ⌝ }
     ensures { λ r. ⌜ r .place ≡ suc (at .place) ⌝ }
 {
     Weight {
@@ -68,9 +68,9 @@ fn above(at: Weight) -> Weight
 
 // One place down.
 pub(crate) fn lower(at: Weight) -> Weight
-    requires { ⌜ Weighs at ⌝ }
+    requires { ⌜ IsWeight at ⌝ }
     requires { ⌜ 0 < at .place ⌝ }
-    ensures { λ r. ⌜ Weighs r ⌝ }
+    ensures { λ r. ⌜ IsWeight r ⌝ }
     ensures { λ r. ⌜ suc (r .place) ≡ at .place ⌝ }
 {
     Weight {

@@ -11,14 +11,14 @@ use lib.Seq.{length-take-le}
 use Rattle.refusal.specs.Refusals.{numberOf}
 use Rattle.refusal.specs.Outcomes.{refused, answered, numberOutcomeOf}
 use Rattle.tape.specs.declared.Header.{Header}
-use Rattle.named.specs.Parameters.{unnamed}
+use Rattle.named.specs.Parameters.{badVariant}
 use Rattle.program.specs.Same.{sameWords}
 use Rattle.program.proofs.Laws.Checking.{build-count, build-words, builtFor, buildFor, measured, check-not-built, check-other, check-same}
 use Rattle.accepting.proofs.accept_measured.Statement.{statement}
 use Rattle.accepting.proofs.accept_measured.Tie as tie
 
-named : (s : tie.Else1) → unnamed (s .before .before .before .args .header .variant) ≡ false
-named s = sym (s .before .is-unnamed .ensures) ∙ s .if1 .left
+named : (s : tie.Else1) → badVariant (s .before .before .before .args .header .variant) ≡ false
+named s = sym (s .before .is-bad-variant .ensures) ∙ s .if1 .left
 
 -- the header that the program is built for, and the row after build
 abbrev header : tie.After-build → Header
@@ -40,19 +40,19 @@ fits c = omega (arith, build-count _ _ _ _ _ _ (built c) .1, c .before .before .
 front : (c : tie.After-words) → take (c .words .given .0 .0) (row (c .before .before .before)) ≡ builtFor (header (c .before .before .before))
 front c = ap (take (c .words .given .0 .0)) (c .before .before .before .build .ensures .1) ∙ build-words _ _ _ _ _ _ (built c)
 
-accept-unnamed-requires : tie.Need-accept-unnamed-requires
-accept-unnamed-requires c κs =
-    ap (λ (h : Header). unnamed (h .variant)) (sym (measured _ _ (c .before .before .before .pre) .1)) ∙ sym (c .before .is-unnamed .ensures) ∙ c .if1 .taken
+accept-not-named-requires : tie.Need-accept-not-named-requires
+accept-not-named-requires c κs =
+    ap (λ (h : Header). badVariant (h .variant)) (sym (measured _ _ (c .before .before .before .pre) .1)) ∙ sym (c .before .is-bad-variant .ensures) ∙ c .if1 .taken
 
 array-share-prefix-row : tie.Need-array-share-prefix-row
 array-share-prefix-row c = fits (c .before)
 
-slice-aggregate-same : tie.Need-slice-aggregate-same
-slice-aggregate-same c = sym (length-take-le _ _ (fits (c .before .before)))
+slice-aggregate-same-words : tie.Need-slice-aggregate-same-words
+slice-aggregate-same-words c = sym (length-take-le _ _ (fits (c .before .before)))
 
--- the answer of `same` compares the tape with what build wrote
-compared : (c : tie.After-same) → sameWords (c .before .before .before .before .before .before .before .before .before .before .before .args .tape .now) (builtFor (header (c .before .before .before .before .before .before))) ≡ c .same .result
-compared c = sym (c .same .ensures ∙ ap (sameWords _) (front (c .before .before .before)))
+-- the answer of `same_words` compares the tape with what build wrote
+compared : (c : tie.After-same-words) → sameWords (c .before .before .before .before .before .before .before .before .before .before .before .args .tape .now) (builtFor (header (c .before .before .before .before .before .before))) ≡ c .same-words .result
+compared c = sym (c .same-words .ensures ∙ ap (sameWords _) (front (c .before .before .before)))
 
 returns-2 : tie.Need-returns-2
 returns-2 c = check-same _ _ (c .before .before .before .before .before .before .before .before .before .before .before .before .pre) (named (c .before .before .before .before .before .before .before .before .before)) _ (built (c .before .before .before .before)) (compared (c .before) ∙ c .if2 .taken)
@@ -68,7 +68,7 @@ accept-measured-spec =
     tie.close
     (tie.spec
     (λ c κs. search needs)
-    accept-unnamed-requires
+    accept-not-named-requires
     (λ c. search needs)
     (λ c. search needs)
     (λ c κs. search needs)
@@ -76,7 +76,7 @@ accept-measured-spec =
     (λ c κs. search needs)
     (λ c. search needs)
     array-share-prefix-row
-    slice-aggregate-same
+    slice-aggregate-same-words
     (λ c κs. search needs)
     returns-2
     (λ c κs. search needs)

@@ -11,7 +11,7 @@ returns c = rw (sym (c .before .before .is-variant .ensures) ∙ c .before .if1 
 
 returns-2 : tie.Need-returns-2
 unfolding parameterIn
-returns-2 c = rw (sym (c .before .before .is-variant .ensures) ∙ c .before .if1 .left) (c .number .ensures)
+returns-2 c = rw (sym (c .before .before .is-variant .ensures) ∙ c .before .if1 .left) (c .parse-number .ensures)
 
 pub parameter-spec : {M : Type 1} → statement M
 parameter-spec =

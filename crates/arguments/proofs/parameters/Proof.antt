@@ -4,7 +4,7 @@ use mathlib.Core.List.{[]}
 use Prim.Native.Nat.{_+_, _-_, _≤_, _<_}
 use native.Mathlib.Omega.{arith}
 use lib.ListN.{length, getD, length-set}
-use Rattle.text.specs.Reading.{wordsOf}
+use Rattle.text.specs.Reading.{splitWords}
 use Rattle.tool.specs.Verbs.{parameterIn}
 use Rattle.tool.proofs.Laws.Verbs.{limit-most, parameter-small}
 use Rattle.tool.proofs.Laws.Calls.{Sofar, at-first, a-number, no-number, no-more, unread-at}
@@ -13,21 +13,21 @@ use Rattle.arguments.proofs.parameters.Statement.{statement}
 use Rattle.arguments.proofs.parameters.Tie as tie
 
 abbrev Inv-loop : tie.InvT-loop
-Inv-loop arguments row count values₀ i₀ values i = (i ≤ count) × (length values ≡ 64) × Sofar row (wordsOf arguments) i values
+Inv-loop arguments row count values₀ i₀ values i = (i ≤ count) × (length values ≡ 64) × Sofar row (splitWords arguments) i values
 
 abbrev μ-loop : tie.MeasureT-loop
 μ-loop arguments row count values₀ i₀ values i = count - i
 
 -- the word at i + 1 as its place reads it
 as-read : (c : tie.After-parameter Inv-loop μ-loop)
-    → parameterIn (c .before .before .before .before .before .args .row) (c .before .before .before .loop .i) (getD (wordsOf (c .before .before .before .before .before .args .arguments .now)) (c .before .before .before .loop .i + 1) []) ≡ c .parameter .result
-as-read c = rw (← c .before .word .ensures) (sym (c .parameter .ensures))
+    → parameterIn (c .before .before .before .before .before .args .row) (c .before .before .before .loop .i) (getD (splitWords (c .before .before .before .before .before .args .arguments .now)) (c .before .before .before .loop .i + 1) []) ≡ c .parameter .result
+as-read c = rw (← c .before .nth-word .ensures) (sym (c .parameter .ensures))
 
-inside : (c : tie.After-parameter Inv-loop μ-loop) → c .before .before .before .loop .i + 1 < length (wordsOf (c .before .before .before .before .before .args .arguments .now))
+inside : (c : tie.After-parameter Inv-loop μ-loop) → c .before .before .before .loop .i + 1 < length (splitWords (c .before .before .before .before .before .args .arguments .now))
 inside c = omega (arith, c .before .before .before .before .before .pre .1)
 
 loop-holds : tie.Need-loop-holds Inv-loop μ-loop
-loop-holds c = (omega arith, refl, at-first (c .before .args .row) (wordsOf (c .before .args .arguments .now)) [])
+loop-holds c = (omega arith, refl, at-first (c .before .args .row) (splitWords (c .before .args .arguments .now)) [])
 
 add-index : tie.Need-add-index Inv-loop μ-loop
 add-index c = omega arith
@@ -41,7 +41,7 @@ array-write-values c = omega (arith, c .before .before .before .before .before .
 returns : tie.Need-returns Inv-loop μ-loop
 returns c =
     let row = c .before .before .before .before .before .before .before .args .row in
-    let words = wordsOf (c .before .before .before .before .before .before .before .args .arguments .now) in
+    let words = splitWords (c .before .before .before .before .before .before .before .args .arguments .now) in
     let i = c .before .before .before .before .before .loop .i in
     let e = no-number row words i (c .before .before .before .before .before .loop .values) (c .before .before .before .before .before .loop .inv .2) (inside (c .before .before)) (as-read (c .before .before) ∙ c .enum-told .given .1) in
     record {
@@ -59,7 +59,7 @@ loop-less c = omega arith
 loop-again : tie.Need-loop-again Inv-loop μ-loop
 loop-again c =
     let row = c .before .before .before .before .before .before .before .before .args .row in
-    let words = wordsOf (c .before .before .before .before .before .before .before .before .args .arguments .now) in
+    let words = splitWords (c .before .before .before .before .before .before .before .before .args .arguments .now) in
     let e = as-read (c .before .before .before) ∙ c .before .n .given .1 in
     let small = rw e at (parameter-small row (c .before .before .before .before .before .before .loop .i) (getD words (c .before .before .before .before .before .before .loop .i + 1) []) (c .before .before .before .before .before .before .before .before .pre .2)) in
     let next = a-number row words (c .before .before .before .before .before .before .loop .i) (c .before .before .before .before .before .before .loop .values) (c .before .before .before .before .before .before .loop .inv .2) _ (inside (c .before .before .before)) (omega (arith, c .before .before .before .before .before .before .loop .inv .1, c .before .before .before .before .before .before .before .before .pre .0)) e small in
@@ -68,7 +68,7 @@ loop-again c =
 returns-2 : tie.Need-returns-2 Inv-loop μ-loop
 returns-2 c =
     let row = c .before .before .before .args .row in
-    let words = wordsOf (c .before .before .before .args .arguments .now) in
+    let words = splitWords (c .before .before .before .args .arguments .now) in
     let all-read : c .before .loop .i ≡ c .before .before .before .args .count = omega arith in
     let e = no-more row words (c .before .loop .i) (c .before .loop .values) (c .before .loop .inv .2) (omega (arith, c .before .before .before .pre .1)) in
     record {

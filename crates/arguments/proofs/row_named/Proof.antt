@@ -2,7 +2,7 @@
 use mathlib.Core.Path.{_≡_, sym}
 use Prim.Native.Nat.{_≤_}
 use lib.ListN.{length}
-use Rattle.text.specs.Reading.{wordsOf}
+use Rattle.text.specs.Reading.{splitWords}
 use Rattle.tool.specs.Verbs.{entries, names, rows, indexIn, rowNamed}
 use Rattle.tool.proofs.Laws.Verbs.{row-nowhere}
 use borrow.Author.Needs.{needs}
@@ -10,7 +10,7 @@ use Rattle.arguments.proofs.row_named.Statement.{statement}
 use Rattle.arguments.proofs.row_named.Tie as tie
 
 index : (c : tie.After-find) → c .find .result ≡ indexIn (c .before .before .before .args .name .now) names
-unfolding names entries wordsOf
+unfolding names entries splitWords
 index c = c .find .ensures
 
 -- past the last name

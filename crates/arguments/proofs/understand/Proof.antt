@@ -5,8 +5,8 @@ use mathlib.Core.List.{List, []}
 use Prim.Native.Nat.{ℕ, _-_, _≤_, _<_}
 use native.Mathlib.Omega.{arith}
 use lib.ListN.{length, getD}
-use Rattle.text.specs.Reading.{wordsOf}
-use Rattle.tool.specs.Verbs.{rowNamed, isHidden, limitOf, mostParameters, largest64}
+use Rattle.text.specs.Reading.{splitWords}
+use Rattle.tool.specs.Verbs.{rowNamed, isHidden, limitOf, maxParameters, largest64}
 use Rattle.tool.specs.Rows.{longestName}
 use Rattle.tool.proofs.Laws.Verbs.{row-largest, row-least, row-most, name-short}
 use Rattle.tool.proofs.Laws.Calls.{asked-none, asked-hidden, asked-few, asked-many, asked-taken}
@@ -15,7 +15,7 @@ use Rattle.arguments.proofs.understand.Statement.{statement}
 use Rattle.arguments.proofs.understand.Tie as tie
 
 abbrev wordsAt : tie.After-is-hidden → List (List ℕ)
-wordsAt c = wordsOf (c .before .before .before .before .before .before .args .arguments .now)
+wordsAt c = splitWords (c .before .before .before .before .before .before .args .arguments .now)
 
 module _ (c : tie.After-is-hidden) where
   some : 0 < length (wordsAt c)
@@ -29,15 +29,15 @@ module _ (c : tie.After-is-hidden) where
 
   -- the row is the table's
   row : c .before .row-named .result ≡ rowNamed (getD (wordsAt c) 0 [])
-  row = rw (← c .before .before .word .ensures) (c .before .row-named .ensures)
+  row = rw (← c .before .before .nth-word .ensures) (c .before .row-named .ensures)
 
   largest : c .before .row-named .result .largest ≤ limitOf (c .before .row-named .result .verb)
   largest = rw row (row-largest (getD (wordsAt c) 0 []))
 
-  least : c .before .row-named .result .least ≤ mostParameters
+  least : c .before .row-named .result .least ≤ maxParameters
   least = rw row (row-least (getD (wordsAt c) 0 []))
 
-  most : c .before .row-named .result .most ≤ mostParameters
+  most : c .before .row-named .result .most ≤ maxParameters
   most = rw row (row-most (getD (wordsAt c) 0 []))
 
 module _ (c : tie.Else2) where

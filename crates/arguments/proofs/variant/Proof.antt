@@ -3,7 +3,7 @@ use mathlib.Core.Path.{_≡_}
 use native.Mathlib.Omega.{arith}
 use lib.ListN.{length}
 use borrow.Author.Tests.{lt-ltb, le-ltb}
-use Rattle.text.specs.Reading.{wordsOf}
+use Rattle.text.specs.Reading.{splitWords}
 use Rattle.named.specs.Named.{variantNames}
 use Rattle.tool.specs.Verbs.{indexIn, variantIn}
 use borrow.Author.Needs.{needs}
@@ -12,11 +12,11 @@ use Rattle.arguments.proofs.variant.Tie as tie
 
 -- the code's names are those of the definition
 index : (c : tie.After-find) → c .find .result ≡ indexIn (c .before .before .before .args .word .now) variantNames
-unfolding wordsOf
+unfolding splitWords
 index c = c .find .ensures
 
 count : (c : tie.After-word-count) → c .word-count .result ≡ length variantNames
-unfolding wordsOf
+unfolding splitWords
 count c = c .word-count .ensures
 
 returns : tie.Need-returns
@@ -29,7 +29,7 @@ returns-2 : tie.Need-returns-2
 unfolding variantIn
 returns-2 c =
     let found = c .before .before .before .before in
-    rw (← index found, le-ltb (found .find .result) (length variantNames) (omega (arith, count (c .before .before)))) (c .number .ensures)
+    rw (← index found, le-ltb (found .find .result) (length variantNames) (omega (arith, count (c .before .before)))) (c .parse-number .ensures)
 
 pub variant-spec : {M : Type 1} → statement M
 variant-spec =

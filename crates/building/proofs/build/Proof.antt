@@ -4,7 +4,7 @@ use mathlib.Core.Bool.{false}
 use native.Mathlib.Omega.{arith}
 use borrow.Author.Needs.{needs}
 use Rattle.modular.specs.Inverses.{badExponent}
-use Rattle.named.specs.Parameters.{badModulus, badOrder, unnamed}
+use Rattle.named.specs.Parameters.{badModulus, badOrder, badVariant}
 use Rattle.named.proofs.Laws.Parameters.{good-modulus}
 use Rattle.program.proofs.Laws.Answering.{modulus-refused, order-refused, exponent-refused, variant-refused, left-to-room, no-inverse, some-inverse, invertible, writable}
 use Rattle.building.proofs.build.Statement.{statement}
@@ -20,8 +20,8 @@ order s = sym (s .before .is-bad-order .ensures) ∙ s .if2 .left
 exponent : (s : tie.Else3) → badExponent (s .before .before .before .before .before .before .before .args .k) (s .before .before .before .before .before .before .before .args .r) ≡ false
 exponent s = some-inverse _ _ (λ none. s .if3 .left (s .before .good-inverse .ensures ∙ none))
 
-variant : (s : tie.Else4) → unnamed (s .before .before .before .before .before .before .before .before .before .args .variant) ≡ false
-variant s = sym (s .before .is-unnamed .ensures) ∙ s .if4 .left
+variant : (s : tie.Else4) → badVariant (s .before .before .before .before .before .before .before .before .before .args .variant) ≡ false
+variant s = sym (s .before .is-bad-variant .ensures) ∙ s .if4 .left
 
 returns : tie.Need-returns
 returns c = modulus-refused _ _ _ _ _ (sym (c .before .is-bad-modulus .ensures) ∙ c .if1 .taken)
@@ -38,7 +38,7 @@ returns-3 c = exponent-refused _ _ _ _ _ (modulus (c .before .before .before .be
 returns-4 : tie.Need-returns-4
 returns-4 c =
     let s = c .before .before in
-    variant-refused _ _ _ _ _ (modulus (s .before .before .before .before)) (order (s .before .before)) (exponent s) (sym (c .before .is-unnamed .ensures) ∙ c .if4 .taken)
+    variant-refused _ _ _ _ _ (modulus (s .before .before .before .before)) (order (s .before .before)) (exponent s) (sym (c .before .is-bad-variant .ensures) ∙ c .if4 .taken)
 
 forms-requires : tie.Need-forms-requires
 forms-requires c κs =

@@ -41,7 +41,7 @@ draw-requires : tie.Need-draw-requires
 draw-requires c κs =
     let s = c .before .before .before .before .before .before .before .before .before in
     let laid = c .before .before .before .lay-out .ensures in
-    let room = steps-room (s .pre .0) (s .pre .1) (header-is (c .before .before .before .before .before .before .before)) (s .args .row .now) (omega (arith, c .before .before .before .before .before .if1 .left, c .before .before .before .before .before .before .word-count .ensures)) in
+    let room = steps-room (s .pre .0) (s .pre .1) (header-is (c .before .before .before .before .before .before .before)) (s .args .buffer .now) (omega (arith, c .before .before .before .before .before .if1 .left, c .before .before .before .before .before .before .word-count .ensures)) in
     (whole (s .pre .0) (s .pre .1), omega (arith, room, laid .0, ap length (laid .1)))
 
 returns-2 : tie.Need-returns-2

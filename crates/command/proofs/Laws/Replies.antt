@@ -11,15 +11,14 @@ use Rattle.tool.specs.declared.Reply.{Reply}
 use Rattle.tool.specs.Verbs.{takesTape}
 use Rattle.tool.specs.Texts.{scriptLine}
 use Rattle.tool.specs.Replies.{complains, ownIn}
-use Rattle.tool.specs.Rows.{mostText, Told}
+use Rattle.tool.specs.Rows.{maxText, Told}
 
-pub complained : {before after text : List ℕ} {length′ : ℕ} {r : Reply} → Put before 0 text length′ after → length text ≤ mostText
+pub complained : {before after text : List ℕ} {length′ : ℕ} {r : Reply} → Put before 0 text length′ after → length text ≤ maxText
     → (r .status ≡ 2) × (r .length ≡ length′) → Told before (complains text) r after
 complained w short e = record { status = e .0; text = rw (e .1) w; short = short }
 
-pub script-most : length scriptLine ≤ mostText
+pub script-most : length scriptLine ≤ maxText
 script-most = omega arith
-
 
 pub own-whole : (row : Row) → row .own ≡ ownIn row true
 own-whole row = rw (and-false (takesTape (row .verb)))

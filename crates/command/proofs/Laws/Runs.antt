@@ -11,7 +11,7 @@ use Rattle.refusal.specs.Outcomes.{after}
 use Rattle.sequencer.specs.Lists.{Request, answerTo, afterAll, numbersAll, requestsOf}
 use Rattle.text.specs.Text.{numbersLine}
 use Rattle.text.specs.Rows.{Put}
-use Rattle.tool.specs.Verbs.{mostParameters}
+use Rattle.tool.specs.Verbs.{maxParameters}
 use Rattle.tool.specs.Replies.{registersIn, runsTold, played}
 use Rattle.tool.specs.Rows.{Told}
 
@@ -72,6 +72,6 @@ runs-count tapes words v c d e f is =
 
 -- their line stands in the row, and they are no more than the parameters
 pub runs-told : {before after line : List ℕ} {next : ℕ} (v tapes : List ℕ) → line ≡ runsTold (requestsOf tapes (drop 4 v)) (registersIn v)
-    → Put before 0 (numbersLine line) next after → length (numbersLine line) ≤ 11 * length line + 1 → length line ≤ mostParameters
+    → Put before 0 (numbersLine line) next after → length (numbersLine line) ≤ 11 * length line + 1 → length line ≤ maxParameters
     → Told before (played v tapes) (record { status = 0; length = next }) after
 runs-told v tapes is put bound few = rw (← is) (record { status = refl; text = put; short = omega arith })

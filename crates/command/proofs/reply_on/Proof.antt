@@ -35,18 +35,18 @@ returns : tie.Need-returns
 returns c = rw (← (rw (c .before .before .before .before .before .enum-told .given .1) at (c .before .before .before .before .before .before .before .before .understand .ensures .asked))) (complained (c .before .before .before .put-usage .ensures) usage-most (c .complaint .ensures))
 
 returns-2 : tie.Need-returns-2
-returns-2 c = rw (← (rw (c .before .before .before .before .before .before .enum-told2 .given .1) at (c .before .before .before .before .before .before .before .before .before .understand .ensures .asked)), ← c .before .before .before .before .word .ensures) (complained (c .before .before .before .put-no-verb .ensures) (no-verb-most _) (c .complaint2 .ensures))
+returns-2 c = rw (← (rw (c .before .before .before .before .before .before .enum-told2 .given .1) at (c .before .before .before .before .before .before .before .before .before .understand .ensures .asked)), ← c .before .before .before .before .nth-word .ensures) (complained (c .before .before .before .put-no-verb .ensures) (no-verb-most _) (c .complaint2 .ensures))
 
 returns-3 : tie.Need-returns-3
 returns-3 c =
     let r = rw (c .before .before .before .before .before .before .before .call .given .1) at (c .before .before .before .before .before .before .before .before .before .before .understand .ensures .inRange) in
-    let name = rw (← c .before .before .before .before .word2 .ensures) at (r .0) in
-    rw (← (rw (c .before .before .before .before .before .before .before .call .given .1) at (c .before .before .before .before .before .before .before .before .before .before .understand .ensures .asked)), ← c .before .before .before .before .word2 .ensures) (complained (c .before .before .before .put-wrong-count .ensures) (wrong-count-most _ _ _ name (omega (arith, r .1)) (omega (arith, r .2)) (omega (arith, r .3))) (c .complaint3 .ensures))
+    let name = rw (← c .before .before .before .before .nth-word2 .ensures) at (r .0) in
+    rw (← (rw (c .before .before .before .before .before .before .before .call .given .1) at (c .before .before .before .before .before .before .before .before .before .before .understand .ensures .asked)), ← c .before .before .before .before .nth-word2 .ensures) (complained (c .before .before .before .put-wrong-count .ensures) (wrong-count-most _ _ _ name (omega (arith, r .1)) (omega (arith, r .2)) (omega (arith, r .3))) (c .complaint3 .ensures))
 
 returns-4 : tie.Need-returns-4
 returns-4 c =
     let r = rw (c .before .before .before .before .before .before .before .call2 .given .1) at (c .before .before .before .before .before .before .before .before .before .before .understand .ensures .inRange) in
-    rw (← (rw (c .before .before .before .before .before .before .before .call2 .given .1) at (c .before .before .before .before .before .before .before .before .before .before .understand .ensures .asked)), ← c .before .before .before .before .word3 .ensures) (complained (c .before .before .before .put-unread .ensures) (unread-most _ _ _ (omega (arith, r .1))) (c .complaint4 .ensures))
+    rw (← (rw (c .before .before .before .before .before .before .before .call2 .given .1) at (c .before .before .before .before .before .before .before .before .before .before .understand .ensures .asked)), ← c .before .before .before .before .nth-word3 .ensures) (complained (c .before .before .before .put-unread .ensures) (unread-most _ _ _ (omega (arith, r .1))) (c .complaint4 .ensures))
 
 returns-5 : tie.Need-returns-5
 returns-5 c = rw (← (rw (c .before .before .before .before .before .before .call3 .given .1) at (c .before .before .before .before .before .before .before .before .before .understand .ensures .asked))) (c .before .before .perform .ensures)

@@ -1,4 +1,4 @@
--- `complaints::put_count` meets its contract: the least count where there are several, the most, and a word.
+-- `put_count` meets its contract: the least count where there are several, the most, and a word.
 use borrow.Author.Tests.{eq-eqb, ne-eqb}
 use Rattle.text.proofs.Laws.Puts.{puts-join}
 use Rattle.tool.specs.Texts.{countText}

@@ -1,4 +1,4 @@
--- `complaints::put_from` meets its contract: nothing, or the least count and a word.
+-- `put_from` meets its contract: nothing, or the least count and a word.
 use borrow.Author.Tests.{eq-eqb, ne-eqb}
 use Rattle.text.proofs.Laws.Puts.{put-none, puts-join}
 use Rattle.tool.specs.Texts.{fromText}

@@ -1,4 +1,4 @@
--- `complaints::put_no_verb` meets its contract: its parts one after another.
+-- `put_no_verb` meets its contract: its parts one after another.
 use mathlib.Core.List.{[], _∷_}
 use Rattle.text.specs.Text.{ascii, newline}
 use Rattle.text.proofs.Laws.Puts.{puts-join}

@@ -1,4 +1,4 @@
--- `complaints::put_unread` meets its contract: its parts one after another, by what the parameter of the place is.
+-- `put_unread` meets its contract: its parts one after another, by what the parameter of the place is.
 use mathlib.Core.Path.{sym, _∙_}
 use mathlib.Core.List.{[], _∷_, _++_}
 use Rattle.text.specs.Text.{ascii, decimalWithin, decimal, newline}

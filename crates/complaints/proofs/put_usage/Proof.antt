@@ -1,4 +1,4 @@
--- `complaints::put_usage` meets its contract: the code's text is the definition's.
+-- `put_usage` meets its contract: the code's text is the definition's.
 use Rattle.text.specs.Text.{decimalWithin, decimal}
 use Rattle.tool.specs.Texts.{listed, variantsText, lines, usage}
 use borrow.Author.Needs.{needs}

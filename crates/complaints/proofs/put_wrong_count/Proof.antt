@@ -1,4 +1,4 @@
--- `complaints::put_wrong_count` meets its contract: its parts one after another.
+-- `put_wrong_count` meets its contract: its parts one after another.
 use mathlib.Core.List.{[], _∷_}
 use Rattle.text.specs.Text.{ascii, newline}
 use Rattle.text.proofs.Laws.Puts.{puts-join}

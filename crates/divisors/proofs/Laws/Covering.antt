@@ -11,7 +11,7 @@ use lib.Dec.{eqb, ltb}
 use lib.ListN.{length, getD}
 use borrow.Author.Tests.{eqb-true, ltb-true, ltb-false}
 use Rattle.divisors.specs.Small.{limit, SmallDivisor, hasSmallDivisor}
-use Rattle.divisors.specs.Inverted.{word, TellsOf}
+use Rattle.divisors.specs.Inner.Inverted.{word, DividesBy}
 use Rattle.refusal.proofs.Laws.Tests.{by-test, both}
 use Rattle.divisors.proofs.Laws.Small.{small-told}
 
@@ -118,7 +118,7 @@ module _ (p : ℕ) (odd : ¬ (p % 2 ≡ 0)) where
         | no not-three ↦ no-even d (omega (arith, s .low)) s
       ]
 
-  pub told-by-table : {xs : List ℕ} {found : Bool} → ¬ (p % 3 ≡ 0) → TellsOf xs p found → covers oddPrimes 8190 5 xs ≡ true → found ≡ hasSmallDivisor p
+  pub told-by-table : {xs : List ℕ} {found : Bool} → ¬ (p % 3 ≡ 0) → DividesBy xs p found → covers oddPrimes 8190 5 xs ≡ true → found ≡ hasSmallDivisor p
   told-by-table {xs} {found} other h t =
       small-told p found (h .some)
       (λ e d s.

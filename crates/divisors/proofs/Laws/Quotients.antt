@@ -11,7 +11,7 @@ use lib.Dec.{leb, eqb}
 use borrow.Author.Tests.{eqb-true, eq-eqb, leb-true, le-leb}
 use lib.ListN.{length, getD}
 use Rattle.divisors.specs.Small.{limit, SmallDivisor}
-use Rattle.divisors.specs.Inverted.{word, quotientBy, isQuotient, InverseAt, TellsOf, FirstAtMost}
+use Rattle.divisors.specs.Inner.Inverted.{word, quotientBy, isQuotient, InverseAt, DividesBy, FirstAtMost}
 use Rattle.refusal.proofs.Laws.Tests.{both, and-both}
 
 -- the product of two numbers below n
@@ -70,13 +70,13 @@ module _ (xs : List ℕ) (p : ℕ) where
   pub cleared-start : Cleared xs p 0
   cleared-start = record { none = λ j d before at s. omega arith }
 
-  pub cleared-end : (i : ℕ) → length xs ≤ i → Cleared xs p i → TellsOf xs p false
+  pub cleared-end : (i : ℕ) → length xs ≤ i → Cleared xs p i → DividesBy xs p false
   cleared-end i all k =
       record { some = λ e. absurd (false≢true e); none = λ e j d at. k .none j d (omega (arith, at .place)) at }
 
   -- from place i on
   module _ (i r : ℕ) (f : FirstAtMost xs p i (p / (2 * i + 5)) r) where
-    pub found-divisor : r < length xs → isQuotient p (quotientBy (getD xs r 0) p) ≡ true → TellsOf xs p true
+    pub found-divisor : r < length xs → isQuotient p (quotientBy (getD xs r 0) p) ≡ true → DividesBy xs p true
     found-divisor inside e =
         let q : ℕ = quotientBy (getD xs r 0) p in
         let least : q * (2 * i + 5) ≤ p = le-div-iff-mul-le {k = 2 * i + 5} (omega arith) .0 (f .found inside) in

@@ -5,7 +5,7 @@ use native.Mathlib.Omega.{arith}
 use native.Mathlib.Decide.{decLt}
 use lib.ListN.{length, getD}
 use borrow.Author.Needs.{needs}
-use Rattle.divisors.specs.Inverted.{quotientBy}
+use Rattle.divisors.specs.Inner.Inverted.{quotientBy}
 use Rattle.divisors.proofs.first_at_most.Statement.{statement}
 use Rattle.divisors.proofs.first_at_most.Tie as tie
 

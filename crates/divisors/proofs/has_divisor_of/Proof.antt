@@ -4,7 +4,7 @@ use Prim.Native.Nat.{_-_, _≤_}
 use native.Mathlib.Omega.{arith}
 use lib.ListN.{length, getD}
 use borrow.Author.Needs.{needs}
-use Rattle.divisors.specs.Inverted.{quotientBy, isQuotient}
+use Rattle.divisors.specs.Inner.Inverted.{quotientBy, isQuotient}
 use Rattle.divisors.proofs.Laws.Quotients.{Cleared, cleared-start, cleared-end, cleared-first, cleared-more, found-divisor}
 use Rattle.divisors.proofs.has_divisor_of.Statement.{statement}
 use Rattle.divisors.proofs.has_divisor_of.Tie as tie

@@ -1,7 +1,7 @@
 -- `is_quotient` meets its contract: each `return` is one of the three tests.
 use borrow.Author.Needs.{needs}
 use borrow.Author.Tests.{lt-leb, le-leb, eq-eqb, ne-eqb}
-use Rattle.divisors.specs.Inverted.{isQuotient}
+use Rattle.divisors.specs.Inner.Inverted.{isQuotient}
 use Rattle.divisors.proofs.is_quotient.Statement.{statement}
 use Rattle.divisors.proofs.is_quotient.Tie as tie
 

@@ -6,7 +6,7 @@ use native.Mathlib.Numerals.{add-one}
 use native.Mathlib.Omega.{arith}
 use lib.ListN.{length, getD, take}
 use lib.Seq.{take-suc}
-use Rattle.tape.specs.Layout.{mostWords}
+use Rattle.tape.specs.Layout.{maxWords}
 use Rattle.text.specs.Rows.{Put}
 use Rattle.text.proofs.Laws.Puts.{puts-join}
 use Rattle.encoding.specs.Encoding.{wordOf, tapeOf, tapeIn, bytesOf}
@@ -48,7 +48,7 @@ words-back [] h = refl
 words-back (w ∷ words) h = ap₂ _∷_ (word-back w (h 0)) (words-back words (λ i. h (suc i)))
 
 -- up to the most words of a tape, each of 32 bits
-pub tape-back : (words : List ℕ) → ((i : ℕ) → getD words i 0 < 4294967296) → length words ≤ mostWords → tapeIn (bytesOf words) ≡ words
+pub tape-back : (words : List ℕ) → ((i : ℕ) → getD words i 0 < 4294967296) → length words ≤ maxWords → tapeIn (bytesOf words) ≡ words
 tape-back words h most =
     let long = bytes-length words in
     words-whole (bytesOf words) (omega arith) (omega arith) ∙ words-back words h

@@ -1,4 +1,4 @@
--- `tape_bytes` meets its contract: with i words put, the bytes of the first i stand in the row.
+-- `tape_bytes` meets its contract: with i words put, the bytes of the first i stand in the buffer.
 use Prim.Native.Nat.{_-_, _≤_}
 use native.Mathlib.Omega.{arith}
 use lib.ListN.{length, take}
@@ -12,10 +12,10 @@ use Rattle.encoding.proofs.tape_bytes.Statement.{statement}
 use Rattle.encoding.proofs.tape_bytes.Tie as tie
 
 abbrev Inv-loop : tie.InvT-loop
-Inv-loop row₀ at words next₀ i₀ row next i = (i ≤ length words) × Put row₀ at (bytesOf (take i words)) next row
+Inv-loop buffer₀ at words next₀ i₀ buffer next i = (i ≤ length words) × Put buffer₀ at (bytesOf (take i words)) next buffer
 
 abbrev μ-loop : tie.MeasureT-loop
-μ-loop row₀ at words next₀ i₀ row next i = length words - i
+μ-loop buffer₀ at words next₀ i₀ buffer next i = length words - i
 
 loop-holds : tie.Need-loop-holds Inv-loop μ-loop
 unfolding bytesOf

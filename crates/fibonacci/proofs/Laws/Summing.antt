@@ -10,14 +10,14 @@ use lib.ListN.{length, drop, getD, drop-of-length-le}
 use lib.Seq.{drop-cons}
 use Rattle.fibonacci.specs.declared.Weight.{Weight}
 use Rattle.fibonacci.specs.Forms.{weighed, Places}
-use Rattle.fibonacci.specs.Weights.{Weighs}
+use Rattle.fibonacci.specs.Inner.Weights.{IsWeight}
 use Rattle.fibonacci.proofs.Laws.Places.{places-at}
 use Rattle.fibonacci.proofs.Laws.Weights.{weighs-foot}
 
 pub record Summing (w : ℕ → ℕ) (l : List ℕ) (at : Weight) (sum i : ℕ) : Type 0 where
   pub within : i ≤ length l
   pub total : sum ≡ weighed w (drop i l)
-  pub weighs : Weighs at
+  pub weighs : IsWeight at
   pub ahead : 0 < i → at .place ≤ getD l (i - 1) 0
 
 pub summing-starts : (w : ℕ → ℕ) (l : List ℕ) → Summing w l (record { place = 0; weight = 1; below = 0 }) 0 (length l)
@@ -55,7 +55,7 @@ next-ahead m l zero p h e some = absurd (omega arith)
 next-ahead m l (suc i) p h e some = simp sub-one (omega (arith, e, descends m l i p h))
 
 pub summing-next : {w : ℕ → ℕ} {l : List ℕ} {at to : Weight} {sum i f : ℕ} (m : ℕ) → Places m l → Summing w l at sum i → 0 < i
-    → Weighs to → to .place ≡ getD l (i - 1) 0 → f ≡ w (getD l (i - 1) 0) → Summing w l to (sum + f) (i - 1)
+    → IsWeight to → to .place ≡ getD l (i - 1) 0 → f ≡ w (getD l (i - 1) 0) → Summing w l to (sum + f) (i - 1)
 summing-next {i = zero} m p s some weighs there e = absurd (omega arith)
 summing-next {w} {l} {to = to} {sum} {i = suc i} {f} m p s some weighs there e =
     let there′ : to .place ≡ getD l i 0 = simp sub-one at there in

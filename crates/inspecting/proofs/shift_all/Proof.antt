@@ -9,14 +9,14 @@ use borrow.Author.Tests.{not-true, not-false}
 use lib.ListN.{length, drop}
 use Rattle.tape.specs.Layout.{stepsIn}
 use Rattle.tape.proofs.Laws.Rows.{steps-nth}
-use Rattle.machine.proofs.Laws.Traces.{Left, all-left, none-left, leaves, goes-on}
-use Rattle.sequencer.proofs.Laws.Travel.{count-in}
+use Rattle.machine.proofs.Laws.Traces.{RestOfTrace, all-left, none-left, leaves, goes-on}
+use Rattle.sequencer.proofs.Laws.Positions.{count-in}
 use Rattle.inspecting.proofs.shift_all.Statement.{statement}
 use Rattle.inspecting.proofs.shift_all.Tie as tie
 
 abbrev Inv-loop : tie.InvT-loop
 Inv-loop words exponents₀ i₀ exponents i =
-    (i ≤ length words) × (length exponents ≡ length exponents₀) × Left (stepsIn words) exponents₀ (drop i (stepsIn words)) exponents
+    (i ≤ length words) × (length exponents ≡ length exponents₀) × RestOfTrace (stepsIn words) exponents₀ (drop i (stepsIn words)) exponents
 
 abbrev μ-loop : tie.MeasureT-loop
 μ-loop words exponents₀ i₀ exponents i = length words - i

@@ -16,7 +16,7 @@ use Rattle.machine.proofs.Laws.Lists.{four-first}
 use Rattle.machine.proofs.Laws.Traces.{start-range}
 use Rattle.sequencer.specs.Services.{traceRules}
 use Rattle.sequencer.proofs.Laws.Cases.{words-are, trace-rules}
-use Rattle.sequencer.proofs.Laws.Travel.{part-steps}
+use Rattle.sequencer.proofs.Laws.Positions.{part-steps}
 use Rattle.inspecting.proofs.trace_accepted.Statement.{statement}
 use Rattle.inspecting.proofs.trace_accepted.Tie as tie
 

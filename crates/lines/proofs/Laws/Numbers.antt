@@ -10,7 +10,7 @@ use Rattle.text.specs.Text.{decimal, blank, newline, line, numberLine, numbersL
 use Rattle.text.specs.Rows.{Put}
 use Rattle.text.proofs.Laws.Decimal.{decimal-length, decimal-64}
 use Rattle.text.proofs.Laws.Lines.{line-most}
-use Rattle.text.proofs.Laws.Puts.{Left, puts-join, left-next}
+use Rattle.text.proofs.Laws.Puts.{RestToPut, puts-join, left-next}
 
 -- what follows a number on its line
 unfoldable pub following : List ℕ → List ℕ
@@ -24,8 +24,8 @@ line-first n (m ∷ values) =
     ap (λ (l : List ℕ). decimal n ++ blank ∷ [] ++ l) (line-first m values)
     ∙ append-assoc (decimal n) (blank ∷ []) (decimal m ++ following values)
 
-pub no-numbers : {row after : List ℕ} {at next : ℕ} (values : List ℕ) → length values ≡ 0 → Put row at (newline ∷ []) next after
-    → Put row at (numbersLine values) next after
+pub no-numbers : {buffer after : List ℕ} {at next : ℕ} (values : List ℕ) → length values ≡ 0 → Put buffer at (newline ∷ []) next after
+    → Put buffer at (numbersLine values) next after
 unfolding line
 no-numbers [] none w = w
 no-numbers (n ∷ values) none w = absurd (omega arith)
@@ -36,14 +36,14 @@ pub numbers-line : {a b c : List ℕ} {at m n : ℕ} (values : List ℕ) → 0 <
 numbers-line [] some w v = absurd (omega arith)
 numbers-line (n ∷ values) some w v = rw (line-first n values) (puts-join w v)
 
-module _ (values : List ℕ) (i : ℕ) {row : List ℕ} {at : ℕ} {whole : List ℕ} {next : ℕ} {now : List ℕ}
-    (left : Left row at whole next now (following (drop i values))) where
+module _ (values : List ℕ) (i : ℕ) {buffer : List ℕ} {at : ℕ} {whole : List ℕ} {next : ℕ} {now : List ℕ}
+    (left : RestToPut buffer at whole next now (following (drop i values))) where
   pub next-left : {m n : ℕ} {b c : List ℕ} → i < length values → Put now next (blank ∷ []) m b → Put b m (decimal (getD values i 0)) n c
-      → Left row at whole n c (following (drop (i + 1) values))
+      → RestToPut buffer at whole n c (following (drop (i + 1) values))
   unfolding following
   next-left h w x = rw (add-one i) (left-next _ _ (rw (drop-cons values i 0 h) at left) (puts-join w x))
 
-  pub last-left : {end : ℕ} {after : List ℕ} → length values ≤ i → Put now next (newline ∷ []) end after → Put row at whole end after
+  pub last-left : {end : ℕ} {after : List ℕ} → length values ≤ i → Put now next (newline ∷ []) end after → Put buffer at whole end after
   unfolding following
   last-left h w = left .whole (rw (drop-of-length-le values {i = i} h) w)
 

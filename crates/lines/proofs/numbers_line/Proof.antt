@@ -2,7 +2,7 @@
 use Prim.Native.Nat.{_-_, _≤_}
 use native.Mathlib.Omega.{arith}
 use lib.ListN.{length, drop}
-use Rattle.text.proofs.Laws.Puts.{Left, put-length, all-left}
+use Rattle.text.proofs.Laws.Puts.{RestToPut, put-length, all-left}
 use Rattle.text.specs.Rows.{Put}
 use Rattle.text.specs.Text.{numbersLine}
 use Rattle.lines.proofs.Laws.Numbers.{following, no-numbers, numbers-line, next-left, last-left, numbers-short}
@@ -11,12 +11,12 @@ use Rattle.lines.proofs.numbers_line.Statement.{statement}
 use Rattle.lines.proofs.numbers_line.Tie as tie
 
 abbrev Inv-loop : tie.InvT-loop
-Inv-loop row₀ at values next₀ i₀ row next i = (i ≤ length values) × Left row₀ next₀ (following (drop 1 values)) next row (following (drop i values))
+Inv-loop buffer₀ at values next₀ i₀ buffer next i = (i ≤ length values) × RestToPut buffer₀ next₀ (following (drop 1 values)) next buffer (following (drop i values))
 
 abbrev μ-loop : tie.MeasureT-loop
-μ-loop row₀ at values next₀ i₀ row next i = length values - i
+μ-loop buffer₀ at values next₀ i₀ buffer next i = length values - i
 
-done : (c : tie.After-put-byte3 Inv-loop μ-loop) → Put (c .before .before .before .before .before .before .before .before .before .before .before .before .args .row .now) (c .before .before .before .before .before .before .before .before .before .before .before .before .args .at) (numbersLine (c .before .before .before .before .before .before .before .before .before .before .before .before .args .values .now)) (c .put-byte3 .result) (c .put-byte3 .last .0)
+done : (c : tie.After-put-byte3 Inv-loop μ-loop) → Put (c .before .before .before .before .before .before .before .before .before .before .before .before .args .buffer .now) (c .before .before .before .before .before .before .before .before .before .before .before .before .args .at) (numbersLine (c .before .before .before .before .before .before .before .before .before .before .before .before .args .values .now)) (c .put-byte3 .result) (c .put-byte3 .last .0)
 done c =
     let values = c .before .before .before .before .before .before .before .before .before .before .before .before .args .values .now in
     numbers-line values (omega arith) (c .before .before .before .before .before .before .put-word .ensures) (last-left values (c .before .before .before .loop .i) (c .before .before .before .loop .inv .1) (omega arith) (c .put-byte3 .ensures))

@@ -8,7 +8,7 @@ use lib.ListN.{length, take}
 use lib.Seq.{length-take-le}
 use Rattle.text.proofs.Laws.Puts.{put-taken, put-inside}
 use Rattle.program.specs.Services.{acceptOutcome}
-use Rattle.refusal.specs.Outcomes.{numberIn}
+use Rattle.refusal.specs.Outcomes.{refusalNumber}
 use Rattle.encoding.specs.Encoding.{tapeIn}
 use Rattle.encoding.proofs.Laws.Cases.{words-most}
 use Rattle.listing.proofs.Laws.Cases.{listing-words, listing-lines}
@@ -32,7 +32,7 @@ returns : tie.Need-returns
 returns c =
     let words = c .before .before .before .before .before in
     let r = c .before .before .list-tape .ensures in
-    (rw (listing-lines, ← read words) (r .0), r .1 ∙ ap (λ (l : List ℕ). numberIn (acceptOutcome l)) (read words) ∙ ap numberIn (sym (listing-words _)))
+    (rw (listing-lines, ← read words) (r .0), r .1 ∙ ap (λ (l : List ℕ). refusalNumber (acceptOutcome l)) (read words) ∙ ap refusalNumber (sym (listing-words _)))
 
 pub list-bytes-spec : {M : Type 1} → statement M
 list-bytes-spec =

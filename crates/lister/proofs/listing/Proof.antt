@@ -1,4 +1,4 @@
--- `listing` meets its contract: the listing is made in a row that holds every listing, and copied where there is room.
+-- `listing` meets its contract: the listing is made in a buffer that holds every listing, and copied where there is room.
 use mathlib.Core.Path.{_≡_, sym, _∙_}
 use Prim.Native.Nat.{_≤_}
 use native.Mathlib.Nat.{zero-add}

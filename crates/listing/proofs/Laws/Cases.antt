@@ -12,7 +12,7 @@ use Rattle.encoding.specs.Encoding.{noTape, tapeIn}
 use Rattle.program.specs.Services.{acceptOutcome, checkRules}
 use Rattle.program.proofs.Laws.Building.{short, enough}
 use Rattle.listing.specs.declared.Listed.{Listed}
-use Rattle.listing.specs.Listing.{listingRules, listingOutcome, listingNumber, linesFor, listingOf, listedAs, listingAnswer, listingRow}
+use Rattle.listing.specs.Listing.{listingRules, listingOutcome, listingNumber, linesFor, listingOf, listedAs, listingAnswer, listingBuffer}
 
 module _ (bytes : List ℕ) where
   -- a tape of no words is refused with 6, as bytes are that are no tape
@@ -45,18 +45,18 @@ module _ (bytes : List ℕ) where
 
   module _ (row : List ℕ) where
     -- what the service promises of its answer and of the row at exit
-    abbrev pub Promised : Listed → List ℕ → Type 0
-    Promised answer after = (answer ≡ listingAnswer bytes (length row)) × (after ≡ listingRow bytes row)
+    abbrev pub ListingContract : Listed → List ℕ → Type 0
+    ListingContract answer after = (answer ≡ listingAnswer bytes (length row)) × (after ≡ listingBuffer bytes row)
 
-    pub row-short : length row < length (listingOf bytes) → Promised (record { written = 0; number = 5 }) row
-    unfolding listingAnswer listingRow
+    pub row-short : length row < length (listingOf bytes) → ListingContract (record { written = 0; number = 5 }) row
+    unfolding listingAnswer listingBuffer
     row-short h =
         let e = short (listingOf bytes) (length row) h in
         (ap (λ (o : Outcome ℕ). listedAs o (listingNumber bytes)) (sym e), sym (row-kept (listingOf bytes) row e))
 
     pub row-enough : length (listingOf bytes) ≤ length row
-        → Promised (record { written = length (listingOf bytes); number = listingNumber bytes }) (listingOf bytes ++ drop (length (listingOf bytes)) row)
-    unfolding listingAnswer listingRow
+        → ListingContract (record { written = length (listingOf bytes); number = listingNumber bytes }) (listingOf bytes ++ drop (length (listingOf bytes)) row)
+    unfolding listingAnswer listingBuffer
     row-enough h =
         let e = enough (listingOf bytes) (length row) h in
         (ap (λ (o : Outcome ℕ). listedAs o (listingNumber bytes)) (sym e), sym (row-written (listingOf bytes) row e))

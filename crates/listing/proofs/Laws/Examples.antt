@@ -9,8 +9,8 @@ use Rattle.modular.specs.Inverses.{gcd, inverse, badExponent}
 use Rattle.fibonacci.specs.Fibonacci.{fib}
 use Rattle.fibonacci.specs.Forms.{pad, greedy, zeckendorf}
 use Rattle.tape.specs.Words.{headingIn, actionIn, swapIn, decoded, stepWord, encoded}
-use Rattle.tape.specs.Layout.{isLength, isHeader, isFreeOrNamed, allSteps, isEnd, laidOut, wordsOf}
-use Rattle.machine.specs.Machine.{opposite, back}
+use Rattle.tape.specs.Layout.{isLength, isHeader, isFreeOrNamed, allSteps, isEnd, laidOut, programWords}
+use Rattle.machine.specs.Machine.{inverseStep, inverted}
 use Rattle.named.specs.Generators.{ascend, basic, drawn}
 use Rattle.named.specs.Named.{basicForms, formsIn, namedSteps}
 use Rattle.named.specs.Members.{sameStep, sameSteps, isOneOf}
@@ -28,7 +28,7 @@ case-a =
 
 pub case-a-listing : listingOf case-a
     ≡ ascii "basic p=3 r=2 k=1 steps=11\n1 mul 0 1\n2 swp 0 1\n3 mul 2 1\n4 swp 0 1\n5 div 0 1\n6 swp 1 2\n7 mul 0 1\n8 swp 0 1\n9 div 2 1\n10 swp 0 1\n11 div 0 1\n"
-unfolding tapeOf bytesOf noTape listingRules stepLines listingOf decimalWithin decimal line wordsOf encoded stepWord namedSteps formsIn basicForms drawn basic ascend back opposite pad zeckendorf greedy fib inverse greatest decoded headingIn actionIn swapIn outcome checkRules isLength isHeader isFreeOrNamed allSteps isEnd laidOut badModulus isPrime badOrder badExponent gcd sameStep sameSteps isOneOf
+unfolding tapeOf bytesOf noTape listingRules stepLines listingOf decimalWithin decimal line programWords encoded stepWord namedSteps formsIn basicForms drawn basic ascend inverted inverseStep pad zeckendorf greedy fib inverse greatest decoded headingIn actionIn swapIn outcome checkRules isLength isHeader isFreeOrNamed allSteps isEnd laidOut badModulus isPrime badOrder badExponent gcd sameStep sameSteps isOneOf
 case-a-listing = refl
 
 -- five bytes are no tape

@@ -11,11 +11,11 @@ use Rattle.refusal.proofs.Laws.Rules.{refused-range}
 use Rattle.tape.specs.declared.Step.{Step}
 use Rattle.tape.specs.declared.Step.the-variants.{Mul, Div, Swp}
 use Rattle.tape.specs.declared.Header.{Header}
-use Rattle.tape.specs.Steps.{Apart, Sound, AllSound}
+use Rattle.tape.specs.Steps.{Distinct, Sound, AllSound}
 use Rattle.tape.specs.Layout.{stepWordsOf, headerOf, stepsOf}
 use Rattle.tape.proofs.Laws.Reading.{length-most}
 use Rattle.tape.proofs.Laws.Rows.{all-steps-sound}
-use Rattle.tape.proofs.Laws.Layout.{Fits, steps-count, header-fits}
+use Rattle.tape.proofs.Laws.Layout.{HeaderFits, steps-count, header-fits}
 use Rattle.encoding.specs.Encoding.{tapeOf, tapeIn}
 use Rattle.named.specs.Named.{variantNames, variantName, longest}
 use Rattle.named.proofs.Laws.Names.{longest-most}
@@ -24,10 +24,10 @@ use Rattle.program.proofs.Laws.Building.{short, enough}
 use Rattle.program.proofs.Laws.Checking.{accepted, header-is}
 use Rattle.text.specs.Text.{ascii, decimal, line}
 use Rattle.listing.specs.declared.Listed.{Listed}
-use Rattle.listing.specs.Listing.{listingOutcome, refusedLine, firstLine, namedLine, stepLine, stepLines, linesFor, listingNumber, listingOf, listingAnswer, mostWritten}
+use Rattle.listing.specs.Listing.{listingOutcome, refusedLine, firstLine, namedLine, stepLine, stepLines, linesFor, listingNumber, listingOf, listingAnswer, maxWritten}
 use Rattle.text.proofs.Laws.Decimal.{decimal-length}
 use Rattle.text.proofs.Laws.Lines.{line-length}
-use Rattle.listing.proofs.Laws.Cases.{listing-lines, Promised, row-enough}
+use Rattle.listing.proofs.Laws.Cases.{listing-lines, ListingContract, row-enough}
 
 line-some : (w : List ℕ) (words : List (List ℕ)) → 1 ≤ length (line (w ∷ words))
 line-some w words = omega (arith, line-length w words)
@@ -39,7 +39,7 @@ refused-most n h = omega (arith, line-length (ascii "refused") (decimal n ∷ []
 
 -- ---- the first line
 
-first-most : (h : Header) → Fits h → h .steps < 1000 → length (firstLine h) ≤ 47 + longest variantNames
+first-most : (h : Header) → HeaderFits h → h .steps < 1000 → length (firstLine h) ≤ 47 + longest variantNames
 first-most h fits n =
     let words = (ascii "p=" ++ decimal (h .modulus)) ∷ (ascii "r=" ++ decimal (h .order)) ∷ (ascii "k=" ++ decimal (h .exponent)) ∷ (ascii "steps=" ++ decimal (h .steps)) ∷ [] in
     omega (
@@ -54,7 +54,7 @@ first-most h fits n =
 
 -- ---- the steps' lines
 
-named-most : (n : ℕ) (name : List ℕ) (t s : ℕ) → n < 1000 → length name ≡ 3 → Apart t s → length (namedLine n name t s) ≤ 12
+named-most : (n : ℕ) (name : List ℕ) (t s : ℕ) → n < 1000 → length name ≡ 3 → Distinct t s → length (namedLine n name t s) ≤ 12
 named-most n name t s small three a =
     omega
     (arith, line-length (decimal n) (name ∷ decimal t ∷ decimal s ∷ []), decimal-length 2 n small, decimal-length 0 t (omega arith), decimal-length 0 s (omega arith))
@@ -72,7 +72,7 @@ steps-most n (x ∷ steps) h sound =
 
 -- ---- the listing
 
-accepted-most : (tape : List ℕ) (h : Header) → acceptOutcome tape ≡ answered h → length (firstLine h ++ stepLines 1 (stepsOf tape)) ≤ mostWritten
+accepted-most : (tape : List ℕ) (h : Header) → acceptOutcome tape ≡ answered h → length (firstLine h ++ stepLines 1 (stepsOf tape)) ≤ maxWritten
 accepted-most tape h e =
     let passed = accepted (headerOf tape) tape e in
     let most = length-most tape (passed .long) in
@@ -85,21 +85,21 @@ accepted-most tape h e =
       steps-most 1 (stepsOf tape) (omega arith) (all-steps-sound (stepWordsOf tape)),
     ))
 
-lines-most : (tape : List ℕ) (o : Outcome Header) → acceptOutcome tape ≡ o → length (linesFor o (stepsOf tape)) ≤ mostWritten
+lines-most : (tape : List ℕ) (o : Outcome Header) → acceptOutcome tape ≡ o → length (linesFor o (stepsOf tape)) ≤ maxWritten
 lines-most tape (refused n) e = omega (arith, refused-most n (refused-range (checkRules tape) (headerOf tape) e .1))
 lines-most tape (answered h) e = accepted-most tape h e
 
 -- of a tape's words
-pub tape-listing-most : (tape : List ℕ) → length (linesFor (acceptOutcome tape) (stepsOf tape)) ≤ mostWritten
+pub tape-listing-most : (tape : List ℕ) → length (linesFor (acceptOutcome tape) (stepsOf tape)) ≤ maxWritten
 tape-listing-most tape = lines-most tape (acceptOutcome tape) refl
 
 -- and of bytes
-pub listing-most : (bytes : List ℕ) → length (listingOf bytes) ≤ mostWritten
+pub listing-most : (bytes : List ℕ) → length (listingOf bytes) ≤ maxWritten
 listing-most bytes = rw listing-lines (tape-listing-most (tapeIn bytes))
 
 -- refusal 5 is never given into a row of that length
-pub never-short : (bytes row : List ℕ) → mostWritten ≤ length row
-    → Promised bytes row (record { written = length (listingOf bytes); number = listingNumber bytes }) (listingOf bytes ++ drop (length (listingOf bytes)) row)
+pub never-short : (bytes row : List ℕ) → maxWritten ≤ length row
+    → ListingContract bytes row (record { written = length (listingOf bytes); number = listingNumber bytes }) (listingOf bytes ++ drop (length (listingOf bytes)) row)
 never-short bytes row h = row-enough bytes row (omega (arith, listing-most bytes))
 
 -- ---- what was written
@@ -126,7 +126,7 @@ module _ (bytes : List ℕ) (room held : ℕ) (l : Listed) (e : l ≡ listingAns
     | no h ↦ absurd (omega (arith, written-is (omega arith), lines-some (listingOutcome bytes) (stepsOf (tapeOf bytes))))
   ]
 
-  pub some-written : ¬ (l .written ≡ 0) → (after (roomOutcome (listingOf bytes) room) held ≡ l .written) × (l .written ≤ mostWritten)
+  pub some-written : ¬ (l .written ≡ 0) → (after (roomOutcome (listingOf bytes) room) held ≡ l .written) × (l .written ≤ maxWritten)
   some-written some = elim (decLt room (length (listingOf bytes))) [
     | yes h ↦ absurd (some (not-written h))
     | no h ↦ let is = written-is (omega arith) in (rw (enough (listingOf bytes) room (omega arith)) (sym is), omega (arith, listing-most bytes))

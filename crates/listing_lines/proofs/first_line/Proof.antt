@@ -1,4 +1,4 @@
--- `lines::first_line` meets its contract: the name and the labelled numbers, one after another.
+-- `first_line` meets its contract: the name and the labelled numbers, one after another.
 use borrow.Author.Needs.{needs}
 use Rattle.text.proofs.Laws.Lines.{put-word, put-last}
 use Rattle.listing_lines.proofs.first_line.Statement.{statement}

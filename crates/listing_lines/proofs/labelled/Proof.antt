@@ -1,4 +1,4 @@
--- `lines::labelled` meets its contract: the label, then the number with its byte.
+-- `labelled` meets its contract: the label, then the number with its byte.
 use mathlib.Core.List.{append-assoc}
 use borrow.Author.Needs.{needs}
 use Rattle.text.proofs.Laws.Puts.{puts-join}

@@ -1,4 +1,4 @@
--- `lines::named_line` meets its contract: its words, one after another.
+-- `named_line` meets its contract: its words, one after another.
 use borrow.Author.Needs.{needs}
 use Rattle.text.proofs.Laws.Lines.{put-word, put-last}
 use Rattle.listing_lines.proofs.named_line.Statement.{statement}

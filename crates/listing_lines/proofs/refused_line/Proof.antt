@@ -1,4 +1,4 @@
--- `lines::refused_line` meets its contract: the word, then the number.
+-- `refused_line` meets its contract: the word, then the number.
 use borrow.Author.Needs.{needs}
 use Rattle.text.proofs.Laws.Lines.{put-word, put-last}
 use Rattle.listing_lines.proofs.refused_line.Statement.{statement}

@@ -1,4 +1,4 @@
--- `lines::step_line` meets its contract: each arm writes the name of its step.
+-- `step_line` meets its contract: each arm writes the name of its step.
 use borrow.Author.Needs.{needs}
 use Rattle.listing_lines.proofs.step_line.Statement.{statement}
 use Rattle.listing_lines.proofs.step_line.Tie as tie

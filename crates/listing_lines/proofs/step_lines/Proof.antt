@@ -1,4 +1,4 @@
--- `lines::step_lines` meets its contract: with i steps written, the lines from step i + 1 on are left.
+-- `step_lines` meets its contract: with i steps written, the lines from step i + 1 on are left.
 use mathlib.Core.List.{_++_}
 use Prim.Native.Nat.{_+_, _-_}
 use native.Mathlib.Omega.{arith}
@@ -6,17 +6,17 @@ use borrow.Author.Needs.{needs}
 use lib.ListN.{length, drop}
 use Rattle.tape.specs.Layout.{stepsIn}
 use Rattle.text.specs.Rows.{Put}
-use Rattle.text.proofs.Laws.Puts.{Left, all-left, nothing-left, left-next, put-length}
+use Rattle.text.proofs.Laws.Puts.{RestToPut, all-left, nothing-left, left-next, put-length}
 use Rattle.listing.specs.Listing.{stepLine, stepLines}
 use Rattle.listing.proofs.Laws.Lines.{lines-next, lines-end}
 use Rattle.listing_lines.proofs.step_lines.Statement.{statement}
 use Rattle.listing_lines.proofs.step_lines.Tie as tie
 
 abbrev Inv-loop : tie.InvT-loop
-Inv-loop row₀ at words next₀ i₀ row next i = Left row₀ at (stepLines 1 (stepsIn words)) next row (stepLines (i + 1) (drop i (stepsIn words)))
+Inv-loop buffer₀ at words next₀ i₀ buffer next i = RestToPut buffer₀ at (stepLines 1 (stepsIn words)) next buffer (stepLines (i + 1) (drop i (stepsIn words)))
 
 abbrev μ-loop : tie.MeasureT-loop
-μ-loop row₀ at words next₀ i₀ row next i = length words - i
+μ-loop buffer₀ at words next₀ i₀ buffer next i = length words - i
 
 loop-holds : tie.Need-loop-holds Inv-loop μ-loop
 loop-holds c = all-left _ _ _
@@ -28,7 +28,7 @@ add-step-line c = omega arith
 coming : (c : tie.After-nth-step Inv-loop μ-loop)
     → let l = c .before .before .before in
     let a = l .before .before .before .args in
-    Left (a .row .now) (a .at) (stepLines 1 (stepsIn (a .words .now))) (l .loop .next) (l .loop .row)
+    RestToPut (a .buffer .now) (a .at) (stepLines 1 (stepsIn (a .words .now))) (l .loop .next) (l .loop .buffer)
     (stepLine (l .loop .i + 1) (c .nth-step .result) ++ stepLines (l .loop .i + 1 + 1) (drop (l .loop .i + 1) (stepsIn (a .words .now))))
 coming c =
     let l = c .before .before .before in
@@ -41,7 +41,7 @@ loop-again : tie.Need-loop-again Inv-loop μ-loop
 loop-again c = left-next _ _ (coming (c .before .before .before)) (c .before .before .step-line .ensures)
 
 done : (c : tie.After-loop Inv-loop μ-loop) → let a = c .before .before .before .before .args in
-    Put (a .row .now) (a .at) (stepLines 1 (stepsIn (a .words .now))) (c .before .loop .next) (c .before .loop .row)
+    Put (a .buffer .now) (a .at) (stepLines 1 (stepsIn (a .words .now))) (c .before .loop .next) (c .before .loop .buffer)
 done c = nothing-left (rw (lines-end (c .before .before .before .before .args .words .now) (c .before .loop .i + 1) (c .before .loop .i) (c .loop-test .left)) at (c .before .loop .inv))
 
 same-length : tie.Need-same-length Inv-loop μ-loop

@@ -12,10 +12,10 @@ use Rattle.modular.proofs.Laws.Group.{residue-inverse, inverse-inverse, inverse
 use Rattle.tape.specs.declared.Step.{Step}
 use Rattle.tape.specs.declared.Step.the-variants.{Mul, Div, Swp}
 use Rattle.tape.specs.Steps.{Sound}
-use Rattle.machine.specs.Machine.{reg, apply, Good}
-use Rattle.machine.specs.Carried.{inverses, applyWith, Carried}
+use Rattle.machine.specs.Machine.{reg, apply, Residues}
+use Rattle.machine.specs.Inner.Carried.{inverses, applyWith, Carried}
 use Rattle.machine.proofs.Laws.Lists.{map-set}
-use Rattle.machine.proofs.Laws.Steps.{good-apply}
+use Rattle.machine.proofs.Laws.Steps.{residues-apply}
 
 module _ (p : ℕ) where
   inverse-at : (v : List ℕ) (i : ℕ) → reg (inverses p v) i ≡ inverse p (reg v i)
@@ -29,7 +29,7 @@ module _ (p : ℕ) where
 
   module _ (pr : Prime p) where
     -- the same step on the inverses, with the registers beside them
-    inverses-with : (x : Step) (v : List ℕ) → Sound x → Good p v → applyWith p x (inverses p v) v ≡ inverses p (apply p x v)
+    inverses-with : (x : Step) (v : List ℕ) → Sound x → Residues p v → applyWith p x (inverses p v) v ≡ inverses p (apply p x v)
     unfolding applyWith apply
     inverses-with (Mul t s) v a g =
         let rt = g .residue t (a .target-is-one) in
@@ -54,10 +54,10 @@ module _ (p : ℕ) where
     pub carried-step : (x : Step) (v w v′ w′ : List ℕ) → Sound x → Carried p v w → v′ ≡ applyWith p x v w → w′ ≡ applyWith p x w v
         → (v′ ≡ apply p x v) × Carried p v′ w′
     carried-step x v w v′ w′ a k ev ew =
-        let there : v′ ≡ apply p x v = ev ∙ ap (applyWith p x v) (k .beside) ∙ with-inverses x v in (
+        let there : v′ ≡ apply p x v = ev ∙ ap (applyWith p x v) (k .inverses-are) ∙ with-inverses x v in (
           there,
           record {
-            good = rw there (good-apply p pr x v a (k .good));
-            beside = ew ∙ ap (λ (l : List ℕ). applyWith p x l v) (k .beside) ∙ inverses-with x v a (k .good) ∙ ap (inverses p) (sym there);
+            residues = rw there (residues-apply p pr x v a (k .residues));
+            inverses-are = ew ∙ ap (λ (l : List ℕ). applyWith p x l v) (k .inverses-are) ∙ inverses-with x v a (k .residues) ∙ ap (inverses p) (sym there);
           },
         )

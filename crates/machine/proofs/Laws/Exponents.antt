@@ -19,10 +19,10 @@ use Rattle.modular.proofs.Laws.Powers.{times-pow, power-zero, power-one, residu
 use Rattle.tape.specs.declared.Step.{Step}
 use Rattle.tape.specs.declared.Step.the-variants.{Mul, Div, Swp}
 use Rattle.tape.specs.Steps.{Sound, AllSound}
-use Rattle.machine.specs.Machine.{apply, opposite, doAll, undoAll, run, start}
+use Rattle.machine.specs.Machine.{apply, inverseStep, doAll, undoAll, run, start}
 use Rattle.machine.specs.Exponents.{exponent, shift, shiftAll, startExponents, exponentsAt, powerOf}
 use Rattle.machine.proofs.Laws.Lists.{changed-back, exchange-twice, getD-map, map-set}
-use Rattle.machine.proofs.Laws.Steps.{good-start}
+use Rattle.machine.proofs.Laws.Steps.{residues-start}
 use Rattle.machine.proofs.Laws.Runs.{sound-take, run-form}
 
 -- ---- steps on exponents
@@ -34,11 +34,11 @@ length-shift (Div t s) z = simp length-set
 length-shift (Swp t s) z = simp length-set
 
 -- a step and its opposite
-pub shift-opposite : (x : Step) (z : List ℤ) → Sound x → length z ≡ 4 → shift (opposite x) (shift x z) ≡ z
-unfolding shift opposite
-shift-opposite (Mul t s) z a n = changed-back (pos 0) _-ℤ_ z t s _ (rw n (a .target-is-one)) (λ e. a .differ (sym e)) (+ℤ-negℤ-cancel _ _)
-shift-opposite (Div t s) z a n = changed-back (pos 0) _+ℤ_ z t s _ (rw n (a .target-is-one)) (λ e. a .differ (sym e)) (-ℤ-+ℤ-cancel _ _)
-shift-opposite (Swp t s) z a n =
+pub shift-inverse-step : (x : Step) (z : List ℤ) → Sound x → length z ≡ 4 → shift (inverseStep x) (shift x z) ≡ z
+unfolding shift inverseStep
+shift-inverse-step (Mul t s) z a n = changed-back (pos 0) _-ℤ_ z t s _ (rw n (a .target-is-one)) (λ e. a .differ (sym e)) (+ℤ-negℤ-cancel (exponent z t) (exponent z s))
+shift-inverse-step (Div t s) z a n = changed-back (pos 0) _+ℤ_ z t s _ (rw n (a .target-is-one)) (λ e. a .differ (sym e)) (-ℤ-+ℤ-cancel (exponent z t) (exponent z s))
+shift-inverse-step (Swp t s) z a n =
     exchange-twice (pos 0) z t s (rw n (a .0 .target-is-one)) (rw n (a .0 .source-is-one)) (a .0 .differ)
 
 -- ---- powers
@@ -141,4 +141,4 @@ module _ (p : ℕ) (pr : Prime p) (a : ℕ) (ra : Residue p a) where
   -- and so by a run to position n
   pub run-exponents : (xs : List Step) (n : ℕ) → AllSound xs → run p xs 0 n (start a) ≡ map (powerOf p a) (exponentsAt xs n)
   unfolding undoAll
-  run-exponents xs n s = run-form p pr xs s 0 n (start a) (good-start p pr a ra) ∙ registers-exponents xs n s
+  run-exponents xs n s = run-form p pr xs s 0 n (start a) (residues-start p pr a ra) ∙ registers-exponents xs n s

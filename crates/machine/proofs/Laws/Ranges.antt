@@ -12,10 +12,10 @@ use lib.Seq.{take-length}
 use Rattle.refusal.proofs.Laws.Tests.{both}
 use Rattle.tape.specs.declared.Step.{Step}
 use Rattle.tape.specs.Steps.{AllSound}
-use Rattle.machine.specs.Machine.{opposite, back}
+use Rattle.machine.specs.Machine.{inverseStep, inverted}
 use Rattle.machine.specs.Exponents.{shift, shiftAll, startExponents, exponentsAt, inRange, allInRange, staysInRange}
 use Rattle.machine.proofs.Laws.Integers.{Within, within-more, le-leZ, leZ-true}
-use Rattle.machine.proofs.Laws.Exponents.{length-shift, shift-opposite}
+use Rattle.machine.proofs.Laws.Exponents.{length-shift, shift-inverse-step}
 
 -- ---- the tests
 
@@ -67,12 +67,12 @@ goes-first : {c : ℕ} {xs : List Step} {z w : List ℤ} → Goes c xs z w → A
 goes-first (goes-none v) = v
 goes-first (goes-step v e g) = v
 
-pub goes-back : {c : ℕ} (xs : List Step) {z w : List ℤ} → AllSound xs → length z ≡ 4 → Goes c xs z w → Goes c (back xs) w z
-unfolding back
+pub goes-back : {c : ℕ} (xs : List Step) {z w : List ℤ} → AllSound xs → length z ≡ 4 → Goes c xs z w → Goes c (inverted xs) w z
+unfolding inverted
 goes-back [] a n (goes-none v) = goes-none v
 goes-back (x ∷ xs) {z} a n (goes-step v e g) =
-    goes-append (back xs) (goes-back xs (a .1) (ap length (sym e) ∙ length-shift x z ∙ n) g)
-    (goes-step (goes-first g) (ap (shift (opposite x)) (sym e) ∙ shift-opposite x z (a .0) n) (goes-none v))
+    goes-append (inverted xs) (goes-back xs (a .1) (ap length (sym e) ∙ length-shift x z ∙ n) g)
+    (goes-step (goes-first g) (ap (shift (inverseStep x)) (sym e) ∙ shift-inverse-step x z (a .0) n) (goes-none v))
 
 goes-shifts : {c : ℕ} (xs : List Step) {z w : List ℤ} → Goes c xs z w → shiftAll xs z ≡ w
 unfolding shiftAll

@@ -12,8 +12,8 @@ use borrow.Author.Tests.{leb-true, leb-false}
 use Rattle.modular.specs.Primes.{Prime}
 use Rattle.tape.specs.declared.Step.{Step}
 use Rattle.tape.specs.Steps.{AllSound}
-use Rattle.machine.specs.Machine.{apply, opposite, doAll, undoAll, run, Good}
-use Rattle.machine.proofs.Laws.Steps.{sound-append-left, sound-append-right, doAll-append, undoAll-append, good-doAll, good-undoAll, undo-do, do-undo}
+use Rattle.machine.specs.Machine.{apply, inverseStep, doAll, undoAll, run, Residues}
+use Rattle.machine.proofs.Laws.Steps.{sound-append-left, sound-append-right, doAll-append, undoAll-append, residues-doAll, residues-undoAll, undo-do, do-undo}
 
 pub sound-take : (n : ℕ) (xs : List Step) → AllSound xs → AllSound (take n xs)
 sound-take n xs a = sound-append-left (take n xs) (drop n xs) (rw take-append-drop a)
@@ -35,7 +35,7 @@ module _ (p : ℕ) (xs : List Step) (x : Step) (v : List ℕ) (i : ℕ) (inside 
       ∙ ap (λ (n : ℕ). doAll p (drop n xs) (apply p (getD xs i x) v)) next
 
   -- undone, the last of them
-  pub undo-next : undoAll p (take (i + 1) xs) v ≡ undoAll p (take i xs) (apply p (opposite (getD xs i x)) v)
+  pub undo-next : undoAll p (take (i + 1) xs) v ≡ undoAll p (take i xs) (apply p (inverseStep (getD xs i x)) v)
   unfolding undoAll
   undo-next =
       let next : i + 1 ≡ suc i = omega arith in
@@ -45,7 +45,7 @@ module _ (p : ℕ) (xs : List Step) (x : Step) (v : List ℕ) (i : ℕ) (inside 
 -- ---- runs
 
 module _ (p : ℕ) (pr : Prime p) (xs : List Step) (a : AllSound xs) where
-  pub run-form : (i j : ℕ) (v : List ℕ) → Good p v → run p xs i j v ≡ doAll p (take j xs) (undoAll p (take i xs) v)
+  pub run-form : (i j : ℕ) (v : List ℕ) → Residues p v → run p xs i j v ≡ doAll p (take j xs) (undoAll p (take i xs) v)
   unfolding run
   run-form i j v g = go (leb i j) refl
     where
@@ -62,30 +62,30 @@ module _ (p : ℕ) (pr : Prime p) (xs : List Step) (a : AllSound xs) where
           sym
           (ap (λ (l : List Step). doAll p (take j xs) (undoAll p l v)) (take-slice j i xs h)
           ∙ ap (doAll p (take j xs)) (undoAll-append p (take j xs) (slice j i xs) v)
-          ∙ do-undo p pr (take j xs) (undoAll p (slice j i xs) v) (sound-take j xs a) (good-undoAll p pr (slice j i xs) v s g))
+          ∙ do-undo p pr (take j xs) (undoAll p (slice j i xs) v) (sound-take j xs a) (residues-undoAll p pr (slice j i xs) v s g))
 
-  pub run-good : (i j : ℕ) (v : List ℕ) → Good p v → Good p (run p xs i j v)
-  run-good i j v g =
+  pub run-residues : (i j : ℕ) (v : List ℕ) → Residues p v → Residues p (run p xs i j v)
+  run-residues i j v g =
       rw (run-form i j v g)
-      (good-doAll p pr (take j xs) _ (sound-take j xs a) (good-undoAll p pr (take i xs) v (sound-take i xs a) g))
+      (residues-doAll p pr (take j xs) _ (sound-take j xs a) (residues-undoAll p pr (take i xs) v (sound-take i xs a) g))
 
-  pub run-compose : (i j k : ℕ) (v : List ℕ) → Good p v → run p xs j k (run p xs i j v) ≡ run p xs i k v
+  pub run-compose : (i j k : ℕ) (v : List ℕ) → Residues p v → run p xs j k (run p xs i j v) ≡ run p xs i k v
   run-compose i j k v g =
       let w : List ℕ = undoAll p (take i xs) v in
-      let gw : Good p w = good-undoAll p pr (take i xs) v (sound-take i xs a) g in
-      run-form j k (run p xs i j v) (run-good i j v g)
+      let gw : Residues p w = residues-undoAll p pr (take i xs) v (sound-take i xs a) g in
+      run-form j k (run p xs i j v) (run-residues i j v g)
       ∙ ap (λ (u : List ℕ). doAll p (take k xs) (undoAll p (take j xs) u)) (run-form i j v g)
       ∙ ap (doAll p (take k xs)) (undo-do p pr (take j xs) w (sound-take j xs a) gw)
       ∙ sym (run-form i k v g)
 
-  pub run-stay : (i : ℕ) (v : List ℕ) → Good p v → run p xs i i v ≡ v
+  pub run-stay : (i : ℕ) (v : List ℕ) → Residues p v → run p xs i i v ≡ v
   run-stay i v g = run-form i i v g ∙ do-undo p pr (take i xs) v (sound-take i xs a) g
 
   -- end to end
-  pub run-forward : (v : List ℕ) → Good p v → run p xs 0 (length xs) v ≡ doAll p xs v
+  pub run-forward : (v : List ℕ) → Residues p v → run p xs 0 (length xs) v ≡ doAll p xs v
   unfolding undoAll
   run-forward v g = run-form 0 (length xs) v g ∙ ap (λ (l : List Step). doAll p l v) (take-length xs)
 
-  pub run-backward : (v : List ℕ) → Good p v → run p xs (length xs) 0 v ≡ undoAll p xs v
+  pub run-backward : (v : List ℕ) → Residues p v → run p xs (length xs) 0 v ≡ undoAll p xs v
   unfolding doAll
   run-backward v g = run-form (length xs) 0 v g ∙ ap (λ (l : List Step). undoAll p l v) (take-length xs)

@@ -13,23 +13,23 @@ use Rattle.modular.specs.Inverses.{inverse}
 use Rattle.modular.proofs.Laws.Group.{residue-one, residue-times, residue-inverse, mul-div, div-mul}
 use Rattle.tape.specs.declared.Step.{Step}
 use Rattle.tape.specs.declared.Step.the-variants.{Mul, Div, Swp}
-use Rattle.tape.specs.Steps.{Apart, Sound, AllSound}
+use Rattle.tape.specs.Steps.{Distinct, Sound, AllSound}
 use Rattle.machine.proofs.Laws.Lists.{changed-back, exchange-twice}
-use Rattle.machine.specs.Machine.{reg, apply, opposite, doAll, undoAll, back, Good, start}
+use Rattle.machine.specs.Machine.{reg, apply, inverseStep, doAll, undoAll, inverted, Residues, start}
 
 -- ---- steps and their opposites
 
-pub opposite-opposite : (x : Step) → opposite (opposite x) ≡ x
-unfolding opposite
-opposite-opposite (Mul t s) = refl
-opposite-opposite (Div t s) = refl
-opposite-opposite (Swp t s) = refl
+pub inverse-step-twice : (x : Step) → inverseStep (inverseStep x) ≡ x
+unfolding inverseStep
+inverse-step-twice (Mul t s) = refl
+inverse-step-twice (Div t s) = refl
+inverse-step-twice (Swp t s) = refl
 
-pub sound-opposite : (x : Step) → Sound x → Sound (opposite x)
-unfolding opposite
-sound-opposite (Mul t s) a = a
-sound-opposite (Div t s) a = a
-sound-opposite (Swp t s) a = a
+pub sound-inverse-step : (x : Step) → Sound x → Sound (inverseStep x)
+unfolding inverseStep
+sound-inverse-step (Mul t s) a = a
+sound-inverse-step (Div t s) a = a
+sound-inverse-step (Swp t s) a = a
 
 pub sound-append : (xs ys : List Step) → AllSound xs → AllSound ys → AllSound (xs ++ ys)
 sound-append [] ys a b = b
@@ -45,16 +45,16 @@ sound-append-right (x ∷ xs) ys a = sound-append-right xs ys (a .1)
 
 -- ---- a list taken back
 
-pub sound-back : (xs : List Step) → AllSound xs → AllSound (back xs)
-unfolding back
-sound-back [] a = tt
-sound-back (x ∷ xs) a = sound-append (back xs) (opposite x ∷ []) (sound-back xs (a .1)) (sound-opposite x (a .0), tt)
+pub sound-inverted : (xs : List Step) → AllSound xs → AllSound (inverted xs)
+unfolding inverted
+sound-inverted [] a = tt
+sound-inverted (x ∷ xs) a = sound-append (inverted xs) (inverseStep x ∷ []) (sound-inverted xs (a .1)) (sound-inverse-step x (a .0), tt)
 
-pub back-append : (xs ys : List Step) → back (xs ++ ys) ≡ back ys ++ back xs
-unfolding back
-back-append [] ys = sym (append-nil (back ys))
-back-append (x ∷ xs) ys =
-    ap (λ (l : List Step). l ++ opposite x ∷ []) (back-append xs ys) ∙ append-assoc (back ys) (back xs) (opposite x ∷ [])
+pub inverted-append : (xs ys : List Step) → inverted (xs ++ ys) ≡ inverted ys ++ inverted xs
+unfolding inverted
+inverted-append [] ys = sym (append-nil (inverted ys))
+inverted-append (x ∷ xs) ys =
+    ap (λ (l : List Step). l ++ inverseStep x ∷ []) (inverted-append xs ys) ∙ append-assoc (inverted ys) (inverted xs) (inverseStep x ∷ [])
 
 -- ---- lists of steps in two parts
 
@@ -66,12 +66,12 @@ doAll-append p (x ∷ xs) ys v = doAll-append p xs ys (apply p x v)
 pub undoAll-append : (p : ℕ) (xs ys : List Step) (v : List ℕ) → undoAll p (xs ++ ys) v ≡ undoAll p xs (undoAll p ys v)
 unfolding undoAll
 undoAll-append p [] ys v = refl
-undoAll-append p (x ∷ xs) ys v = ap (apply p (opposite x)) (undoAll-append p xs ys v)
+undoAll-append p (x ∷ xs) ys v = ap (apply p (inverseStep x)) (undoAll-append p xs ys v)
 
 -- ---- four residues
 
-pub good-four : (p c d e f : ℕ) → Residue p c → Residue p d → Residue p e → Residue p f → Good p (c ∷ d ∷ e ∷ f ∷ [])
-good-four p c d e f rc rd re rf = record { four = refl; residue = go }
+pub residues-four : (p c d e f : ℕ) → Residue p c → Residue p d → Residue p e → Residue p f → Residues p (c ∷ d ∷ e ∷ f ∷ [])
+residues-four p c d e f rc rd re rf = record { four = refl; residue = go }
   where
     go : (i : ℕ) → i < 4 → Residue p (reg (c ∷ d ∷ e ∷ f ∷ []) i)
     go zero h = rc
@@ -83,65 +83,65 @@ good-four p c d e f rc rd re rf = record { four = refl; residue = go }
 module _ (p : ℕ) (pr : Prime p) where
   -- ---- residues stay residues
 
-  good-set : (v : List ℕ) (t n : ℕ) → Good p v → Residue p n → Good p (set v t n)
-  good-set v t n g r = record { four = length-set v t n ∙ g .four; residue = λ i h. go i h (ℕ-discrete i t) }
+  residues-set : (v : List ℕ) (t n : ℕ) → Residues p v → Residue p n → Residues p (set v t n)
+  residues-set v t n g r = record { four = length-set v t n ∙ g .four; residue = λ i h. go i h (ℕ-discrete i t) }
     where
       go : (i : ℕ) → i < 4 → Dec (i ≡ t) → Residue p (reg (set v t n) i)
       go i h (yes e) = let k : i < length v = rw (g .four) h in rw (← e, getD-set-same v i n 0 k) r
       go i h (no ne) = rw (getD-set-other v t i n 0 ne) (g .residue i h)
 
-  pub good-apply : (x : Step) (v : List ℕ) → Sound x → Good p v → Good p (apply p x v)
+  pub residues-apply : (x : Step) (v : List ℕ) → Sound x → Residues p v → Residues p (apply p x v)
   unfolding apply
-  good-apply (Mul t s) v a g =
-      good-set v t _ g (residue-times p pr _ _ (g .residue t (a .target-is-one)) (g .residue s (a .source-is-one)))
-  good-apply (Div t s) v a g =
-      good-set v t _ g (residue-times p pr _ _ (g .residue t (a .target-is-one)) (residue-inverse p pr _ (g .residue s (a .source-is-one))))
-  good-apply (Swp t s) v a g =
-      good-set (set v t (reg v s)) s _ (good-set v t _ g (g .residue s (a .0 .source-is-one))) (g .residue t (a .0 .target-is-one))
+  residues-apply (Mul t s) v a g =
+      residues-set v t _ g (residue-times p pr _ _ (g .residue t (a .target-is-one)) (g .residue s (a .source-is-one)))
+  residues-apply (Div t s) v a g =
+      residues-set v t _ g (residue-times p pr _ _ (g .residue t (a .target-is-one)) (residue-inverse p pr _ (g .residue s (a .source-is-one))))
+  residues-apply (Swp t s) v a g =
+      residues-set (set v t (reg v s)) s _ (residues-set v t _ g (g .residue s (a .0 .source-is-one))) (g .residue t (a .0 .target-is-one))
 
-  pub good-doAll : (xs : List Step) (v : List ℕ) → AllSound xs → Good p v → Good p (doAll p xs v)
+  pub residues-doAll : (xs : List Step) (v : List ℕ) → AllSound xs → Residues p v → Residues p (doAll p xs v)
   unfolding doAll
-  good-doAll [] v a g = g
-  good-doAll (x ∷ xs) v a g = good-doAll xs (apply p x v) (a .1) (good-apply x v (a .0) g)
+  residues-doAll [] v a g = g
+  residues-doAll (x ∷ xs) v a g = residues-doAll xs (apply p x v) (a .1) (residues-apply x v (a .0) g)
 
-  pub good-undoAll : (xs : List Step) (v : List ℕ) → AllSound xs → Good p v → Good p (undoAll p xs v)
+  pub residues-undoAll : (xs : List Step) (v : List ℕ) → AllSound xs → Residues p v → Residues p (undoAll p xs v)
   unfolding undoAll
-  good-undoAll [] v a g = g
-  good-undoAll (x ∷ xs) v a g = good-apply (opposite x) (undoAll p xs v) (sound-opposite x (a .0)) (good-undoAll xs v (a .1) g)
+  residues-undoAll [] v a g = g
+  residues-undoAll (x ∷ xs) v a g = residues-apply (inverseStep x) (undoAll p xs v) (sound-inverse-step x (a .0)) (residues-undoAll xs v (a .1) g)
 
-  pub good-start : (a : ℕ) → Residue p a → Good p (start a)
-  good-start a ra = let one = residue-one p pr in good-four p 1 a 1 1 one ra one one
+  pub residues-start : (a : ℕ) → Residue p a → Residues p (start a)
+  residues-start a ra = let one = residue-one p pr in residues-four p 1 a 1 1 one ra one one
 
   -- ---- doing and undoing
 
   -- a register that another changed, and changes back
-  undo-with : (f : ℕ → ℕ → ℕ) (t s x : ℕ) (v : List ℕ) → Apart t s → Good p v → (Residue p (reg v t) → Residue p (reg v s) → f x (reg v s) ≡ reg v t)
+  undo-with : (f : ℕ → ℕ → ℕ) (t s x : ℕ) (v : List ℕ) → Distinct t s → Residues p v → (Residue p (reg v t) → Residue p (reg v s) → f x (reg v s) ≡ reg v t)
       → set (set v t x) t (f (reg (set v t x) t) (reg (set v t x) s)) ≡ v
-  undo-with f t s x v a g back =
-      changed-back 0 f v t s x (rw (g .four) (a .target-is-one)) (λ e. a .differ (sym e)) (back (g .residue t (a .target-is-one)) (g .residue s (a .source-is-one)))
+  undo-with f t s x v a g undoes =
+      changed-back 0 f v t s x (rw (g .four) (a .target-is-one)) (λ e. a .differ (sym e)) (undoes (g .residue t (a .target-is-one)) (g .residue s (a .source-is-one)))
 
-  undo-swp : (t s : ℕ) (v : List ℕ) → Apart t s → Good p v → apply p (Swp t s) (apply p (Swp t s) v) ≡ v
+  undo-swp : (t s : ℕ) (v : List ℕ) → Distinct t s → Residues p v → apply p (Swp t s) (apply p (Swp t s) v) ≡ v
   unfolding apply
   undo-swp t s v a g = exchange-twice 0 v t s (rw (g .four) (a .target-is-one)) (rw (g .four) (a .source-is-one)) (a .differ)
 
-  pub undo-apply : (x : Step) (v : List ℕ) → Sound x → Good p v → apply p (opposite x) (apply p x v) ≡ v
-  unfolding opposite apply
+  pub undo-apply : (x : Step) (v : List ℕ) → Sound x → Residues p v → apply p (inverseStep x) (apply p x v) ≡ v
+  unfolding inverseStep apply
   undo-apply (Mul t s) v a g = undo-with (λ (y x : ℕ). times p y (inverse p x)) t s _ v a g (mul-div p pr _ _)
   undo-apply (Div t s) v a g = undo-with (times p) t s _ v a g (div-mul p pr _ _)
   undo-apply (Swp t s) v a g = undo-swp t s v (a .0) g
 
-  pub apply-undo : (x : Step) (v : List ℕ) → Sound x → Good p v → apply p x (apply p (opposite x) v) ≡ v
+  pub apply-undo : (x : Step) (v : List ℕ) → Sound x → Residues p v → apply p x (apply p (inverseStep x) v) ≡ v
   apply-undo x v a g =
-      ap (λ (y : Step). apply p y (apply p (opposite x) v)) (sym (opposite-opposite x)) ∙ undo-apply (opposite x) v (sound-opposite x a) g
+      ap (λ (y : Step). apply p y (apply p (inverseStep x) v)) (sym (inverse-step-twice x)) ∙ undo-apply (inverseStep x) v (sound-inverse-step x a) g
 
-  pub undo-do : (xs : List Step) (v : List ℕ) → AllSound xs → Good p v → undoAll p xs (doAll p xs v) ≡ v
+  pub undo-do : (xs : List Step) (v : List ℕ) → AllSound xs → Residues p v → undoAll p xs (doAll p xs v) ≡ v
   unfolding undoAll doAll
   undo-do [] v a g = refl
   undo-do (x ∷ xs) v a g =
-      ap (apply p (opposite x)) (undo-do xs (apply p x v) (a .1) (good-apply x v (a .0) g)) ∙ undo-apply x v (a .0) g
+      ap (apply p (inverseStep x)) (undo-do xs (apply p x v) (a .1) (residues-apply x v (a .0) g)) ∙ undo-apply x v (a .0) g
 
-  pub do-undo : (xs : List Step) (v : List ℕ) → AllSound xs → Good p v → doAll p xs (undoAll p xs v) ≡ v
+  pub do-undo : (xs : List Step) (v : List ℕ) → AllSound xs → Residues p v → doAll p xs (undoAll p xs v) ≡ v
   unfolding undoAll doAll
   do-undo [] v a g = refl
   do-undo (x ∷ xs) v a g =
-      ap (doAll p xs) (apply-undo x (undoAll p xs v) (a .0) (good-undoAll xs v (a .1) g)) ∙ do-undo xs v (a .1) g
+      ap (doAll p xs) (apply-undo x (undoAll p xs v) (a .0) (residues-undoAll xs v (a .1) g)) ∙ do-undo xs v (a .1) g

@@ -19,22 +19,22 @@ unfolding allInRange inRange
 start-range = refl
 
 -- what the steps xs make of z is what the steps ys, which are left, make of w
-pub record Left (xs : List Step) (z : List ℤ) (ys : List Step) (w : List ℤ) : Type 0 where
+pub record RestOfTrace (xs : List Step) (z : List ℤ) (ys : List Step) (w : List ℤ) : Type 0 where
   pub inside : allInRange w ≡ true
   pub stays : staysInRange ys w ≡ staysInRange xs z
   pub ends : shiftAll ys w ≡ shiftAll xs z
 
-pub all-left : (xs : List Step) (z : List ℤ) → allInRange z ≡ true → Left xs z xs z
+pub all-left : (xs : List Step) (z : List ℤ) → allInRange z ≡ true → RestOfTrace xs z xs z
 all-left xs z r = record { inside = r; stays = refl; ends = refl }
 
 module _ {xs : List Step} {z : List ℤ} where
-  pub none-left : (i : ℕ) (w : List ℤ) → length xs ≤ i → Left xs z (drop i xs) w → (true ≡ staysInRange xs z) × (w ≡ shiftAll xs z)
+  pub none-left : (i : ℕ) (w : List ℤ) → length xs ≤ i → RestOfTrace xs z (drop i xs) w → (true ≡ staysInRange xs z) × (w ≡ shiftAll xs z)
   unfolding staysInRange shiftAll
   none-left i w past l =
       let none = drop-of-length-le xs past in
       (sym (l .inside) ∙ sym (ap (λ (ys : List Step). staysInRange ys w) none) ∙ l .stays, sym (ap (λ (ys : List Step). shiftAll ys w) none) ∙ l .ends)
 
-  module _ (i : ℕ) (x other : Step) (w : List ℤ) (at : x ≡ getD xs i other) (h : i < length xs) (l : Left xs z (drop i xs) w) where
+  module _ (i : ℕ) (x other : Step) (w : List ℤ) (at : x ≡ getD xs i other) (h : i < length xs) (l : RestOfTrace xs z (drop i xs) w) where
     from-there : drop i xs ≡ x ∷ drop (i + 1) xs
     from-there =
         let next : suc i ≡ i + 1 = omega arith in
@@ -52,7 +52,7 @@ module _ {xs : List Step} {z : List ℤ} where
         sym (ap₂ _&&_ (l .inside) rest) ∙ stays-on
 
     -- or doesn't
-    pub goes-on : (v : List ℤ) → true ≡ makesInRange x w → v ≡ shiftInRange x w → Left xs z (drop (i + 1) xs) v
+    pub goes-on : (v : List ℤ) → true ≡ makesInRange x w → v ≡ shiftInRange x w → RestOfTrace xs z (drop (i + 1) xs) v
     unfolding shiftInRange shiftAll
     goes-on v in-range is =
         let there : v ≡ shift x w = is ∙ rw (sym in-range) in

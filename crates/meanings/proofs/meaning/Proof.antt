@@ -1,4 +1,4 @@
--- `meanings::meaning` meets its contract: each kind of word by its name.
+-- `meaning` meets its contract: each kind of word by its name.
 use borrow.Author.Needs.{needs}
 use Rattle.meanings.proofs.meaning.Statement.{statement}
 use Rattle.meanings.proofs.meaning.Tie as tie

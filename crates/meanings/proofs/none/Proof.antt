@@ -1,4 +1,4 @@
--- `meanings::none` meets its contract: a line of one word.
+-- `none` meets its contract: a line of one word.
 use mathlib.Core.Path.{refl}
 use native.Mathlib.Omega.{arith}
 use Rattle.text.specs.Text.{ascii, line}

@@ -1,4 +1,4 @@
--- `meanings::one` meets its contract: a line of two words, the number of at most 10 digits.
+-- `one` meets its contract: a line of two words, the number of at most 10 digits.
 use mathlib.Core.Path.{refl}
 use native.Mathlib.Omega.{arith}
 use Rattle.tool.proofs.Laws.Parts.{one-put, one-short}

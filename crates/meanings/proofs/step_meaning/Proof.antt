@@ -1,4 +1,4 @@
--- `meanings::step_meaning` meets its contract: each kind of step by its name.
+-- `step_meaning` meets its contract: each kind of step by its name.
 use borrow.Author.Needs.{needs}
 use Rattle.meanings.proofs.step_meaning.Statement.{statement}
 use Rattle.meanings.proofs.step_meaning.Tie as tie

@@ -1,4 +1,4 @@
--- `meanings::two` meets its contract: a line of three words, the numbers of at most 10 digits each.
+-- `two` meets its contract: a line of three words, the numbers of at most 10 digits each.
 use mathlib.Core.Path.{refl}
 use native.Mathlib.Omega.{arith}
 use Rattle.tool.proofs.Laws.Parts.{two-put, two-short}

@@ -14,9 +14,9 @@ use Rattle.tape.specs.Words.{numberLimit}
 use Rattle.named.specs.declared.Figure.the-variants.{Two}
 use Rattle.named.specs.Generators.{generated}
 use Rattle.named.specs.Named.{basicForms}
-use Rattle.named.specs.Promises.{Fits, IsProgram}
+use Rattle.named.specs.Promises.{FormsFit, IsProgram}
 use Rattle.named.proofs.Laws.Lengths.{drawn-count, lone-fits}
-use Rattle.named.proofs.Laws.Forms.{form-ones, mostTerm, mostOnes, most-term, reach-28}
+use Rattle.named.proofs.Laws.Forms.{form-ones, maxTerm, maxOnes, most-term, reach-28}
 use Rattle.named.proofs.Laws.Programs.{below, inverse-is, two-program}
 
 module _ (r k : ℕ) (good : badExponent k r ≡ false) where
@@ -34,7 +34,7 @@ module _ (r k : ℕ) (good : badExponent k r ≡ false) where
   basic-bound =
       omega (arith, drawn-count Two (zeckendorf k) [] (zeckendorf K) [] (omega arith) (omega arith) refl refl, zeckendorf-height r k h, zeckendorf-height r K H, form-ones r k h, form-ones r K H)
 
-  pub basic-fits : r < numberLimit → Fits (basicForms r k)
+  pub basic-fits : r < numberLimit → FormsFit (basicForms r k)
   unfolding basicForms
   basic-fits small =
       let low = height-28 r small in
@@ -43,7 +43,7 @@ module _ (r k : ℕ) (good : badExponent k r ≡ false) where
   pub basic-program : IsProgram r k (generated (basicForms r k))
   unfolding basicForms
   basic-program =
-      two-program r k good (mostTerm r) (mostOnes r) (reach-28 r) (zeckendorf k) (zeckendorf K)
+      two-program r k good (maxTerm r) (maxOnes r) (reach-28 r) (zeckendorf k) (zeckendorf K)
       (zeckendorf-sum k) (ap (λ (n : ℕ). k * n % r) (zeckendorf-sum K) ∙ inverse-is r k good .one)
       (form-ones r k h) (form-ones r K H)
       (most-term r 1 (suc (length (zeckendorf k))) (omega (arith, h)) (omega (arith, zeckendorf-height r k h)))

@@ -17,10 +17,10 @@ use Rattle.machine.proofs.Laws.Integers.{Within, within-natural}
 use Rattle.named.specs.declared.Figure.the-variants.{Four}
 use Rattle.named.specs.Generators.{generated}
 use Rattle.named.specs.Named.{dualForm, dualForms}
-use Rattle.named.specs.Promises.{Fits, IsProgram}
+use Rattle.named.specs.Promises.{FormsFit, IsProgram}
 use Rattle.named.proofs.Laws.Lengths.{drawn-count}
 use Rattle.named.proofs.Laws.Sequences.{reaching}
-use Rattle.named.proofs.Laws.Forms.{padded-sum, padded-length, padded-ones, mostTerm, mostOnes, most-term, reach-28}
+use Rattle.named.proofs.Laws.Forms.{padded-sum, padded-length, padded-ones, maxTerm, maxOnes, most-term, reach-28}
 use Rattle.named.proofs.Laws.Programs.{FormOf, below, four-program}
 
 module _ (r k : ℕ) (good : badExponent k r ≡ false) where
@@ -39,7 +39,7 @@ module _ (r k : ℕ) (good : badExponent k r ≡ false) where
   places : (x i : ℕ) → length (dualForm r x i) ≡ h
   places x i = padded-length h (x * fib i % r) r (residue-below (x * fib i)) (omega arith)
 
-  few : (x i : ℕ) → ones (dualForm r x i) ≤ mostOnes r
+  few : (x i : ℕ) → ones (dualForm r x i) ≤ maxOnes r
   few x i = padded-ones h (x * fib i % r) r (residue-below (x * fib i))
 
   pub dual-bound : length (generated (dualForms r k)) ≤ 6 * h + 4
@@ -57,7 +57,7 @@ module _ (r k : ℕ) (good : badExponent k r ≡ false) where
         few K (suc h),
       )
 
-  pub dual-fits : r < numberLimit → Fits (dualForms r k)
+  pub dual-fits : r < numberLimit → FormsFit (dualForms r k)
   unfolding dualForms
   dual-fits small = record {
     first = omega (arith, height-28 r small, places k h);
@@ -68,7 +68,7 @@ module _ (r k : ℕ) (good : badExponent k r ≡ false) where
     aloneLast = tt;
   }
 
-  form : (x i : ℕ) → FormOf r h (mostOnes r) (x * fib i) (dualForm r x i)
+  form : (x i : ℕ) → FormOf r h (maxOnes r) (x * fib i) (dualForm r x i)
   form x i = record { places = places x i; few = few x i; sum = ap (λ (n : ℕ). n % r) (sum x i) ∙ mod-mod (x * fib i) r }
 
   pub dual-program : IsProgram r k (generated (dualForms r k))
@@ -76,7 +76,7 @@ module _ (r k : ℕ) (good : badExponent k r ≡ false) where
   dual-program =
       let within : (i j : ℕ) → 1 ≤ j → Within (r * fib j) (pos (fibsum (dualForm r k i))) =
       λ i j some. within-natural _ (omega (arith, sum k i, residue-below (k * fib i), mul-le-mul-left r (fib-monotone {m = 1} {n = j} some), ap (λ (n : ℕ). r * n) fib-one)) in
-      four-program r k good (mostTerm r) (mostOnes r) (reach-28 r) h (dualForm r k h) (dualForm r k (suc h)) (dualForm r K h) (dualForm r K (suc h))
+      four-program r k good (maxTerm r) (maxOnes r) (reach-28 r) h (dualForm r k h) (dualForm r k (suc h)) (dualForm r K h) (dualForm r K (suc h))
       (form k h) (form k (suc h)) (form K h) (form K (suc h))
-      (reaching (mostTerm r) r h 1 _ _ (most-term r r (suc (1 + h)) (omega arith) (omega arith)) (within h 2 (omega arith)) (within (suc h) 1 (omega arith)))
+      (reaching (maxTerm r) r h 1 _ _ (most-term r r (suc (1 + h)) (omega arith) (omega arith)) (within h 2 (omega arith)) (within (suc h) 1 (omega arith)))
       (most-term r 1 (suc h) (omega (arith, below r k good)) (omega arith)) (λ small. omega (arith, height-28 r small, dual-bound))

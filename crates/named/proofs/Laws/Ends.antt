@@ -19,11 +19,11 @@ use Rattle.tape.specs.declared.Step.{Step}
 use Rattle.tape.specs.Steps.{AllSound}
 use Rattle.machine.specs.Machine.{undoAll, start}
 use Rattle.machine.specs.Exponents.{startExponents, exponentsAt, residueOf}
-use Rattle.machine.proofs.Laws.Steps.{good-start, undo-do}
+use Rattle.machine.proofs.Laws.Steps.{residues-start, undo-do}
 use Rattle.machine.proofs.Laws.Ranges.{Goes, goes-end}
 use Rattle.machine.proofs.Laws.Orders.{registers-residues}
 use Rattle.machine.proofs.Laws.Congruences.{Congruent, congruent-less, residue-is}
-use Rattle.named.specs.Generators.{Raises, Lowers}
+use Rattle.named.specs.Generators.{Raises, UndoneRaises}
 use Rattle.named.proofs.Laws.Sequences.{Adds, before, multiple, multiple-zero, multiple-one, multiple-next, before-sum, Reaching, cameFrom}
 
 -- (0, k, 0, 0) modulo r
@@ -94,8 +94,8 @@ module _ (p : ℕ) (pr : Prime p) (r k : ℕ) (xs : List Step) (sound : AllSound
   ends-raises some ends a ra order =
       registers-residues p pr a ra r some order xs sound ∙ ap (map (λ (n : ℕ). a ^ n % p)) ends ∙ simp (power-zero p pr a)
 
-  pub raises-lowers : (K : ℕ) → k * K % r ≡ 1 → Raises p r k xs → Lowers p r K xs
-  raises-lowers K inv raises b rb order =
+  pub raises-undone : (K : ℕ) → k * K % r ≡ 1 → Raises p r k xs → UndoneRaises p r K xs
+  raises-undone K inv raises b rb order =
       let a : ℕ = b ^ K % p in
       let ra : Residue p a = residue-pow p pr b K rb in
       let e : a ^ k % p ≡ b =
@@ -105,4 +105,4 @@ module _ (p : ℕ) (pr : Prime p) (r k : ℕ) (xs : List Step) (sound : AllSound
       ∙ power-one p pr b rb in
       ap (λ (x : ℕ). undoAll p xs (start x)) (sym e)
       ∙ ap (undoAll p xs) (sym (raises a ra (order-power p pr b r K order)))
-      ∙ undo-do p pr xs (start a) sound (good-start p pr a ra)
+      ∙ undo-do p pr xs (start a) sound (residues-start p pr a ra)

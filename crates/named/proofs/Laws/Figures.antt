@@ -17,7 +17,7 @@ use Rattle.fibonacci.specs.Hofstadter.{G}
 use Rattle.fibonacci.proofs.Laws.Hofstadter.{G-multiple}
 use Rattle.fibonacci.proofs.Laws.Zeckendorf.{zeckendorf-by}
 use Rattle.tape.specs.declared.Step.{Step}
-use Rattle.machine.specs.Machine.{apply, opposite, doAll, run, back}
+use Rattle.machine.specs.Machine.{apply, inverseStep, doAll, run, inverted}
 use Rattle.machine.specs.Exponents.{shift, shiftAll, exponentsAt}
 use Rattle.named.specs.Generators.{drawn, generated, ascend, descend, basic, dual, hybrid}
 use Rattle.named.specs.Named.{basicForms, dualForms, hybridForms, formsIn, namedSteps}
@@ -34,13 +34,13 @@ unfolding hybridForms drawn oddHeight firstFrom reaches lucas fib inverse greate
 steps-v = ap (λ (form : List Bool). hybrid form (pad 11 (zeckendorf 106))) (zeckendorf-by 24 10944 (omega arith))
 
 steps-count : length (generated (hybridForms 179 76)) ≡ 76
-unfolding hybrid descend ascend back opposite zeckendorf greedy pad fib
+unfolding hybrid descend ascend inverted inverseStep zeckendorf greedy pad fib
 steps-count = ap length steps-v ∙ refl
 
 last-exponents : exponentsAt (generated (hybridForms 179 76)) 76 ≡ pos 0 ∷ pos 76 ∷ negsuc 8054 ∷ pos 0 ∷ []
-unfolding hybrid descend ascend back opposite zeckendorf greedy pad fib shiftAll shift
+unfolding hybrid descend ascend inverted inverseStep zeckendorf greedy pad fib shiftAll shift
 last-exponents = ap (λ (xs : List Step). exponentsAt xs 76) steps-v ∙ refl
 
 pub starred-hold : AllHold starred
-unfolding namedSteps formsIn basicForms dualForms hybridForms drawn basic dual hybrid ascend descend back opposite run doAll apply times remainder inverse greatest zeckendorf greedy pad placesFrom height oddHeight firstFrom reaches lucas fib
+unfolding namedSteps formsIn basicForms dualForms hybridForms drawn basic dual hybrid ascend descend inverted inverseStep run doAll apply times remainder inverse greatest zeckendorf greedy pad placesFrom height oddHeight firstFrom reaches lucas fib
 starred-hold = (refl, (refl, (refl, (refl, (refl, (ap (λ (n : ℕ). pos n ∷ []) G-v, (refl, (refl, (refl, (refl, (ap (λ (n : ℕ). pos n ∷ []) steps-count, (last-exponents, (refl, (refl, tt))))))))))))))

@@ -18,10 +18,10 @@ use Rattle.tape.specs.Words.{numberLimit}
 use Rattle.named.specs.declared.Figure.the-variants.{Six}
 use Rattle.named.specs.Generators.{generated}
 use Rattle.named.specs.Named.{hybridForms}
-use Rattle.named.specs.Promises.{Fits, IsProgram}
+use Rattle.named.specs.Promises.{FormsFit, IsProgram}
 use Rattle.named.proofs.Laws.Lengths.{drawn-count, lone-fits}
 use Rattle.named.proofs.Laws.Sequences.{reaching-multiples}
-use Rattle.named.proofs.Laws.Forms.{padded-sum, padded-length, padded-ones, mostTerm, mostOnes, most-term, reach-28}
+use Rattle.named.proofs.Laws.Forms.{padded-sum, padded-length, padded-ones, maxTerm, maxOnes, most-term, reach-28}
 use Rattle.named.proofs.Laws.Programs.{below, inverse-is, six-program}
 
 module _ (r k : ℕ) (good : badExponent k r ≡ false) where
@@ -37,7 +37,7 @@ module _ (r k : ℕ) (good : badExponent k r ≡ false) where
   places : length Ks ≡ oddHeight r
   places = padded-length (oddHeight r) (inverse r k) r (inverse-is r k good .high) (height-le-odd r)
 
-  few : ones Ks ≤ mostOnes r
+  few : ones Ks ≤ maxOnes r
   few = padded-ones (oddHeight r) (inverse r k) r (inverse-is r k good .high)
 
   pub hybrid-bound : length (generated (hybridForms r k)) ≤ 8 * height r + 5
@@ -55,7 +55,7 @@ module _ (r k : ℕ) (good : badExponent k r ≡ false) where
         height-least r .from,
       )
 
-  pub hybrid-fits : r < numberLimit → Fits (hybridForms r k)
+  pub hybrid-fits : r < numberLimit → FormsFit (hybridForms r k)
   unfolding hybridForms
   hybrid-fits small =
       lone-fits Six (zeckendorf v) Ks (omega (arith, multiple-length r k h, height-28 r small)) (omega (arith, places, odd-height-28 r small))
@@ -65,8 +65,8 @@ module _ (r k : ℕ) (good : badExponent k r ≡ false) where
   hybrid-program =
       let eu : fibsumFrom 0 (zeckendorf v) ≡ k * fib (length Ks) = multiple-shift r k h ∙ ap (λ (n : ℕ). k * fib n) (sym places) in
       let ev : fibsum (zeckendorf v) ≡ k * fib (suc (length Ks)) = zeckendorf-sum v ∙ ap (λ (n : ℕ). k * fib (suc n)) (sym places) in
-      six-program r k good (mostTerm r) (mostOnes r) (reach-28 r) (zeckendorf v) Ks
-      (reaching-multiples (mostTerm r) (length Ks) k (most-term r k (suc (length Ks)) (omega (arith, h)) (omega (arith, places, odd-height-le r))) eu ev)
+      six-program r k good (maxTerm r) (maxOnes r) (reach-28 r) (zeckendorf v) Ks
+      (reaching-multiples (maxTerm r) (length Ks) k (most-term r k (suc (length Ks)) (omega (arith, h)) (omega (arith, places, odd-height-le r))) eu ev)
       (ap (λ (n : ℕ). k * n % r) (padded-sum (oddHeight r) (inverse r k)) ∙ inverse-is r k good .one)
       (ap (λ (n : ℕ). n % r) eu) (ap (λ (n : ℕ). n % r) ev)
       few (omega (arith, fib-one, most-term r 1 1 (omega (arith, h)) (omega arith)))

@@ -10,16 +10,16 @@ use Rattle.fibonacci.specs.Services.{lastPlace}
 use Rattle.fibonacci.proofs.Laws.Forms.{pad-length, ones-pad}
 use Rattle.tape.specs.declared.Step.{Step}
 use Rattle.tape.specs.declared.Step.the-variants.{Mul, Swp}
-use Rattle.machine.specs.Machine.{opposite, back}
+use Rattle.machine.specs.Machine.{inverseStep, inverted}
 use Rattle.named.specs.declared.Figure.{Figure}
 use Rattle.named.specs.declared.Figure.the-variants.{Two, Four, Six}
 use Rattle.named.specs.Generators.{select, lowest, higher, ascend, chain, downSteps, descend, basic, dual, hybrid, Forms, lone, drawn, generated, stepsFrom}
-use Rattle.named.specs.Promises.{Alone, Fits}
+use Rattle.named.specs.Promises.{Alone, FormsFit}
 
-length-back : (xs : List Step) → length (back xs) ≡ length xs
-unfolding back
+length-back : (xs : List Step) → length (inverted xs) ≡ length xs
+unfolding inverted
 length-back [] = refl
-length-back (x ∷ xs) = length-append (back xs) (opposite x ∷ []) ∙ omega (arith, length-back xs)
+length-back (x ∷ xs) = length-append (inverted xs) (inverseStep x ∷ []) ∙ omega (arith, length-back xs)
 
 select-length : (b : Bool) (x : Step) (xs : List Step) → length (select b x xs) ≡ cond b 1 0 + length xs
 select-length true x xs = omega arith
@@ -66,8 +66,8 @@ pub drawn-count : (figure : Figure) (ss ts Ss Ts : List Bool) → length ts ≤ 
 unfolding drawn basic dual hybrid ones
 drawn-count Two ks ts Ks Ts h H e E =
     length-append (ascend ks []) _
-    ∙ ap (λ (n : ℕ). length (ascend ks []) + n) (length-append (back (chain (length ks))) _)
-    ∙ ap (λ (n : ℕ). length (ascend ks []) + (length (back (chain (length ks))) + suc n)) (length-append (chain (length Ks)) (back (ascend Ks [])))
+    ∙ ap (λ (n : ℕ). length (ascend ks []) + n) (length-append (inverted (chain (length ks))) _)
+    ∙ ap (λ (n : ℕ). length (ascend ks []) + (length (inverted (chain (length ks))) + suc n)) (length-append (chain (length Ks)) (inverted (ascend Ks [])))
     ∙ rw (e, E)
     (omega (
       arith,
@@ -85,7 +85,7 @@ drawn-count Six vs ts Ks Ts h H e E =
     ap suc (length-append (descend vs) _)
     ∙ rw (e, E) (omega (arith, descend-length vs, ascend-length Ks [] (omega arith), length-back (ascend Ks [])))
 
-pub generated-count : (f : Forms) → Fits f
+pub generated-count : (f : Forms) → FormsFit f
     → length (generated f) ≡ stepsFrom (f .figure) (length (f .first)) (length (f .last)) (ones (f .first) + ones (f .beside) + ones (f .last) + ones (f .besideLast))
 generated-count f fits =
     drawn-count (f .figure) (f .first) (f .beside) (f .last) (f .besideLast) (fits .beside) (fits .besideLast) (fits .alone) (fits .aloneLast)
@@ -95,7 +95,7 @@ alone-none Two = refl
 alone-none Four = tt
 alone-none Six = refl
 
-pub lone-fits : (figure : Figure) (ss Ss : List Bool) → length ss ≤ lastPlace → length Ss ≤ lastPlace → Fits (lone figure ss Ss)
+pub lone-fits : (figure : Figure) (ss Ss : List Bool) → length ss ≤ lastPlace → length Ss ≤ lastPlace → FormsFit (lone figure ss Ss)
 lone-fits figure ss Ss h H = record {
   first = h;
   beside = omega arith;

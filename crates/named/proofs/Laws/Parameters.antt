@@ -13,7 +13,7 @@ use Rattle.refusal.proofs.Laws.Tests.{by-test, both, neither}
 use Rattle.modular.proofs.Laws.Inverses.{inverse-none, exponent-good}
 use Rattle.tape.specs.Words.{numberLimit}
 use Rattle.named.specs.Named.{lastVariant}
-use Rattle.named.specs.Parameters.{badModulus, badOrder, goodInverse, unnamed}
+use Rattle.named.specs.Parameters.{badModulus, badOrder, goodInverse, badVariant}
 
 -- ---- the modulus
 
@@ -97,14 +97,14 @@ module _ (k r : ℕ) where
 -- ---- the variant
 
 module _ (variant : ℕ) where
-  pub named : ¬ (variant ≡ 0) → variant ≤ lastVariant → unnamed variant ≡ false
-  unfolding unnamed
+  pub named : ¬ (variant ≡ 0) → variant ≤ lastVariant → badVariant variant ≡ false
+  unfolding badVariant
   named some most = rw (ne-eqb variant 0 some, le-ltb lastVariant variant most)
 
-  pub named-some : unnamed variant ≡ false → ¬ (variant ≡ 0)
-  unfolding unnamed
+  pub named-some : badVariant variant ≡ false → ¬ (variant ≡ 0)
+  unfolding badVariant
   named-some is = eqb-false variant 0 (neither (eqb variant 0) _ is .0)
 
-  pub named-most : unnamed variant ≡ false → variant ≤ lastVariant
-  unfolding unnamed
+  pub named-most : badVariant variant ≡ false → variant ≤ lastVariant
+  unfolding badVariant
   named-most is = ltb-false lastVariant variant (neither (eqb variant 0) _ is .1)

@@ -16,9 +16,9 @@ use Rattle.fibonacci.specs.Fibonacci.{fib}
 use Rattle.fibonacci.specs.Forms.{fibsumFrom, fibsum, pad, ones}
 use Rattle.tape.specs.declared.Step.{Step}
 use Rattle.tape.specs.Words.{numberLimit}
-use Rattle.tape.specs.Layout.{mostSteps}
+use Rattle.tape.specs.Layout.{maxSteps}
 use Rattle.tape.specs.Steps.{AllSound}
-use Rattle.machine.specs.Machine.{back}
+use Rattle.machine.specs.Machine.{inverted}
 use Rattle.machine.specs.Exponents.{shift, startExponents, exponentsAt}
 use Rattle.machine.proofs.Laws.Integers.{Within, within-natural}
 use Rattle.machine.proofs.Laws.Ranges.{four-within, Goes, goes-step, goes-append, goes-back, goes-stays}
@@ -31,7 +31,7 @@ use Rattle.named.proofs.Laws.Sound.{sound-ascend, sound-drawn}
 use Rattle.named.proofs.Laws.Lengths.{drawn-some}
 use Rattle.named.proofs.Laws.Sequences.{multiple, multiple-one, multiples, Reaching, cameFrom, reaching-multiples}
 use Rattle.named.proofs.Laws.Loops.{reach, reached, ascend-from, chain-multiples, ascend-sums, all-naturals, descend-sums}
-use Rattle.named.proofs.Laws.Ends.{EndsAt, one-residue, came-ends, end-residues, ends-raises, raises-lowers}
+use Rattle.named.proofs.Laws.Ends.{EndsAt, one-residue, came-ends, end-residues, ends-raises, raises-undone}
 
 -- a form of x modulo r with n places, of which at most m are set
 pub record FormOf (r n m x : ℕ) (bs : List Bool) : Type 0 where
@@ -51,8 +51,8 @@ module _ (r k : ℕ) (good : badExponent k r ≡ false) where
     drawn-program : (figure : Figure) (ss ts Ss Ts : List Bool) {n : ℕ} {s t : ℤ} (q : Reaching b n s t) (e f : ℤ)
         → length Ss ≡ n → length Ts ≤ n → ones Ss ≤ m → ones Ts ≤ m → Within b e → Within b f
         → Congruent r s (multiple k n) → Congruent r t (multiple k (suc n)) → Congruent r e (pos (k * fibsum Ss)) → Congruent r f (pos (k * fibsum Ts))
-        → (r < numberLimit → length (drawn figure ss ts Ss Ts) ≤ mostSteps)
-        → ((z : List ℤ) → Goes (reach b m) (back (ascend Ss Ts)) (s ∷ t ∷ e ∷ f ∷ []) z → Goes (reach b m) (drawn figure ss ts Ss Ts) startExponents z)
+        → (r < numberLimit → length (drawn figure ss ts Ss Ts) ≤ maxSteps)
+        → ((z : List ℤ) → Goes (reach b m) (inverted (ascend Ss Ts)) (s ∷ t ∷ e ∷ f ∷ []) z → Goes (reach b m) (drawn figure ss ts Ss Ts) startExponents z)
         → IsProgram r k (drawn figure ss ts Ss Ts)
     drawn-program figure ss ts Ss Ts {n} q e f lS lT few few′ we wf cs ct ce cf short opening =
         let xs : List Step = drawn figure ss ts Ss Ts in
@@ -68,7 +68,7 @@ module _ (r k : ℕ) (good : badExponent k r ≡ false) where
           some = drawn-some figure ss ts Ss Ts;
           sound = sound;
           raises = raises;
-          lowers = λ p pr. raises-lowers p pr r k xs sound (inverse r k) (inverse-is .one) (raises p pr);
+          undone-raises = λ p pr. raises-undone p pr r k xs sound (inverse r k) (inverse-is .one) (raises p pr);
           ends = ends;
           short = short;
           stays = λ small. goes-stays (room small) xs goes;
@@ -77,8 +77,8 @@ module _ (r k : ℕ) (good : badExponent k r ≡ false) where
     -- with one form in the second half, which takes (1, 0) to (1 - k K, 0)
     lone-program : (figure : Figure) (ss Ks : List Bool) {s t : ℤ} (q : Reaching b (length Ks) s t) → k * fibsum Ks % r ≡ 1 → ones Ks ≤ m → 1 ≤ b
         → Congruent r s (multiple k (length Ks)) → Congruent r t (multiple k (suc (length Ks)))
-        → (r < numberLimit → length (drawn figure ss [] Ks []) ≤ mostSteps)
-        → ((z : List ℤ) → Goes (reach b m) (back (ascend Ks [])) (s ∷ t ∷ pos 1 ∷ pos 0 ∷ []) z → Goes (reach b m) (drawn figure ss [] Ks []) startExponents z)
+        → (r < numberLimit → length (drawn figure ss [] Ks []) ≤ maxSteps)
+        → ((z : List ℤ) → Goes (reach b m) (inverted (ascend Ks [])) (s ∷ t ∷ pos 1 ∷ pos 0 ∷ []) z → Goes (reach b m) (drawn figure ss [] Ks []) startExponents z)
         → IsProgram r k (drawn figure ss [] Ks [])
     unfolding fibsumFrom ones
     lone-program figure ss Ks q inv few some cs ct short opening =
@@ -89,7 +89,7 @@ module _ (r k : ℕ) (good : badExponent k r ≡ false) where
     -- figure 2, along the multiples of 1 and then of k
     pub two-program : (ks Ks : List Bool) → fibsum ks ≡ k → k * fibsum Ks % r ≡ 1 → ones ks ≤ m → ones Ks ≤ m
         → 1 * fib (suc (length ks)) ≤ b → k * fib (suc (length Ks)) ≤ b
-        → (r < numberLimit → length (drawn Two ks [] Ks []) ≤ mostSteps) → IsProgram r k (drawn Two ks [] Ks [])
+        → (r < numberLimit → length (drawn Two ks [] Ks []) ≤ maxSteps) → IsProgram r k (drawn Two ks [] Ks [])
     unfolding drawn basic shift fibsumFrom ones
     two-program ks Ks sum inv few few′ most most′ short =
         let n : ℕ = length ks in
@@ -100,7 +100,7 @@ module _ (r k : ℕ) (good : badExponent k r ≡ false) where
         lone-program Two ks Ks (reaching-multiples b l k most′ refl refl) inv few′ (w1 .high) (congruent-same r _ _ refl) (congruent-same r _ _ refl) short
         (λ z closing.
         goes-append (ascend ks []) (rw sum at (ascend-sums b m n ks [] refl (omega arith) few (omega arith) most (omega (arith, wk .high)) (omega arith)))
-        (goes-append (back (chain n))
+        (goes-append (inverted (chain n))
         (goes-back (chain n) (sound-ascend (pad n []) []) refl (chain-multiples b m n 1 most (pos k) (pos 0) wk w0))
         (goes-step (all-naturals (reach b m) 0 1 k 0 (omega (arith, wk .high))) refl
         (goes-append (chain l) (chain-multiples b m l k most′ (pos 1) (pos 0) w1 w0) closing))))
@@ -109,7 +109,7 @@ module _ (r k : ℕ) (good : badExponent k r ≡ false) where
     pub four-program : (n : ℕ) (ss ts Ss Ts : List Bool) → FormOf r n m (k * fib n) ss → FormOf r n m (k * fib (suc n)) ts
         → FormOf r n m (inverse r k * fib n) Ss → FormOf r n m (inverse r k * fib (suc n)) Ts
         → Reaching b n (pos (fibsum ss)) (pos (fibsum ts)) → 1 * fib (suc n) ≤ b
-        → (r < numberLimit → length (drawn Four ss ts Ss Ts) ≤ mostSteps) → IsProgram r k (drawn Four ss ts Ss Ts)
+        → (r < numberLimit → length (drawn Four ss ts Ss Ts) ≤ maxSteps) → IsProgram r k (drawn Four ss ts Ss Ts)
     unfolding drawn dual shift
     four-program n ss ts Ss Ts first beside last beside-last q most short =
         let crossed : (bs : List Bool) (i : ℕ) → fibsum bs % r ≡ inverse r k * fib i % r → Congruent r (multiple 1 i) (pos (k * fibsum bs)) =
@@ -131,7 +131,7 @@ module _ (r k : ℕ) (good : badExponent k r ≡ false) where
     -- figure 6, down to the sums of its first form, and along the sequence through them
     pub six-program : (vs Ks : List Bool) (q : Reaching b (length Ks) (pos (fibsumFrom 0 vs)) (pos (fibsum vs))) → k * fibsum Ks % r ≡ 1
         → fibsumFrom 0 vs % r ≡ k * fib (length Ks) % r → fibsum vs % r ≡ k * fib (suc (length Ks)) % r → ones Ks ≤ m → 1 ≤ b
-        → (r < numberLimit → length (drawn Six vs [] Ks []) ≤ mostSteps) → IsProgram r k (drawn Six vs [] Ks [])
+        → (r < numberLimit → length (drawn Six vs [] Ks []) ≤ maxSteps) → IsProgram r k (drawn Six vs [] Ks [])
     unfolding drawn hybrid shift
     six-program vs Ks q inv eu ev few some short =
         let u : ℕ = fibsumFrom 0 vs in

@@ -8,14 +8,14 @@ use lib.ListN.{length}
 use Rattle.fibonacci.specs.Forms.{pad}
 use Rattle.tape.specs.declared.Step.{Step}
 use Rattle.tape.specs.declared.Step.the-variants.{Mul, Swp}
-use Rattle.tape.specs.Steps.{Apart, Sound, AllSound}
-use Rattle.machine.specs.Machine.{back}
-use Rattle.machine.proofs.Laws.Steps.{sound-append, sound-back}
+use Rattle.tape.specs.Steps.{Distinct, Sound, AllSound}
+use Rattle.machine.specs.Machine.{inverted}
+use Rattle.machine.proofs.Laws.Steps.{sound-append, sound-inverted}
 use Rattle.named.specs.declared.Figure.{Figure}
 use Rattle.named.specs.declared.Figure.the-variants.{Two, Four, Six}
 use Rattle.named.specs.Generators.{select, lowest, higher, ascend, chain, downSteps, descend, basic, dual, hybrid, drawn}
 
-apart : (t s : ℕ) → T (ltb t 4) → T (ltb s 4) → T (not (eqb t s)) → Apart t s
+apart : (t s : ℕ) → T (ltb t 4) → T (ltb s 4) → T (not (eqb t s)) → Distinct t s
 apart t s ht hs ne =
     record { target-is-one = ltb→lt t 4 ht; source-is-one = ltb→lt s 4 hs; differ = λ e. T-not (eqb t s) ne (rw (← e) (eqb-refl t)) }
 
@@ -52,15 +52,15 @@ pub sound-drawn : (figure : Figure) (ss ts Ss Ts : List Bool) → AllSound (draw
 unfolding drawn basic dual hybrid
 sound-drawn Two ks ts Ks Ts =
     sound-append (ascend ks []) _ (sound-ascend ks [])
-    (sound-append (back (chain (length ks))) _ (sound-back (chain (length ks)) (sound-ascend (pad (length ks) []) [])) (
+    (sound-append (inverted (chain (length ks))) _ (sound-inverted (chain (length ks)) (sound-ascend (pad (length ks) []) [])) (
       swp-sound 1 2 tt tt tt tt,
-      sound-append (chain (length Ks)) _ (sound-ascend (pad (length Ks) []) []) (sound-back (ascend Ks []) (sound-ascend Ks [])),
+      sound-append (chain (length Ks)) _ (sound-ascend (pad (length Ks) []) []) (sound-inverted (ascend Ks []) (sound-ascend Ks [])),
     ))
 sound-drawn Four ss ts Ss Ts =
     sound-append (ascend ss ts) _ (sound-ascend ss ts)
-    (swp-sound 0 2 tt tt tt tt, (swp-sound 1 3 tt tt tt tt, sound-back (ascend Ss Ts) (sound-ascend Ss Ts)))
+    (swp-sound 0 2 tt tt tt tt, (swp-sound 1 3 tt tt tt tt, sound-inverted (ascend Ss Ts) (sound-ascend Ss Ts)))
 sound-drawn Six vs ts Ks Ts = (
   swp-sound 0 1 tt tt tt tt,
   sound-append (descend vs) _ (sound-descend vs)
-      (swp-sound 0 1 tt tt tt tt, (swp-sound 1 2 tt tt tt tt, sound-back (ascend Ks []) (sound-ascend Ks []))),
+      (swp-sound 0 1 tt tt tt tt, (swp-sound 1 2 tt tt tt tt, sound-inverted (ascend Ks []) (sound-ascend Ks []))),
 )

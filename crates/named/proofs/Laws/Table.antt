@@ -14,9 +14,9 @@ use Rattle.tape.specs.declared.Step.{Step}
 use Rattle.tape.specs.Words.{numberLimit}
 use Rattle.named.specs.Generators.{Forms, generated}
 use Rattle.named.specs.Named.{Variant, basicForms, dualForms, hybridForms, variants, formsIn, formsFor, programsFor, namedSteps}
-use Rattle.named.specs.Promises.{Fits, IsProgram}
+use Rattle.named.specs.Promises.{FormsFit, IsProgram}
 use Rattle.named.specs.Members.{Member}
-use Rattle.named.specs.Parameters.{unnamed}
+use Rattle.named.specs.Parameters.{badVariant}
 use Rattle.named.proofs.Laws.Members.{only-member, first-member, first-only, member-map}
 use Rattle.named.proofs.Laws.Parameters.{named-some, named-most}
 use Rattle.named.proofs.Laws.Basic.{basic-fits, basic-program}
@@ -30,20 +30,20 @@ AllRows P [] = Unit {0}
 AllRows P (row ∷ rows) = P row × AllRows P rows
 
 -- what a row promises: one program for each r and k, and where r and k are not refused what Promises says
-pub record Promised (row : Variant) : Type 0 where
+pub record VariantPromises (row : Variant) : Type 0 where
   pub one : (r k : ℕ) → length (row .forms r k) ≡ 1
-  pub kept : (r k : ℕ) → badExponent k r ≡ false → (f : Forms) → Member f (row .forms r k) → (r < numberLimit → Fits f) × IsProgram r k (generated f)
+  pub kept : (r k : ℕ) → badExponent k r ≡ false → (f : Forms) → Member f (row .forms r k) → (r < numberLimit → FormsFit f) × IsProgram r k (generated f)
 
 promised : {number : ℕ} {name : List ℕ} (forms : ℕ → ℕ → Forms)
-    → ((r k : ℕ) → badExponent k r ≡ false → r < numberLimit → Fits (forms r k))
+    → ((r k : ℕ) → badExponent k r ≡ false → r < numberLimit → FormsFit (forms r k))
     → ((r k : ℕ) → badExponent k r ≡ false → IsProgram r k (generated (forms r k)))
-    → Promised (record { number = number; name = name; forms = λ (r k : ℕ). forms r k ∷ [] })
+    → VariantPromises (record { number = number; name = name; forms = λ (r k : ℕ). forms r k ∷ [] })
 promised forms fits program = record {
   one = λ r k. refl;
   kept = λ r k good f m. rw (only-member m) (fits r k good, program r k good);
 }
 
-all-promised : AllRows Promised variants
+all-promised : AllRows VariantPromises variants
 all-promised = (
   promised basicForms basic-fits basic-program,
   (promised dualForms dual-fits dual-program, (promised hybridForms hybrid-fits hybrid-program, tt)),
@@ -56,8 +56,8 @@ numbered n [] = true
 numbered n (row ∷ rows) = eqb (row .number) n && numbered (suc n) rows
 
 -- What holds of each row's forms holds of what a table gives, and of none where the rows, numbered from n on, don't have the number.
-by-row : (P : List Forms → Type 0) (variant r k n : ℕ) (rows : List Variant) → AllRows Promised rows → numbered n rows ≡ true
-    → ((n ≤ variant → variant < n + length rows → ⊥) → P []) → ((row : Variant) → Promised row → P (row .forms r k)) → P (formsIn rows variant r k)
+by-row : (P : List Forms → Type 0) (variant r k n : ℕ) (rows : List Variant) → AllRows VariantPromises rows → numbered n rows ≡ true
+    → ((n ≤ variant → variant < n + length rows → ⊥) → P []) → ((row : Variant) → VariantPromises row → P (row .forms r k)) → P (formsIn rows variant r k)
 unfolding formsIn numbered
 by-row P variant r k n [] all e none some = none (λ low high. omega arith)
 by-row P variant r k n (row ∷ rows) all e none some =
@@ -72,18 +72,18 @@ by-row P variant r k n (row ∷ rows) all e none some =
 
 module _ (variant r k : ℕ) where
   -- for a variant that has none, and for each
-  by-variant : (P : List Forms → Type 0) → (unnamed variant ≡ true → P []) → ((row : Variant) → Promised row → P (row .forms r k)) → P (formsFor variant r k)
+  by-variant : (P : List Forms → Type 0) → (badVariant variant ≡ true → P []) → ((row : Variant) → VariantPromises row → P (row .forms r k)) → P (formsFor variant r k)
   unfolding numbered
   by-variant P none some =
       by-row P variant r k 1 variants all-promised refl
-      (λ out. none (test-true (unnamed variant) (λ is. out (omega (arith, named-some variant is)) (omega (arith, named-most variant is))))) some
+      (λ out. none (test-true (badVariant variant) (λ is. out (omega (arith, named-some variant is)) (omega (arith, named-most variant is))))) some
 
-  kept-forms : badExponent k r ≡ false → (f : Forms) → Member f (formsFor variant r k) → (r < numberLimit → Fits f) × IsProgram r k (generated f)
+  kept-forms : badExponent k r ≡ false → (f : Forms) → Member f (formsFor variant r k) → (r < numberLimit → FormsFit f) × IsProgram r k (generated f)
   kept-forms good =
-      by-variant (λ (fs : List Forms). (f : Forms) → Member f fs → (r < numberLimit → Fits f) × IsProgram r k (generated f)) (λ un f m. absurd m)
+      by-variant (λ (fs : List Forms). (f : Forms) → Member f fs → (r < numberLimit → FormsFit f) × IsProgram r k (generated f)) (λ un f m. absurd m)
       (λ row q. q .kept r k good)
 
-  pub member-fits : badExponent k r ≡ false → r < numberLimit → (f : Forms) → Member f (formsFor variant r k) → Fits f
+  pub member-fits : badExponent k r ≡ false → r < numberLimit → (f : Forms) → Member f (formsFor variant r k) → FormsFit f
   member-fits good small f m = kept-forms good f m .0 small
 
   pub member-program : badExponent k r ≡ false → (xs : List Step) → Member xs (programsFor variant r k) → IsProgram r k xs
@@ -97,12 +97,12 @@ module _ (variant r k : ℕ) where
       (by-variant (λ (fs : List Forms). length (map generated fs) ≤ 1) (λ un. omega arith)
       (λ row q. omega (arith, length-map (row .forms r k) generated, q .one r k)))
 
-  pub named-member : unnamed variant ≡ false → Member (namedSteps variant r k) (programsFor variant r k)
+  pub named-member : badVariant variant ≡ false → Member (namedSteps variant r k) (programsFor variant r k)
   unfolding namedSteps
   named-member named =
       first-member (programsFor variant r k) []
       (by-variant (λ (fs : List Forms). 0 < length (map generated fs)) (λ un. absurd (true≢false (sym un ∙ named)))
       (λ row q. omega (arith, length-map (row .forms r k) generated, q .one r k)))
 
-  pub named-program : badExponent k r ≡ false → unnamed variant ≡ false → IsProgram r k (namedSteps variant r k)
+  pub named-program : badExponent k r ≡ false → badVariant variant ≡ false → IsProgram r k (namedSteps variant r k)
   named-program good named = member-program good (namedSteps variant r k) (named-member named)

@@ -7,7 +7,7 @@ use native.Mathlib.Omega.{arith}
 use borrow.Author.Needs.{needs}
 use lib.ListN.{length, set, drop}
 use lib.Seq.{sets}
-use Rattle.refusal.specs.Outcomes.{Outcome, numberIn, after}
+use Rattle.refusal.specs.Outcomes.{Outcome, refusalNumber, after}
 use Rattle.machine.specs.Machine.{valuesOf}
 use Rattle.sequencer.specs.Lists.{Request, afterAll, numbersAll, requestsOf}
 use Rattle.sequencer.specs.Demand.{ChainEnds, RewindEnds}
@@ -46,7 +46,7 @@ loop-again c =
     let requests = start .requests .now in
     let v = valuesOf (at .loop .after) in
     let left = c .after-run .ensures ∙ ap (λ (o : Outcome (List ℕ)). after o v) (ran .run .ensures) in
-    let number = noted .note .ensures ∙ ap (λ (o : Outcome (List ℕ)). set (at .loop .numbers) (at .loop .n) (numberIn o)) (ran .run .ensures) in (
+    let number = noted .note .ensures ∙ ap (λ (o : Outcome (List ℕ)). set (at .loop .numbers) (at .loop .n) (refusalNumber o)) (ran .run .ensures) in (
       omega arith,
       omega (arith, at .loop .inv .1),
       noted .note .kept .0 ∙ at .loop .inv .2,

@@ -5,20 +5,20 @@ use mathlib.Core.Path.{_≡_}
 use lib.ListN.{getD}
 use Rattle.refusal.specs.Reasons.{reasons, ownReasons}
 use Rattle.text.specs.Text.{ascii}
-use Rattle.text.specs.Reading.{wordsOf}
+use Rattle.text.specs.Reading.{splitWords}
 use Rattle.tool.specs.Texts.{reasonFor}
 use borrow.Author.Needs.{needs}
 use Rattle.printing.proofs.put_reason.Statement.{statement}
 use Rattle.printing.proofs.put_reason.Tie as tie
 
 -- the code's tables have the texts of the definitions
-own-reason : (c : tie.After-word) → c .word .result .now ≡ getD (map ascii ownReasons) (c .before .before .before .before .before .args .number) []
-unfolding ownReasons wordsOf
-own-reason c = c .word .ensures
+own-reason : (c : tie.After-nth-word) → c .nth-word .result .now ≡ getD (map ascii ownReasons) (c .before .before .before .before .before .args .number) []
+unfolding ownReasons splitWords
+own-reason c = c .nth-word .ensures
 
-reason : (c : tie.After-word2) → c .word2 .result .now ≡ getD (map ascii reasons) (c .before .before .before .before .before .args .number) []
-unfolding reasons wordsOf
-reason c = c .word2 .ensures
+reason : (c : tie.After-nth-word2) → c .nth-word2 .result .now ≡ getD (map ascii reasons) (c .before .before .before .before .before .args .number) []
+unfolding reasons splitWords
+reason c = c .nth-word2 .ensures
 
 returns : tie.Need-returns
 unfolding reasonFor

@@ -17,18 +17,18 @@ use Rattle.tape.proofs.Laws.Layout.{LawfulProgram, program-length, program-laid
 use Rattle.named.specs.Named.{programsFor, namedProgram, namedWords}
 use Rattle.named.specs.Members.{isOneOf}
 use Rattle.named.specs.Promises.{IsProgram}
-use Rattle.named.specs.Parameters.{badModulus, badOrder, unnamed}
+use Rattle.named.specs.Parameters.{badModulus, badOrder, badVariant}
 use Rattle.named.proofs.Laws.Parameters.{good-modulus}
 use Rattle.named.proofs.Laws.Members.{member-one-of}
 use Rattle.named.proofs.Laws.Table.{member-program, named-member}
 use Rattle.program.specs.Services.{checkOutcome}
-use Rattle.program.specs.Building.{Writable}
+use Rattle.program.specs.Inner.Building.{Writable}
 use Rattle.program.proofs.Laws.Building.{named-lawful, named-short}
 use Rattle.program.proofs.Laws.Answering.{writable}
 use Rattle.program.proofs.Laws.Checking.{past-named, Accepted, AcceptedNamed}
 
 module _ (p r k variant : ℕ)
-    (modulus : badModulus p ≡ false) (order : badOrder p r ≡ false) (exponent : badExponent k r ≡ false) (is : unnamed variant ≡ false) where
+    (modulus : badModulus p ≡ false) (order : badOrder p r ≡ false) (exponent : badExponent k r ≡ false) (is : badVariant variant ≡ false) where
   w : Writable p r k variant
   w = writable p r k modulus order exponent variant is
 

@@ -14,19 +14,19 @@ use Rattle.refusal.specs.Rows.{Wrote}
 use Rattle.modular.proofs.Laws.Inverses.{good-exponent}
 use Rattle.tape.specs.declared.Header.{Header}
 use Rattle.tape.specs.Words.{stepWord}
-use Rattle.tape.specs.Layout.{mostWords, Program, headerFor, wordsOf, wordCount, layBegin, laidRow}
+use Rattle.tape.specs.Layout.{maxWords, Program, headerFor, programWords, wordCount, layBegin, laidBuffer}
 use Rattle.tape.proofs.Laws.Layout.{LawfulProgram, program-length}
 use Rattle.tape.proofs.Laws.Writing.{steps-fit, program-laid}
 use Rattle.named.specs.Generators.{Forms, generated, stepsFrom}
 use Rattle.named.specs.Named.{namedSteps, namedProgram, namedWords}
-use Rattle.named.specs.Promises.{Fits}
+use Rattle.named.specs.Promises.{FormsFit}
 use Rattle.named.proofs.Laws.Parameters.{named-some, named-most}
 use Rattle.named.proofs.Laws.Table.{member-fits, named-program}
 use Rattle.program.specs.declared.FormRows.{FormRows}
 use Rattle.program.specs.Services.{roomOutcome}
-use Rattle.program.specs.Forms.{Given, Whole}
-use Rattle.program.specs.Writing.{drawnWords}
-use Rattle.program.specs.Building.{Writable, Built}
+use Rattle.program.specs.Inner.Forms.{RowsFromTable, Whole}
+use Rattle.program.specs.Inner.Writing.{drawnWords}
+use Rattle.program.specs.Inner.Building.{Writable, Built}
 use Rattle.program.proofs.Laws.Forms.{rows-words, rows-whole, few-ones, rows-count}
 
 -- ---- the room
@@ -59,13 +59,13 @@ module _ (p r k variant : ℕ) (w : Writable p r k variant) where
         sound = q .sound;
       }
 
-  pub named-short : length (namedWords p r k variant) ≤ mostWords
+  pub named-short : length (namedWords p r k variant) ≤ maxWords
   named-short =
       omega (arith, program-length (namedProgram p r k variant), named-program variant r k (w .exponent) (w .named) .short (w .order))
 
 -- ---- writing it
 
-module _ {p r k variant : ℕ} {rows : FormRows} (w : Writable p r k variant) (g : Given variant r k rows) where
+module _ {p r k variant : ℕ} {rows : FormRows} (w : Writable p r k variant) (g : RowsFromTable variant r k rows) where
   abbrev q : Program
   q = namedProgram p r k variant
 
@@ -73,7 +73,7 @@ module _ {p r k variant : ℕ} {rows : FormRows} (w : Writable p r k variant) (g
   unfolding namedSteps
   steps-are = ap (λ (fs : List Forms). getD (map generated fs) 0 []) (g .forms-are)
 
-  fits : Fits (g .forms)
+  fits : FormsFit (g .forms)
   fits = member-fits variant r k (w .exponent) (w .order) (g .forms) (rw (g .forms-are) (inl refl))
 
   pub words-are : drawnWords rows ≡ map stepWord (namedSteps variant r k)
@@ -91,30 +91,30 @@ module _ {p r k variant : ℕ} {rows : FormRows} (w : Writable p r k variant) (g
       ∙ rows-count (g .forms) fits ∙ ap length (sym steps-are)
 
   module _ {h : Header} (header-is : h ≡ headerFor q) where
-    total-is : wordCount h ≡ length (wordsOf q)
+    total-is : wordCount h ≡ length (programWords q)
     total-is = ap wordCount header-is ∙ sym (program-length q)
 
-    pub built-short : {row : List ℕ} → length row < wordCount h → Built (wordsOf q) row (Refused Room) row
+    pub built-short : {row : List ℕ} → length row < wordCount h → Built (programWords q) row (Refused Room) row
     built-short {row} less =
-        let e = short (wordsOf q) (length row) (omega (arith, total-is)) in
-        record { outcome-is = sym e; row-is = sym (row-kept (wordsOf q) row e) }
+        let e = short (programWords q) (length row) (omega (arith, total-is)) in
+        record { outcome-is = sym e; row-is = sym (row-kept (programWords q) row e) }
 
     module _ (row : List ℕ) (room : wordCount h ≤ length row) where
-      long : length (wordsOf q) ≤ length row
+      long : length (programWords q) ≤ length row
       long = omega (arith, total-is)
 
-      pub steps-room : layBegin h (length row) + length (drawnWords rows) ≤ length (laidRow h row)
+      pub steps-room : layBegin h (length row) + length (drawnWords rows) ≤ length (laidBuffer h row)
       steps-room =
           rw (header-is, words-are, length-map (namedSteps variant r k) stepWord) (steps-fit q (named-lawful p r k variant w) row long)
 
-      pub built-written : {laid after : List ℕ} {at next n : ℕ} → at ≡ layBegin h (length row) → laid ≡ laidRow h row
-          → Wrote laid at (drawnWords rows) next after → n ≡ wordCount h → Built (wordsOf q) row (Answered n) after
+      pub built-written : {laid after : List ℕ} {at next n : ℕ} → at ≡ layBegin h (length row) → laid ≡ laidBuffer h row
+          → Wrote laid at (drawnWords rows) next after → n ≡ wordCount h → Built (programWords q) row (Answered n) after
       built-written begin is v e =
-          let done = enough (wordsOf q) (length row) long in
+          let done = enough (programWords q) (length row) long in
           record {
             outcome-is = ap answered (e ∙ total-is) ∙ sym done;
             row-is =
                 v .after-is
                 ∙ rw (begin, is, header-is, words-are) (program-laid q (named-lawful p r k variant w) row long)
-                ∙ sym (row-written (wordsOf q) row done);
+                ∙ sym (row-written (programWords q) row done);
           }

@@ -18,18 +18,18 @@ use Rattle.refusal.proofs.Laws.Tests.{by-test, test-false}
 use Rattle.modular.specs.Inverses.{badExponent}
 use Rattle.tape.specs.declared.Header.{Header}
 use Rattle.tape.specs.declared.Step.{Step}
-use Rattle.tape.specs.Layout.{mostWords, stepCount, headerOf, stepsOf, isLength, laidOut, headerOutcome, readOutcome, wordsOf}
+use Rattle.tape.specs.Layout.{maxWords, stepCount, headerOf, stepsOf, isLength, laidOut, headerOutcome, readOutcome, programWords}
 use Rattle.tape.proofs.Laws.Layout.{LawfulProgram, words-program, program-laid-out, program-steps}
 use Rattle.tape.proofs.Laws.Reading.{ReadAs, read-word, reading-refused, reading-passed}
 use Rattle.named.specs.Named.{lastVariant, programsFor, namedProgram, namedWords}
 use Rattle.named.specs.Members.{Member, isOneOf}
-use Rattle.named.specs.Parameters.{badModulus, badOrder, unnamed}
+use Rattle.named.specs.Parameters.{badModulus, badOrder, badVariant}
 use Rattle.named.proofs.Laws.Parameters.{named, named-some, named-most}
 use Rattle.named.proofs.Laws.Members.{one-of-member, member-one-of}
 use Rattle.named.proofs.Laws.Table.{only-program, named-member}
-use Rattle.program.specs.Services.{buildOutcome, buildRow, isNamed, checkRules, acceptOutcome}
+use Rattle.program.specs.Services.{buildOutcome, buildBuffer, isNamed, checkRules, acceptOutcome}
 use Rattle.program.specs.Same.{sameWords}
-use Rattle.program.specs.Building.{Writable, refusedPast}
+use Rattle.program.specs.Inner.Building.{Writable, refusedPast}
 use Rattle.program.proofs.Laws.Building.{named-lawful, named-short}
 use Rattle.program.proofs.Laws.Answering.{writable}
 use Rattle.program.proofs.Laws.Same.{same-itself, same-equal}
@@ -70,13 +70,13 @@ module _ (p r k variant room n : ℕ) (built : buildOutcome p r k variant room �
       }
 
   -- and the longest tape
-  pub build-count : (length (namedWords p r k variant) ≡ n) × (n ≤ room) × (n ≤ mostWords)
+  pub build-count : (length (namedWords p r k variant) ≡ n) × (n ≤ room) × (n ≤ maxWords)
   build-count = let b = build-passed in (b .count, b .fits, omega (arith, b .count, named-short p r k variant (b .writable)))
 
 -- and stand at its front
 pub build-words : (p r k variant n : ℕ) (row : List ℕ) → buildOutcome p r k variant (length row) ≡ answered n
-    → take n (buildRow p r k variant row) ≡ namedWords p r k variant
-unfolding buildRow
+    → take n (buildBuffer p r k variant row) ≡ namedWords p r k variant
+unfolding buildBuffer
 build-words p r k variant n row built =
     let words : List ℕ = namedWords p r k variant in
     ap (take n) (row-written words row built) ∙ take-at words _ n (build-count p r k variant (length row) n built .0)
@@ -101,7 +101,7 @@ abbrev pub builtFor : Header → List ℕ
 builtFor h = namedWords (h .modulus) (h .order) (h .exponent) (h .variant)
 
 abbrev pub buildFor : Header → Outcome ℕ
-buildFor h = buildOutcome (h .modulus) (h .order) (h .exponent) (h .variant) mostWords
+buildFor h = buildOutcome (h .modulus) (h .order) (h .exponent) (h .variant) maxWords
 
 module _ {A : Type 0} (x : A) (tape : List ℕ) where
   pub check-unmeasured : (n : ℕ) → headerOutcome tape ≡ refused n → outcome (checkRules tape) x ≡ refused n
@@ -119,7 +119,7 @@ module _ {A : Type 0} (x : A) (tape : List ℕ) (h : Header) (read : ReadAs tape
       reading-passed tape _ x h read
       ∙ ap (λ (g : Header). outcome ((Variant given-if ltb lastVariant (g .variant)) ∷ rulesPast (isNamed g) tape g) x) (sym (read .header))
 
-  pub check-variant : unnamed (h .variant) ≡ true → ¬ (h .variant ≡ 0) → outcome (checkRules tape) x ≡ refused (numberOf Variant)
+  pub check-variant : badVariant (h .variant) ≡ true → ¬ (h .variant ≡ 0) → outcome (checkRules tape) x ≡ refused (numberOf Variant)
   check-variant bad some =
       past-layout
       ∙ gives _ _ _
@@ -140,7 +140,7 @@ module _ {A : Type 0} (x : A) (tape : List ℕ) (h : Header) (read : ReadAs tape
     pub check-free : badModulus (h .modulus) ≡ false → outcome (checkRules tape) x ≡ answered x
     check-free good = past-free ∙ passes _ _ _ good ∙ passes _ _ _ refl ∙ passes _ _ _ refl ∙ passes _ _ _ refl ∙ answers x
 
-  module _ (is : unnamed (h .variant) ≡ false) where
+  module _ (is : badVariant (h .variant) ≡ false) where
     pub past-named : outcome (checkRules tape) x ≡ outcome (rulesPast true tape h) x
     past-named = past-variant true (ap not (ne-eqb (h .variant) 0 (named-some (h .variant) is))) (named-most (h .variant) is)
 
@@ -151,7 +151,7 @@ module _ {A : Type 0} (x : A) (tape : List ℕ) (h : Header) (read : ReadAs tape
         past-named
         ∙ alike
         ((Modulus given-if badModulus (h .modulus)) ∷ (Order given-if badOrder (h .modulus) (h .order)) ∷ (Exponent given-if badExponent (h .exponent) (h .order)) ∷ [])
-        ((Variant given-if unnamed (h .variant)) ∷ (Room given-if ltb mostWords (length (builtFor h))) ∷ [])
+        ((Variant given-if badVariant (h .variant)) ∷ (Room given-if ltb maxWords (length (builtFor h))) ∷ [])
         ((Mismatch given-if not (allowed tape h)) ∷ [])
         (length (builtFor h)) x
         (λ e.
@@ -159,13 +159,13 @@ module _ {A : Type 0} (x : A) (tape : List ℕ) (h : Header) (read : ReadAs tape
         let o = passed _ _ _ _ _ (m .1) in
         let x = passed _ _ _ _ _ (o .1) in
         let short = named-short _ _ _ _ (writable _ _ _ (m .0) (o .0) (x .0) (h .variant) is) in
-        passes _ _ _ is ∙ passes _ _ _ (le-ltb mostWords (length (builtFor h)) short) ∙ answers _)
+        passes _ _ _ is ∙ passes _ _ _ (le-ltb maxWords (length (builtFor h)) short) ∙ answers _)
 
 -- ---- a tape that build's words are compared with
 
 module _ (tape : List ℕ) (h : Header) (n : ℕ) (built : buildFor h ≡ answered n) where
   lawful : LawfulProgram (namedProgram (h .modulus) (h .order) (h .exponent) (h .variant))
-  lawful = named-lawful _ _ _ _ (build-passed _ _ _ _ mostWords n built .writable)
+  lawful = named-lawful _ _ _ _ (build-passed _ _ _ _ maxWords n built .writable)
 
   -- it is laid out where its words are those built for its header, and its steps are allowed
   same-laid : tape ≡ builtFor h → laidOut tape ≡ true
@@ -174,20 +174,20 @@ module _ (tape : List ℕ) (h : Header) (n : ℕ) (built : buildFor h ≡ answer
   same-allowed : tape ≡ builtFor h → allowed tape h ≡ true
   same-allowed e =
       ap (λ (xs : List Step). isOneOf xs (programsFor (h .variant) (h .order) (h .exponent))) (ap stepsOf e ∙ program-steps _ lawful)
-      ∙ member-one-of _ _ (named-member (h .variant) (h .order) (h .exponent) (build-passed _ _ _ _ mostWords n built .writable .named))
+      ∙ member-one-of _ _ (named-member (h .variant) (h .order) (h .exponent) (build-passed _ _ _ _ maxWords n built .writable .named))
 
 -- and one that is laid out and has steps that are allowed has those words
 allowed-same : (tape : List ℕ) (h : Header) → h ≡ headerOf tape → laidOut tape ≡ true → allowed tape h ≡ true → tape ≡ builtFor h
 allowed-same tape h is laid e =
     sym (words-program tape laid)
-    ∙ ap₂ (λ (g : Header) (xs : List Step). wordsOf (record { variant = g .variant; modulus = g .modulus; order = g .order; exponent = g .exponent; steps = xs }))
+    ∙ ap₂ (λ (g : Header) (xs : List Step). programWords (record { variant = g .variant; modulus = g .modulus; order = g .order; exponent = g .exponent; steps = xs }))
     (sym is) (only-program (h .variant) (h .order) (h .exponent) (stepsOf tape) (one-of-member _ _ e))
 
 pub measured : (tape : List ℕ) (h : Header) → headerOutcome tape ≡ answered h → (isLength tape ≡ true) × (h ≡ headerOf tape)
 unfolding headerOutcome
 measured tape h e = let a = passed _ _ _ _ _ e in (not-false _ (a .0), answer-is [] _ (a .1))
 
-module _ (tape : List ℕ) (h : Header) (m : headerOutcome tape ≡ answered h) (is : unnamed (h .variant) ≡ false) where
+module _ (tape : List ℕ) (h : Header) (m : headerOutcome tape ≡ answered h) (is : badVariant (h .variant) ≡ false) where
   read-as : laidOut tape ≡ true → ReadAs tape h
   read-as laid = record { long = measured tape h m .0; laid = laid; header = measured tape h m .1 }
 
@@ -240,7 +240,7 @@ accepted x tape e =
 
 -- one of a named program
 pub record AcceptedNamed (tape : List ℕ) : Type 0 where
-  pub named : unnamed (headerOf tape .variant) ≡ false
+  pub named : badVariant (headerOf tape .variant) ≡ false
   pub variant : headerOf tape .variant ≤ lastVariant
   pub modulus : badModulus (headerOf tape .modulus) ≡ false
   pub order : badOrder (headerOf tape .modulus) (headerOf tape .order) ≡ false

@@ -27,12 +27,12 @@ use Rattle.tape.specs.Words.{stepWord}
 use Rattle.named.specs.declared.Figure.{Figure}
 use Rattle.named.specs.declared.Figure.the-variants.{Two, Four}
 use Rattle.named.specs.Generators.{Forms, lone, generated, stepsFrom}
-use Rattle.named.specs.Promises.{Fits}
+use Rattle.named.specs.Promises.{FormsFit}
 use Rattle.named.specs.Named.{basicForms, dualForm, dualForms, hybridForms, formsIn}
 use Rattle.named.proofs.Laws.Lengths.{generated-count}
 use Rattle.program.specs.declared.FormRows.{FormRows}
-use Rattle.program.specs.Forms.{Invertible, BitsOf, bitsOf, rowsOf, Whole, Given}
-use Rattle.program.specs.Writing.{drawnWords}
+use Rattle.program.specs.Inner.Forms.{Invertible, BitsOf, bitsOf, rowsOf, Whole, RowsFromTable}
+use Rattle.program.specs.Inner.Writing.{drawnWords}
 use Rattle.program.proofs.Laws.Writing.{drawn-words}
 
 -- ---- the row of a form
@@ -99,7 +99,7 @@ own-bits bs h = take-bits (length bs) 92 bs h (omega arith) ∙ ap (map bit) (pa
 bits-length : (bs : List Bool) → length bs ≤ 92 → length (bitsOf bs) ≡ 92
 bits-length bs h = length-map (pad 92 bs) bit ∙ pad-length 92 bs h
 
-module _ (f : Forms) (fits : Fits f) where
+module _ (f : Forms) (fits : FormsFit f) where
   pub rows-words : drawnWords (rowsOf f) ≡ map stepWord (generated f)
   rows-words =
       rw (own-bits (f .first) (fits .first), take-bits (length (f .first)) 92 (f .beside) (fits .first) (fits .beside))
@@ -172,7 +172,7 @@ module _ {r k K : ℕ} (b : Invertible r k K) where
 -- ---- from the rows of a variant's forms to those that the table gives
 
 module _ (variant r k : ℕ) {rows : FormRows} where
-  pub given-basic : {K : ℕ} → K ≡ inverse r k → variant ≡ 1 → rows ≡ rowsOf (lone Two (zeckendorf k) (zeckendorf K)) → Given variant r k rows
+  pub given-basic : {K : ℕ} → K ≡ inverse r k → variant ≡ 1 → rows ≡ rowsOf (lone Two (zeckendorf k) (zeckendorf K)) → RowsFromTable variant r k rows
   unfolding formsIn basicForms
   given-basic inverse-is is e = record {
     forms = basicForms r k;
@@ -180,11 +180,11 @@ module _ (variant r k : ℕ) {rows : FormRows} where
     rows-are = e ∙ ap (λ (n : ℕ). rowsOf (lone Two (zeckendorf k) (zeckendorf n))) inverse-is;
   }
 
-  pub given-dual : variant ≡ 2 → rows ≡ rowsOf (dualForms r k) → Given variant r k rows
+  pub given-dual : variant ≡ 2 → rows ≡ rowsOf (dualForms r k) → RowsFromTable variant r k rows
   unfolding formsIn
   given-dual is e = record { forms = dualForms r k; forms-are = rw is refl; rows-are = e }
 
-  pub given-hybrid : variant ≡ 3 → rows ≡ rowsOf (hybridForms r k) → Given variant r k rows
+  pub given-hybrid : variant ≡ 3 → rows ≡ rowsOf (hybridForms r k) → RowsFromTable variant r k rows
   unfolding formsIn
   given-hybrid is e = record { forms = hybridForms r k; forms-are = rw is refl; rows-are = e }
 
@@ -196,7 +196,7 @@ ones-most [] = omega arith
 ones-most (true ∷ bs) = omega (arith, ones-most bs)
 ones-most (false ∷ bs) = omega (arith, ones-most bs)
 
-pub few-ones : (f : Forms) → Fits f → rowsOf f .count ≤ 368
+pub few-ones : (f : Forms) → FormsFit f → rowsOf f .count ≤ 368
 few-ones f fits =
     omega (
       arith,
@@ -210,5 +210,5 @@ few-ones f fits =
       fits .besideLast,
     )
 
-pub rows-count : (f : Forms) → Fits f → stepsFrom (f .figure) (length (f .first)) (length (f .last)) (rowsOf f .count) ≡ length (generated f)
+pub rows-count : (f : Forms) → FormsFit f → stepsFrom (f .figure) (length (f .first)) (length (f .last)) (rowsOf f .count) ≡ length (generated f)
 rows-count f fits = sym (generated-count f fits)

@@ -15,14 +15,14 @@ use Rattle.fibonacci.specs.Services.{bit}
 use Rattle.tape.specs.declared.Step.{Step}
 use Rattle.tape.specs.declared.Step.the-variants.{Mul, Div, Swp}
 use Rattle.tape.specs.Words.{stepWord}
-use Rattle.machine.specs.Machine.{opposite, back}
-use Rattle.machine.proofs.Laws.Steps.{back-append}
+use Rattle.machine.specs.Machine.{inverseStep, inverted}
+use Rattle.machine.proofs.Laws.Steps.{inverted-append}
 use Rattle.named.specs.declared.Figure.{Figure}
 use Rattle.named.specs.declared.Figure.the-variants.{Two, Four, Six}
 use Rattle.named.specs.Generators.{select, ascend, descend, basic, dual, hybrid, drawn}
 use Rattle.named.specs.Promises.{Alone}
 use Rattle.program.specs.declared.FormRows.{FormRows}
-use Rattle.program.specs.Writing.{isSet, formIn, chosen, ascendWords, ascendBackWords, descendWords, upWords, backWords, downWords, frontWords, drawnWords}
+use Rattle.program.specs.Inner.Writing.{isSet, formIn, chosen, ascendWords, ascendBackWords, descendWords, upWords, backWords, downWords, frontWords, drawnWords}
 
 -- ---- one place
 
@@ -38,10 +38,10 @@ up-words s t =
     ∙ ap (λ (l : List ℕ). chosen s (stepWord (Mul 2 1)) ++ l) (select-words (Mul 3 1) (isSet t) [] ∙ append-nil _))
 
 pub back-words : (s t : ℕ) → backWords s t ≡ chosen t (stepWord (Div 3 1)) ++ (chosen s (stepWord (Div 2 1)) ++ stepWord (Swp 0 1) ∷ stepWord (Div 0 1) ∷ [])
-unfolding ascend back opposite
+unfolding ascend inverted inverseStep
 back-words s t = go (isSet s) (isSet t)
   where
-    go : (a b : Bool) → map stepWord (back (Mul 0 1 ∷ Swp 0 1 ∷ select a (Mul 2 1) (select b (Mul 3 1) [])))
+    go : (a b : Bool) → map stepWord (inverted (Mul 0 1 ∷ Swp 0 1 ∷ select a (Mul 2 1) (select b (Mul 3 1) [])))
         ≡ cond b (stepWord (Div 3 1) ∷ []) [] ++ (cond a (stepWord (Div 2 1) ∷ []) [] ++ stepWord (Swp 0 1) ∷ stepWord (Div 0 1) ∷ [])
     go true true = refl
     go true false = refl
@@ -89,10 +89,10 @@ ascend-words fs gs ss ts e =
 pub ascend-back-words : (fs gs ss ts : List ℕ) → length fs ≡ length ss
     → ascendBackWords (fs ++ gs) (ss ++ ts) ≡ ascendBackWords gs ts ++ ascendBackWords fs ss
 ascend-back-words fs gs ss ts e =
-    ap₂ (λ (x y : List Bool). map stepWord (back (ascend x y))) (map-append isSet fs gs) (map-append isSet ss ts)
-    ∙ ap (λ (x : List Step). map stepWord (back x)) (ascend-append (formIn fs) (formIn gs) (formIn ss) (formIn ts) (same-length fs ss e))
-    ∙ ap (map stepWord) (back-append (ascend (formIn fs) (formIn ss)) (ascend (formIn gs) (formIn ts)))
-    ∙ map-append stepWord (back (ascend (formIn gs) (formIn ts))) (back (ascend (formIn fs) (formIn ss)))
+    ap₂ (λ (x y : List Bool). map stepWord (inverted (ascend x y))) (map-append isSet fs gs) (map-append isSet ss ts)
+    ∙ ap (λ (x : List Step). map stepWord (inverted x)) (ascend-append (formIn fs) (formIn gs) (formIn ss) (formIn ts) (same-length fs ss e))
+    ∙ ap (map stepWord) (inverted-append (ascend (formIn fs) (formIn ss)) (ascend (formIn gs) (formIn ts)))
+    ∙ map-append stepWord (inverted (ascend (formIn gs) (formIn ts))) (inverted (ascend (formIn fs) (formIn ss)))
 
 pub descend-words : (fs gs : List ℕ) → descendWords (fs ++ gs) ≡ descendWords gs ++ descendWords fs
 descend-words fs gs =
@@ -187,8 +187,8 @@ drawn-words Four ss ts Ss Ts e E = rw (up-form (length ss) ss ts, up-form (lengt
 drawn-words Six ss ts Ss Ts e E =
     rw (E, form-bits ss, up-form (length Ss) Ss [])
     (ap (λ (l : List ℕ). stepWord (Swp 0 1) ∷ l)
-    (append-assoc (map stepWord (descend ss)) (stepWord (Swp 0 1) ∷ stepWord (Swp 1 2) ∷ []) (map stepWord (back (ascend Ss [])))
-    ∙ sym (map-append stepWord (descend ss) (Swp 0 1 ∷ Swp 1 2 ∷ back (ascend Ss [])))))
+    (append-assoc (map stepWord (descend ss)) (stepWord (Swp 0 1) ∷ stepWord (Swp 1 2) ∷ []) (map stepWord (inverted (ascend Ss [])))
+    ∙ sym (map-append stepWord (descend ss) (Swp 0 1 ∷ Swp 1 2 ∷ inverted (ascend Ss [])))))
 
 -- ---- how long they are
 

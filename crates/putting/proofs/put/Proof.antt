@@ -1,4 +1,4 @@
--- `put` meets its contract: with i bytes put, the text's first i are put; a full row takes no more of them.
+-- `put` meets its contract: with i bytes put, the text's first i are put; a full buffer takes no more of them.
 use Prim.Native.Nat.{_-_, _≤_}
 use native.Mathlib.Omega.{arith}
 use borrow.Author.Needs.{needs}
@@ -10,10 +10,10 @@ use Rattle.putting.proofs.put.Statement.{statement}
 use Rattle.putting.proofs.put.Tie as tie
 
 abbrev Inv-loop : tie.InvT-loop
-Inv-loop row₀ at text next₀ i₀ row next i = (i ≤ length text) × Put row₀ at (take i text) next row
+Inv-loop buffer₀ at text next₀ i₀ buffer next i = (i ≤ length text) × Put buffer₀ at (take i text) next buffer
 
 abbrev μ-loop : tie.MeasureT-loop
-μ-loop row₀ at text next₀ i₀ row next i = length text - i
+μ-loop buffer₀ at text next₀ i₀ buffer next i = length text - i
 
 loop-holds : tie.Need-loop-holds Inv-loop μ-loop
 loop-holds c = (omega arith, put-none _ _)

@@ -1,4 +1,4 @@
--- `put_byte` meets its contract: a full row takes nothing, and any other one byte.
+-- `put_byte` meets its contract: a full buffer takes nothing, and any other one byte.
 use borrow.Author.Needs.{needs}
 use Rattle.text.proofs.Laws.Puts.{put-full}
 use Rattle.putting.proofs.put_byte.Statement.{statement}

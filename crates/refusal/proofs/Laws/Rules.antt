@@ -8,7 +8,7 @@ use native.Mathlib.Omega.{arith}
 use Rattle.refusal.specs.declared.Refusal.{Refusal}
 use Rattle.refusal.specs.declared.Refusal.the-variants.{Modulus, Order, Exponent, Variant, Room, Length, Word, Mismatch, Register, Position, Base, Range, Index}
 use Rattle.refusal.specs.Refusals.{numberOf}
-use Rattle.refusal.specs.Outcomes.{Rule, refused, answered, outcome, applies, numberIn, andThen, after, _given-if_}
+use Rattle.refusal.specs.Outcomes.{Rule, refused, answered, outcome, applies, refusalNumber, andThen, after, _given-if_}
 
 -- a call that is answered has passed its first rule
 pub passed : {A : Type 0} (t : Bool) (e : Refusal) (rules : List Rule) (x y : A) → outcome ((e given-if t) ∷ rules) x ≡ answered y
@@ -22,7 +22,6 @@ pub refused-by : {A : Type 0} (t : Bool) (e : Refusal) (x : A) {n : ℕ} → out
 unfolding outcome
 refused-by true e x a = (refl, cc)
 refused-by false e x a = let z : _≡_ {A = ℕ} 0 1 = cc in absurd (omega arith)
-
 
 module _ {A B : Type 0} (x : A) (y : B) where
   -- the same rules with another answer
@@ -99,13 +98,13 @@ refused-range ((r given-if false) ∷ rules) x e = refused-range rules x e
 
 -- 0 says that a call is answered, and a place that another answer by the same rules goes to holds that answer; else what it held
 module _ {A B : Type 0} (x : A) (y held : B) where
-  pub zero-answered : (rules : List Rule) → numberIn (outcome rules x) ≡ 0 → (outcome rules x ≡ answered x) × (after (outcome rules y) held ≡ y)
+  pub zero-answered : (rules : List Rule) → refusalNumber (outcome rules x) ≡ 0 → (outcome rules x ≡ answered x) × (after (outcome rules y) held ≡ y)
   unfolding outcome
   zero-answered [] e = (refl, refl)
   zero-answered ((r given-if true) ∷ rules) e = absurd (omega (arith, number-range r))
   zero-answered ((r given-if false) ∷ rules) e = zero-answered rules e
 
-  pub other-refused : (rules : List Rule) → ¬ (numberIn (outcome rules x) ≡ 0) → after (outcome rules y) held ≡ held
+  pub other-refused : (rules : List Rule) → ¬ (refusalNumber (outcome rules x) ≡ 0) → after (outcome rules y) held ≡ held
   unfolding outcome
   other-refused [] some = absurd (some refl)
   other-refused ((r given-if true) ∷ rules) some = refl

@@ -9,7 +9,7 @@ use Rattle.modular.specs.Residues.{times}
 use Rattle.tape.specs.declared.Step.{Step}
 use Rattle.tape.specs.declared.Step.the-variants.{Mul, Div, Swp}
 use Rattle.machine.specs.Machine.{reg, apply}
-use Rattle.machine.specs.Carried.{applyWith}
+use Rattle.machine.specs.Inner.Carried.{applyWith}
 use Rattle.register_steps.proofs.apply_with.Statement.{statement}
 use Rattle.register_steps.proofs.apply_with.Tie as tie
 

@@ -5,22 +5,22 @@ use Prim.Native.Nat.{ℕ}
 use native.Mathlib.Omega.{arith}
 use borrow.Author.Needs.{needs}
 use lib.ListN.{length}
-use Rattle.refusal.specs.Outcomes.{answered, gives, passes, answers}
+use Rattle.refusal.specs.Outcomes.{answered}
 use Rattle.tape.specs.Layout.{stepsIn}
 use Rattle.machine.specs.Machine.{valuesOf, run}
 use Rattle.refusal.specs.Outcomes.{gives, passes, answers}
-use Rattle.sequencer.specs.Services.{travelRules}
+use Rattle.sequencer.specs.Services.{positionRules}
 use Rattle.sequencer.proofs.Laws.Cases.{modulus-prime, words-are, past-from, past-goal, both-inside, run-rules}
-use Rattle.sequencer.proofs.Laws.Answers.{good-registers}
+use Rattle.sequencer.proofs.Laws.Answers.{residues-registers}
 use Rattle.running.proofs.run_accepted.Statement.{statement}
 use Rattle.running.proofs.run_accepted.Tie as tie
 
 returns : tie.Need-returns
-unfolding travelRules
+unfolding positionRules
 returns c = sym (run-rules _ _ (c .before .before .before .pre) _ _ _ ∙ gives _ _ _ (sym (c .before .is-some-bad .ensures) ∙ c .if1 .taken))
 
 returns-2 : tie.Need-returns-2
-unfolding travelRules
+unfolding positionRules
 returns-2 c =
     let first = c .before .before in
     sym
@@ -29,7 +29,7 @@ returns-2 c =
     ∙ gives _ _ _ (past-from _ _ _ (c .if2 .taken)))
 
 returns-3 : tie.Need-returns-3
-unfolding travelRules
+unfolding positionRules
 returns-3 c =
     let first = c .before .before .before .before in
     sym
@@ -37,15 +37,20 @@ returns-3 c =
     ∙ passes _ _ _ (sym (first .before .is-some-bad .ensures) ∙ first .if1 .left)
     ∙ gives _ _ _ (past-goal _ _ _ (c .if3 .taken)))
 
-travel-requires : tie.Need-travel-requires
-travel-requires c κs =
+run-steps-requires : tie.Need-run-steps-requires
+run-steps-requires c κs =
     let tested = c .before .before .before .before .before in
     let accept = tested .before .before .before .pre in
     let long = ap length (c .steps .ensures) ∙ words-are _ _ accept in
-    (omega arith, omega arith, modulus-prime _ _ accept, good-registers _ _ _ _ _ (sym (tested .before .is-some-bad .ensures) ∙ tested .if1 .left))
+    record {
+      from-inside = omega arith;
+      goal-inside = omega arith;
+      prime = modulus-prime _ _ accept;
+      residues = residues-registers _ _ _ _ _ (sym (tested .before .is-some-bad .ensures) ∙ tested .if1 .left);
+    }
 
 returns-4 : tie.Need-returns-4
-unfolding travelRules
+unfolding positionRules
 returns-4 c =
     let words = c .before in
     let goal = words .before in
@@ -58,7 +63,7 @@ returns-4 c =
     ∙ passes _ _ _ (sym (first .before .is-some-bad .ensures) ∙ first .if1 .left)
     ∙ passes _ _ _ (both-inside _ _ _ (from .if2 .left) (goal .if3 .left))
     ∙ answers _
-    ∙ ap answered (sym (c .travel .ensures ∙ ap (λ (l : List ℕ). run (given .header .modulus) (stepsIn l) (given .from) (given .to) (valuesOf (given .registers))) (words .steps .ensures))))
+    ∙ ap answered (sym (c .run-steps .ensures ∙ ap (λ (l : List ℕ). run (given .header .modulus) (stepsIn l) (given .from) (given .to) (valuesOf (given .registers))) (words .steps .ensures))))
 
 pub run-accepted-spec : {M : Type 1} → statement M
 run-accepted-spec =
@@ -69,5 +74,5 @@ run-accepted-spec =
     returns-2
     returns-3
     (λ c κs. search needs)
-    travel-requires
+    run-steps-requires
     returns-4)

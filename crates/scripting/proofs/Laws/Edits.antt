@@ -11,7 +11,7 @@ use Rattle.refusal.specs.Rows.{Wrote}
 use Rattle.refusal.proofs.Laws.Rows.{wrote-length}
 use Rattle.text.specs.Text.{numberLine, newline, line}
 use Rattle.text.specs.Rows.{Put}
-use Rattle.tool.specs.Verbs.{mostRoom}
+use Rattle.tool.specs.Verbs.{maxRoom}
 use Rattle.tool.specs.declared.ScriptVerb.the-variants.{Tape, Append, Change, Drop, Behind, Room}
 use Rattle.scripting.specs.declared.Marks.{Marks}
 use Rattle.scripting.specs.declared.Printed.{Printed}
@@ -114,7 +114,7 @@ module _ {m : Marks} {row : List ℕ} (inside : Inside m row) {before after : Li
       }
   did-unroom (n ∷ v) none marks put = absurd (omega arith)
 
-  pub did-room : (v : List ℕ) → 0 < length v → getD v 0 0 ≤ mostRoom
+  pub did-room : (v : List ℕ) → 0 < length v → getD v 0 0 ≤ maxRoom
       → r .marks ≡ record { begin = m .begin; end = m .end; room = getD v 0 0; roomed = true }
       → Put before 0 (numberLine (getD v 0 0)) (r .length) after → Did (inScript (length row) Room v (stateIn m row)) before r row after
   unfolding inScript

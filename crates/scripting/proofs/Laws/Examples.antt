@@ -5,11 +5,11 @@ use mathlib.Core.List.{List, [], _∷_}
 use Prim.Native.Nat.{ℕ}
 use Prim.Native.String.{String}
 use Rattle.text.specs.Text.{ascii, decimalWithin, decimal, line}
-use Rattle.text.specs.Reading.{digitOf, allDigits, valueFrom, numberFrom, inBase, isHexadecimal, numberIn, wordsOf}
+use Rattle.text.specs.Reading.{digitOf, allDigits, valueFrom, numberFrom, inBase, isHexadecimal, parseNumber, splitWords}
 use Rattle.program.specs.Same.{sameWords}
 use Rattle.tool.specs.Verbs.{entries, names, rows, indexIn, rowNamed, parameterIn}
 use Rattle.tool.specs.Calls.{numbersFrom, askedBy}
-use Rattle.scripting.specs.Script.{State, Done, mostTapes, atHand, withTape, inScript, commanded, commandDone, equalsIn, lineDone}
+use Rattle.scripting.specs.Script.{State, Done, maxTapes, atHand, withTape, inScript, commanded, commandDone, equalsIn, lineDone}
 
 abbrev pub at-hand : State
 at-hand = record { tapes = 3 ∷ 7 ∷ 8 ∷ []; begin = 1; room = [] }
@@ -22,7 +22,7 @@ pub record Example : Type 0 where
 abbrev leaves : String → List ℕ → ℕ → List ℕ → String → Example
 leaves line tapes begin room text =
     record {
-      given = lineDone mostTapes (ascii line) at-hand;
+      given = lineDone maxTapes (ascii line) at-hand;
       said = record { state = record { tapes = tapes; begin = begin; room = room }; text = ascii text };
     }
 
@@ -42,5 +42,5 @@ AllHold [] = Unit {0}
 AllHold (row ∷ table) = (row .given ≡ row .said) × AllHold table
 
 pub examples-hold : AllHold examples
-unfolding lineDone equalsIn commandDone commanded inScript withTape atHand wordsOf askedBy numbersFrom parameterIn rowNamed indexIn names rows entries digitOf allDigits valueFrom numberFrom inBase isHexadecimal numberIn sameWords decimalWithin decimal line
+unfolding lineDone equalsIn commandDone commanded inScript withTape atHand splitWords askedBy numbersFrom parameterIn rowNamed indexIn names rows entries digitOf allDigits valueFrom numberFrom inBase isHexadecimal parseNumber sameWords decimalWithin decimal line
 examples-hold = (refl, (refl, (refl, (refl, (refl, (refl, tt))))))

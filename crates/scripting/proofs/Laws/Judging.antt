@@ -8,25 +8,25 @@ use lib.ListN.{length, take, drop, length-append, length-take}
 use lib.Seq.{take-take, take-at}
 use borrow.Author.Tests.{lt-ltb, le-ltb}
 use Rattle.text.specs.Text.{newline}
-use Rattle.text.specs.Reading.{wordsOf}
+use Rattle.text.specs.Reading.{splitWords}
 use Rattle.text.specs.Rows.{Put}
 use Rattle.text.proofs.Laws.Puts.{puts-join, put-taken}
 use Rattle.tool.specs.Calls.{askedBy}
 use Rattle.scripting.specs.declared.Marks.{Marks}
 use Rattle.scripting.specs.declared.Printed.{Printed}
-use Rattle.scripting.specs.Script.{State, Done, prints, commanded, argumentsOf, commandDone, equalsIn, isCopied, verdict, judged, mostLine, longLine, mostPrinted, lineDone}
+use Rattle.scripting.specs.Script.{State, Done, prints, commanded, argumentsOf, commandDone, equalsIn, isCopied, verdict, judged, maxLine, longLine, maxPrinted, lineDone}
 use Rattle.scripting.specs.States.{stateIn, Inside, capacityOf, insideOf, Did, DidLine}
 use Rattle.scripting.proofs.Laws.Verdicts.{verdict-short}
 
 -- a command line is its arguments
 pub did-command : {before row after : List ℕ} {r : Printed} (capacity : ℕ) (line : List ℕ) (s : State) {arguments : List ℕ} → arguments ≡ argumentsOf line
-    → Did (commanded capacity (askedBy true (wordsOf arguments)) s) before r row after → Did (commandDone capacity line s) before r row after
+    → Did (commanded capacity (askedBy true (splitWords arguments)) s) before r row after → Did (commandDone capacity line s) before r row after
 unfolding commandDone
 did-command capacity line s e did = rw e at did
 
 -- what a command printed, and the verdict on it
 pub did-judged : {space space′ before mid after row : List ℕ} {made r : Printed} {a : ℕ} (done : Done) (said : List ℕ) → Did done space made row space′
-    → length space ≡ mostPrinted → length said ≤ mostLine → r .marks ≡ made .marks → Put before 0 (take (made .length) space′) a mid
+    → length space ≡ maxPrinted → length said ≤ maxLine → r .marks ≡ made .marks → Put before 0 (take (made .length) space′) a mid
     → Put mid a (verdict (take (made .length) space′) said) (r .length) after → DidLine (judged done said) before r row after
 did-judged {space} {row = row} {made} done said did size few marks v w =
     let text = put-taken (did .printed) (omega (arith, did .short)) in
@@ -44,24 +44,24 @@ did-line did = record { state = did .state; inside = did .inside; printed = did 
 -- ---- the kinds of a line
 
 module _ (capacity : ℕ) (line : List ℕ) (s : State) where
-  pub line-long : mostLine < length line → lineDone capacity line s ≡ prints s longLine
+  pub line-long : maxLine < length line → lineDone capacity line s ≡ prints s longLine
   unfolding lineDone
-  line-long h = rw (lt-ltb mostLine (length line) h)
+  line-long h = rw (lt-ltb maxLine (length line) h)
 
-  module _ (few : length line ≤ mostLine) where
+  module _ (few : length line ≤ maxLine) where
     pub line-copied : isCopied line ≡ true → lineDone capacity line s ≡ prints s (line ++ newline ∷ [])
     unfolding lineDone
-    line-copied e = rw (le-ltb mostLine (length line) few, e)
+    line-copied e = rw (le-ltb maxLine (length line) few, e)
 
     module _ (other : isCopied line ≡ false) where
       pub line-judged : equalsIn line < length line
           → lineDone capacity line s ≡ judged (commandDone capacity (take (equalsIn line) line) s) (drop (equalsIn line + 3) line)
       unfolding lineDone
-      line-judged h = rw (le-ltb mostLine (length line) few, other, lt-ltb (equalsIn line) (length line) h)
+      line-judged h = rw (le-ltb maxLine (length line) few, other, lt-ltb (equalsIn line) (length line) h)
 
       pub line-command : length line ≤ equalsIn line → lineDone capacity line s ≡ commandDone capacity line s
       unfolding lineDone
-      line-command h = rw (le-ltb mostLine (length line) few, other, le-ltb (equalsIn line) (length line) h)
+      line-command h = rw (le-ltb maxLine (length line) few, other, le-ltb (equalsIn line) (length line) h)
 
 -- ---- the words that are used
 

@@ -16,7 +16,7 @@ use Rattle.text.proofs.Laws.Puts.{puts-join}
 use Rattle.text.proofs.Laws.Lines.{numbers-most}
 use Rattle.scripting.specs.declared.Marks.{Marks}
 use Rattle.scripting.specs.declared.Printed.{Printed}
-use Rattle.scripting.specs.Script.{State, prints, fullLine, withTape, edited, mostCommanded}
+use Rattle.scripting.specs.Script.{State, prints, fullLine, withTape, edited, maxCommanded}
 use Rattle.scripting.specs.States.{roomIn, stateIn, Inside, DidWithin, Did}
 
 -- marks with another end
@@ -32,7 +32,7 @@ one-small : (n : ℕ) → n < 4294967296 → (i : ℕ) → getD (n ∷ []) i 0 <
 one-small n h zero = h
 one-small n h (suc i) = omega arith
 
-pub number-short : (n : ℕ) → n < 4294967296 → length (numberLine n) ≤ mostCommanded
+pub number-short : (n : ℕ) → n < 4294967296 → length (numberLine n) ≤ maxCommanded
 number-short n h = omega (arith, numbers-most (n ∷ []) (one-small n h))
 
 -- what changes nothing
@@ -48,7 +48,7 @@ unfolding fullLine
 full-line capacity v w x =
     rw (append-assoc (ascii "fibexp: a row of tapes has at most " ++ decimal capacity) (ascii " words") (newline ∷ [])) (puts-join (puts-join v w) x)
 
-pub full-short : (capacity : ℕ) → capacity < 4294967296 → length (fullLine capacity) ≤ mostCommanded
+pub full-short : (capacity : ℕ) → capacity < 4294967296 → length (fullLine capacity) ≤ maxCommanded
 unfolding fullLine
 full-short capacity h =
     simp length-append (omega (arith, decimal-32 capacity h))
@@ -78,7 +78,7 @@ module _ {m : Marks} {row : List ℕ} (inside : Inside m row) (tape : List ℕ) 
   module _ {before after row′ : List ℕ} {r : Printed} (end : ℕ) (end-is : end ≡ m .begin + length tape) (fits : end ≤ length row)
       (same : length row′ ≡ length row) (words : take end row′ ≡ take (m .begin) row ++ tape) where
     -- it is left in the row
-    pub did-tape : (text : List ℕ) → r .marks ≡ ended m end → Put before 0 text (r .length) after → length text ≤ mostCommanded
+    pub did-tape : (text : List ℕ) → r .marks ≡ ended m end → Put before 0 text (r .length) after → length text ≤ maxCommanded
         → Did (withTape (length row) (stateIn m row) tape text) before r row′ after
     did-tape text marks put short =
         rw (tape-left text (omega arith))

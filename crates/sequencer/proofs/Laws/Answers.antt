@@ -9,18 +9,18 @@ use lib.Dec.{leb, eqb}
 use lib.ListN.{length, set, take, drop}
 use lib.Seq.{sets, length-slice}
 use borrow.Author.Tests.{leb-false, eqb-false}
-use Rattle.refusal.specs.Outcomes.{Rule, answered, numberIn, after}
+use Rattle.refusal.specs.Outcomes.{Rule, answered, refusalNumber, after}
 use Rattle.refusal.proofs.Laws.Rules.{passed, refused-where, zero-answered, other-refused}
 use Rattle.modular.specs.Primes.{Prime}
 use Rattle.modular.specs.Residues.{Residue}
 use Rattle.refusal.proofs.Laws.Tests.{neither}
-use Rattle.tape.specs.Layout.{mostWords, headerOf, stepIndex, stepWordsOf, stepsOf, stepWords}
+use Rattle.tape.specs.Layout.{maxWords, headerOf, stepIndex, stepWordsOf, stepsOf, stepWords}
 use Rattle.tape.specs.Steps.{AllSound}
 use Rattle.tape.proofs.Laws.Rows.{all-steps-sound, slice-from}
 use Rattle.tape.proofs.Laws.Reading.{length-most}
 use Rattle.tape.proofs.Laws.Layout.{laid-out-long}
-use Rattle.machine.specs.Machine.{run, Good, start}
-use Rattle.machine.proofs.Laws.Steps.{good-four}
+use Rattle.machine.specs.Machine.{run, Residues, start}
+use Rattle.machine.proofs.Laws.Steps.{residues-four}
 use Rattle.program.specs.Services.{checkRules, checkOutcome, acceptOutcome}
 use Rattle.program.specs.Door.{onTape}
 use Rattle.program.proofs.Laws.Checking.{accepted}
@@ -38,14 +38,14 @@ good-register p x good =
     let n = neither (eqb x 0) (leb p x) good in
     record { low = omega (arith, eqb-false x 0 (n .0)); high = leb-false p x (n .1) }
 
-pub good-registers : (p c d e f : ℕ) → badRegisters p (c ∷ d ∷ e ∷ f ∷ []) ≡ false → Good p (c ∷ d ∷ e ∷ f ∷ [])
+pub residues-registers : (p c d e f : ℕ) → badRegisters p (c ∷ d ∷ e ∷ f ∷ []) ≡ false → Residues p (c ∷ d ∷ e ∷ f ∷ [])
 unfolding badRegisters
-good-registers p c d e f good =
+residues-registers p c d e f good =
     let first = neither (badRegister p c) _ good in
     let second = neither (badRegister p d) _ (first .1) in
     let third = neither (badRegister p e) _ (second .1) in
     let fourth = neither (badRegister p f) _ (third .1) in
-    good-four p c d e f (good-register p c (first .0)) (good-register p d (second .0)) (good-register p e (third .0)) (good-register p f (fourth .0))
+    residues-four p c d e f (good-register p c (first .0)) (good-register p d (second .0)) (good-register p e (third .0)) (good-register p f (fourth .0))
 
 -- the steps of a tape are sound, and an accepted tape's p is prime
 pub steps-sound : (tape : List ℕ) → AllSound (stepsOf tape)
@@ -85,7 +85,7 @@ pub record Stands (tape : List ℕ) (first last : ℕ) : Type 0 where
   pub part : take (length (stepWords tape first last)) (drop (stepIndex tape first) tape) ≡ stepWords tape first last
   pub order : first ≤ last
   pub inside : stepIndex tape last ≤ length tape
-  pub short : length tape ≤ mostWords
+  pub short : length tape ≤ maxWords
   pub most : length (stepWords tape first last) ≤ length tape
 
 module _ (tape : List ℕ) (first last : ℕ) where
@@ -95,7 +95,7 @@ module _ (tape : List ℕ) (first last : ℕ) where
   abbrev rules : List Rule
   rules = checkRules tape ++ cutRules (headerOf tape) first last
 
-  pub cut-stands : numberIn (cutOutcome tape first last) ≡ 0 → Stands tape first last
+  pub cut-stands : refusalNumber (cutOutcome tape first last) ≡ 0 → Stands tape first last
   unfolding cutOutcome cutRules cutStart cutCount onTape
   cut-stands e =
       let answer = zero-answered words words words rules e .0 in
@@ -115,7 +115,7 @@ module _ (tape : List ℕ) (first last : ℕ) where
       }
 
   -- and another number: both places hold what they held
-  pub cut-not : ¬ (numberIn (cutOutcome tape first last) ≡ 0) → (held : ℕ)
+  pub cut-not : ¬ (refusalNumber (cutOutcome tape first last) ≡ 0) → (held : ℕ)
       → (after (cutStart tape first last) held ≡ held) × (after (cutCount tape first last) held ≡ held)
   unfolding cutOutcome cutStart cutCount onTape
   cut-not some held = (other-refused words (stepIndex tape first) held rules some, other-refused words (length words) held rules some)
@@ -142,5 +142,5 @@ each-as-said (q ∷ qs) v [] =
     let rest = each-as-said qs (after (answerTo q v) v) [] in
     rw (sets-none 1 (numbersAll qs (after (answerTo q v) v))) (as-said q v, rw (sets-none 0 (numbersAll qs (after (answerTo q v) v))) at rest)
 each-as-said (q ∷ qs) v (n ∷ row) =
-    rw (sets-past (numberIn (answerTo q v)) row 0 (numbersAll qs (after (answerTo q v) v)))
+    rw (sets-past (refusalNumber (answerTo q v)) row 0 (numbersAll qs (after (answerTo q v) v)))
     (as-said q v, refl, each-as-said qs (after (answerTo q v) v) row)

@@ -7,7 +7,7 @@ use native.Mathlib.Omega.{arith}
 use lib.Dec.{leb, ltb, eqb}
 use lib.ListN.{length}
 use borrow.Author.Tests.{ltb-false, lt-ltb, le-ltb, eq-eqb, ne-eqb}
-use Rattle.refusal.specs.Outcomes.{Outcome, refused, answered, outcome, numberIn}
+use Rattle.refusal.specs.Outcomes.{Outcome, refused, answered, outcome, refusalNumber}
 use Rattle.refusal.proofs.Laws.Tests.{neither}
 use Rattle.modular.specs.Primes.{Prime}
 use Rattle.tape.specs.declared.Header.{Header}
@@ -20,7 +20,7 @@ use Rattle.program.specs.Services.{acceptOutcome}
 use Rattle.program.proofs.Laws.Checking.{accepted, header-is, steps-are}
 use Rattle.program.proofs.Laws.Accepting.{accepted-prime}
 use Rattle.program.proofs.Laws.Door.{tape-accepted}
-use Rattle.sequencer.specs.Services.{badRegister, badRegisters, allowed, badBase, badCut, baseRules, travelRules, traceRules, cutRules, loadOutcome, runOutcome, traceOutcome, cutOutcome, cutPart}
+use Rattle.sequencer.specs.Services.{badRegister, badRegisters, allowed, badBase, badCut, baseRules, positionRules, traceRules, cutRules, loadOutcome, runOutcome, traceOutcome, cutOutcome, cutPart}
 
 -- ---- the tests
 
@@ -88,10 +88,10 @@ module _ (steps from goal : ℕ) where
   both-inside low high = rw (le-ltb steps from low, le-ltb steps goal high)
 
 -- what is beside a cut's part
-pub cut-refused : {o : Outcome (List ℕ)} {m n : ℕ} → o ≡ refused n → m ≡ n → ([] ≡ cutPart o) × (m ≡ numberIn o)
+pub cut-refused : {o : Outcome (List ℕ)} {m n : ℕ} → o ≡ refused n → m ≡ n → ([] ≡ cutPart o) × (m ≡ refusalNumber o)
 cut-refused e f = rw e (refl, f)
 
-pub cut-answered : {o : Outcome (List ℕ)} {part words : List ℕ} → o ≡ answered words → part ≡ words → (part ≡ cutPart o) × (0 ≡ numberIn o)
+pub cut-answered : {o : Outcome (List ℕ)} {part words : List ℕ} → o ≡ answered words → part ≡ words → (part ≡ cutPart o) × (0 ≡ refusalNumber o)
 cut-answered e f = rw e (f, refl)
 
 -- ---- on an accepted tape
@@ -110,10 +110,10 @@ module _ (tape : List ℕ) (h : Header) (e : acceptOutcome tape ≡ answered h) 
   load-rules a = tape-accepted tape h e (λ (g : Header). baseRules g a) (λ (g : Header). start a)
 
   pub run-rules : (v : List ℕ) (from goal : ℕ)
-      → runOutcome tape v from goal ≡ outcome (travelRules h v from goal) (run (h .modulus) (stepsOf tape) from goal v)
+      → runOutcome tape v from goal ≡ outcome (positionRules h v from goal) (run (h .modulus) (stepsOf tape) from goal v)
   unfolding runOutcome
   run-rules v from goal =
-      tape-accepted tape h e (λ (g : Header). travelRules g v from goal) (λ (g : Header). run (g .modulus) (stepsOf tape) from goal v)
+      tape-accepted tape h e (λ (g : Header). positionRules g v from goal) (λ (g : Header). run (g .modulus) (stepsOf tape) from goal v)
 
   pub trace-rules : (position : ℕ) → traceOutcome tape position ≡ outcome (traceRules h (stepsOf tape) position) (exponentsAt (stepsOf tape) position)
   unfolding traceOutcome

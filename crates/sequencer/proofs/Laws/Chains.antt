@@ -19,7 +19,7 @@ use Rattle.tape.specs.declared.Step.{Step}
 use Rattle.tape.specs.Layout.{headerOf, stepsOf}
 use Rattle.tape.proofs.Laws.Layout.{steps-count}
 use Rattle.machine.specs.Machine.{run, start}
-use Rattle.machine.proofs.Laws.Steps.{good-start}
+use Rattle.machine.proofs.Laws.Steps.{residues-start}
 use Rattle.machine.proofs.Laws.Runs.{run-forward, run-backward}
 use Rattle.named.specs.Promises.{IsProgram}
 use Rattle.program.proofs.Laws.Checking.{accepted-named}
@@ -59,7 +59,7 @@ module _ (p : ℕ) (pr : Prime p) (r a : ℕ) (ra : Residue p a) (ord : a ^ r % 
     forward e f =
         let up : ltb (q .from) (q .goal) ≡ true = lt-ltb (q .from) (q .goal) (omega (arith, is-program .some)) in
         ap₂ (λ (i j : ℕ). run p xs i j (start b)) e f
-        ∙ run-forward p pr xs (steps-sound (q .tape)) (start b) (good-start p pr b residue)
+        ∙ run-forward p pr xs (steps-sound (q .tape)) (start b) (residues-start p pr b residue)
         ∙ is-program .raises p pr b residue (order-power p pr a r E ord)
         ∙ rw up (reduced E k)
 
@@ -67,8 +67,8 @@ module _ (p : ℕ) (pr : Prime p) (r a : ℕ) (ra : Residue p a) (ord : a ^ r % 
     backward e f =
         let down : ltb (q .from) (q .goal) ≡ false = le-ltb (q .from) (q .goal) (omega arith) in
         ap₂ (λ (i j : ℕ). run p xs i j (start b)) e f
-        ∙ run-backward p pr xs (steps-sound (q .tape)) (start b) (good-start p pr b residue)
-        ∙ is-program .lowers p pr b residue (order-power p pr a r E ord)
+        ∙ run-backward p pr xs (steps-sound (q .tape)) (start b) (residues-start p pr b residue)
+        ∙ is-program .undone-raises p pr b residue (order-power p pr a r E ord)
         ∙ rw down (reduced E (inverse r k))
 
     pub linked : run (headerOf (q .tape) .modulus) xs (q .from) (q .goal) (start b) ≡ start (a ^ (E * factor r q % r) % p)

@@ -14,16 +14,16 @@ use Rattle.fibonacci.specs.Forms.{pad, greedy, zeckendorf}
 use Rattle.fibonacci.specs.Height.{reaches, firstFrom, height, oddHeight}
 use Rattle.tape.specs.declared.Step.the-variants.{Mul, Div, Swp}
 use Rattle.tape.specs.Words.{headingIn, actionIn, swapIn, decoded, stepWord, encoded}
-use Rattle.tape.specs.Layout.{headerOf, part, isLength, isHeader, isFreeOrNamed, allSteps, isEnd, laidOut, wordsOf}
-use Rattle.machine.specs.Machine.{apply, opposite, doAll, undoAll, run, back, start}
-use Rattle.machine.proofs.Laws.Steps.{good-four}
+use Rattle.tape.specs.Layout.{headerOf, part, isLength, isHeader, isFreeOrNamed, allSteps, isEnd, laidOut, programWords}
+use Rattle.machine.specs.Machine.{apply, inverseStep, doAll, undoAll, run, inverted, start}
+use Rattle.machine.proofs.Laws.Steps.{residues-four}
 use Rattle.named.specs.Generators.{ascend, descend, basic, dual, hybrid, drawn}
 use Rattle.named.specs.Named.{basicForms, dualForms, hybridForms, formsIn, namedSteps, namedWords}
 use Rattle.named.specs.Members.{sameStep, sameSteps, isOneOf}
 use Rattle.named.specs.Parameters.{badModulus, badOrder}
 use Rattle.program.specs.Services.{checkRules, checkOutcome}
 use Rattle.program.specs.Door.{onTape}
-use Rattle.sequencer.specs.Services.{badRegister, badRegisters, allowed, badBase, baseRules, travelRules, loadOutcome, runOutcome}
+use Rattle.sequencer.specs.Services.{badRegister, badRegisters, allowed, badBase, baseRules, positionRules, loadOutcome, runOutcome}
 use Rattle.sequencer.specs.Lists.{Request, afterAll, numbersAll, performed, requestsOf}
 use Rattle.sequencer.specs.Demand.{AllEndToEnd, Chain, Returns, Rewind}
 
@@ -64,14 +64,14 @@ pub chain-words : requestsOf (figure-2 ++ figure-4 ++ another-p ++ figure-6)
     ∷ 0 ∷ 28 ∷ 23 ∷ 0
     ∷ 54 ∷ 70 ∷ 0 ∷ 11
     ∷ 70 ∷ 103 ∷ 28 ∷ 0 ∷ []) ≡ chained
-unfolding requestsOf part wordsOf encoded stepWord namedSteps formsIn basicForms dualForms hybridForms drawn basic dual hybrid ascend descend back opposite pad zeckendorf greedy height oddHeight firstFrom reaches lucas fib inverse greatest
+unfolding requestsOf part programWords encoded stepWord namedSteps formsIn basicForms dualForms hybridForms drawn basic dual hybrid ascend descend inverted inverseStep pad zeckendorf greedy height oddHeight firstFrom reaches lucas fib inverse greatest
 chain-words = refl
 
 -- E is 2 × 3 × 3 × 3 modulo 5, and 4^4 is 3 modulo 11
 pub chain-runs : AllEndToEnd 11 5 (performed chained (start 4))
     × (afterAll chained (start 4) ≡ start 3)
     × (numbersAll chained (start 4) ≡ 0 ∷ 6 ∷ 0 ∷ 10 ∷ 0 ∷ 9 ∷ 0 ∷ [])
-unfolding afterAll wordsOf encoded stepWord namedSteps formsIn basicForms dualForms hybridForms drawn basic dual hybrid ascend descend back opposite pad zeckendorf greedy height oddHeight firstFrom reaches lucas fib inverse greatest decoded headingIn actionIn swapIn outcome checkRules isLength isHeader isFreeOrNamed allSteps isEnd laidOut badModulus isPrime badOrder badExponent gcd isOneOf sameSteps sameStep badRegister badRegisters onTape travelRules runOutcome run doAll undoAll apply times remainder performed numbersAll AllEndToEnd
+unfolding afterAll programWords encoded stepWord namedSteps formsIn basicForms dualForms hybridForms drawn basic dual hybrid ascend descend inverted inverseStep pad zeckendorf greedy height oddHeight firstFrom reaches lucas fib inverse greatest decoded headingIn actionIn swapIn outcome checkRules isLength isHeader isFreeOrNamed allSteps isEnd laidOut badModulus isPrime badOrder badExponent gcd isOneOf sameSteps sameStep badRegister badRegisters onTape positionRules runOutcome run doAll undoAll apply times remainder performed numbersAll AllEndToEnd
 chain-runs = (
   (
     record { accepted = refl; named = refl; modulus = refl; order = refl; ends = inl (refl, refl) },
@@ -95,7 +95,7 @@ abbrev pub another-r : List ℕ
 another-r = namedWords 11 10 3 1
 
 abbrev pub by-hand-11 : List ℕ
-by-hand-11 = wordsOf (record { variant = 0; modulus = 11; order = 0; exponent = 0; steps = Mul 2 1 ∷ [] })
+by-hand-11 = programWords (record { variant = 0; modulus = 11; order = 0; exponent = 0; steps = Mul 2 1 ∷ [] })
 
 chain-from : (tape : List ℕ) → checkOutcome tape ≡ answered 0 → headerOf tape .modulus ≡ 11 → loadOutcome tape 4 ≡ answered (start 4)
     → Chain 11 5 4 chained (start 4)
@@ -103,21 +103,21 @@ chain-from tape accepted modulus loaded =
     record { tape = tape; accepted = accepted; modulus = modulus; loaded = loaded; power = refl; links = chain-runs .0 }
 
 pub chain-exists : Chain 11 5 4 chained (start 4)
-unfolding wordsOf encoded stepWord namedSteps formsIn basicForms dualForms drawn basic dual ascend back opposite pad zeckendorf greedy height firstFrom reaches lucas fib inverse greatest decoded headingIn actionIn swapIn outcome checkRules isLength isHeader isFreeOrNamed allSteps isEnd laidOut badModulus isPrime badOrder badExponent gcd isOneOf sameSteps sameStep badRegister allowed badBase onTape baseRules loadOutcome
+unfolding programWords encoded stepWord namedSteps formsIn basicForms dualForms drawn basic dual ascend inverted inverseStep pad zeckendorf greedy height firstFrom reaches lucas fib inverse greatest decoded headingIn actionIn swapIn outcome checkRules isLength isHeader isFreeOrNamed allSteps isEnd laidOut badModulus isPrime badOrder badExponent gcd isOneOf sameSteps sameStep badRegister allowed badBase onTape baseRules loadOutcome
 chain-exists = chain-from figure-4 refl refl refl
 
 pub chain-from-another-r : Chain 11 5 4 chained (start 4)
-unfolding wordsOf encoded stepWord namedSteps formsIn basicForms dualForms drawn basic dual ascend back opposite pad zeckendorf greedy height firstFrom reaches lucas fib inverse greatest decoded headingIn actionIn swapIn outcome checkRules isLength isHeader isFreeOrNamed allSteps isEnd laidOut badModulus isPrime badOrder badExponent gcd isOneOf sameSteps sameStep badRegister allowed badBase onTape baseRules loadOutcome
+unfolding programWords encoded stepWord namedSteps formsIn basicForms dualForms drawn basic dual ascend inverted inverseStep pad zeckendorf greedy height firstFrom reaches lucas fib inverse greatest decoded headingIn actionIn swapIn outcome checkRules isLength isHeader isFreeOrNamed allSteps isEnd laidOut badModulus isPrime badOrder badExponent gcd isOneOf sameSteps sameStep badRegister allowed badBase onTape baseRules loadOutcome
 chain-from-another-r = chain-from another-r refl refl refl
 
 pub chain-from-by-hand : Chain 11 5 4 chained (start 4)
-unfolding wordsOf encoded stepWord namedSteps formsIn basicForms dualForms drawn basic dual ascend back opposite pad zeckendorf greedy height firstFrom reaches lucas fib inverse greatest decoded headingIn actionIn swapIn outcome checkRules isLength isHeader isFreeOrNamed allSteps isEnd laidOut badModulus isPrime badOrder badExponent gcd isOneOf sameSteps sameStep badRegister allowed badBase onTape baseRules loadOutcome
+unfolding programWords encoded stepWord namedSteps formsIn basicForms dualForms drawn basic dual ascend inverted inverseStep pad zeckendorf greedy height firstFrom reaches lucas fib inverse greatest decoded headingIn actionIn swapIn outcome checkRules isLength isHeader isFreeOrNamed allSteps isEnd laidOut badModulus isPrime badOrder badExponent gcd isOneOf sameSteps sameStep badRegister allowed badBase onTape baseRules loadOutcome
 chain-from-by-hand = chain-from by-hand-11 refl refl refl
 
 -- ---- a rewind: a hand-made program of three steps, from position 1 and registers (2, 3, 4, 5)
 
 abbrev pub by-hand : List ℕ
-by-hand = wordsOf (record { variant = 0; modulus = 7; order = 0; exponent = 0; steps = Mul 2 1 ∷ Swp 0 2 ∷ Div 3 1 ∷ [] })
+by-hand = programWords (record { variant = 0; modulus = 7; order = 0; exponent = 0; steps = Mul 2 1 ∷ Swp 0 2 ∷ Div 3 1 ∷ [] })
 
 -- forward to the end; refused, another program whose p is below the registers; backward to the start; and to position 1 again
 abbrev pub rewound : List Request
@@ -132,11 +132,11 @@ below : (x : ℕ) → 1 ≤ x → x < 7 → Residue 7 x
 below x low high = record { low = low; high = high }
 
 pub rewind-exists : Rewind by-hand 1 rewound (2 ∷ 3 ∷ 4 ∷ 5 ∷ [])
-unfolding wordsOf encoded stepWord namedSteps formsIn basicForms drawn basic ascend back opposite pad zeckendorf greedy fib inverse greatest decoded headingIn actionIn swapIn outcome checkRules isLength isHeader isFreeOrNamed allSteps isEnd laidOut badModulus isPrime badOrder badExponent gcd isOneOf sameSteps sameStep badRegister badRegisters onTape travelRules runOutcome run doAll undoAll apply times remainder performed Returns
+unfolding programWords encoded stepWord namedSteps formsIn basicForms drawn basic ascend inverted inverseStep pad zeckendorf greedy fib inverse greatest decoded headingIn actionIn swapIn outcome checkRules isLength isHeader isFreeOrNamed allSteps isEnd laidOut badModulus isPrime badOrder badExponent gcd isOneOf sameSteps sameStep badRegister badRegisters onTape positionRules runOutcome run doAll undoAll apply times remainder performed Returns
 rewind-exists =
     record {
       accepted = refl;
       position = omega arith;
-      registers = good-four 7 2 3 4 5 (below 2 (omega arith) (omega arith)) (below 3 (omega arith) (omega arith)) (below 4 (omega arith) (omega arith)) (below 5 (omega arith) (omega arith));
+      registers = residues-four 7 2 3 4 5 (below 2 (omega arith) (omega arith)) (below 3 (omega arith) (omega arith)) (below 4 (omega arith) (omega arith)) (below 5 (omega arith) (omega arith));
       returns = (refl, refl, (refl, refl, (refl, refl, refl)));
     }

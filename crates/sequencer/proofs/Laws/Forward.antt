@@ -13,12 +13,12 @@ use Rattle.modular.proofs.Laws.Group.{residue-one}
 use Rattle.tape.specs.Layout.{headerOf, stepsOf}
 use Rattle.tape.proofs.Laws.Layout.{steps-count}
 use Rattle.machine.specs.Machine.{run, start}
-use Rattle.machine.proofs.Laws.Steps.{good-start}
+use Rattle.machine.proofs.Laws.Steps.{residues-start}
 use Rattle.machine.proofs.Laws.Runs.{run-forward}
 use Rattle.program.specs.Services.{isNamed}
 use Rattle.program.proofs.Laws.Checking.{accepted-named}
 use Rattle.program.proofs.Laws.Accepting.{accepted-program}
-use Rattle.sequencer.specs.Services.{badRegister, badRegisters, travelRules, loadOutcome, runOutcome, forwardOutcome}
+use Rattle.sequencer.specs.Services.{badRegister, badRegisters, positionRules, loadOutcome, runOutcome, forwardOutcome}
 use Rattle.sequencer.proofs.Laws.Cases.{modulus-prime, base-named, registers-others, registers-last, both-inside, run-rules}
 use Rattle.sequencer.proofs.Laws.Answers.{steps-sound, load-answered}
 
@@ -39,21 +39,21 @@ residue-good : (p x : ℕ) → Residue p x → badRegister p x ≡ false
 unfolding badRegister
 residue-good p x r = rw (ne-eqb x 0 (λ e. omega arith), lt-leb p x (r .high))
 
-start-good : (p : ℕ) → Prime p → (a : ℕ) → Residue p a → badRegisters p (start a) ≡ false
-start-good p pr a r =
+start-residues : (p : ℕ) → Prime p → (a : ℕ) → Residue p a → badRegisters p (start a) ≡ false
+start-residues p pr a r =
     let one = residue-good p 1 (residue-one p pr) in
     registers-others p 1 _ one ∙ registers-others p a _ (residue-good p a r) ∙ registers-others p 1 _ one ∙ registers-last p 1 ∙ one
 
 module _ (tape : List ℕ) (a : ℕ) {v : List ℕ} (e : loadOutcome tape a ≡ answered v) where
   pub forward-answered : forwardOutcome tape a ≡ answered (run (headerOf tape .modulus) (stepsOf tape) 0 (headerOf tape .steps) (start a))
-  unfolding travelRules
+  unfolding positionRules
   forward-answered =
       let load = load-answered tape a v e in
       let pr = modulus-prime tape (headerOf tape) (load .accepted) in
       forward-loaded tape a e
       ∙ ap (λ (w : List ℕ). runOutcome tape w 0 (headerOf tape .steps)) (load .registers)
       ∙ run-rules tape (headerOf tape) (load .accepted) (start a) 0 (headerOf tape .steps)
-      ∙ passes _ _ _ (start-good _ pr a (load .base))
+      ∙ passes _ _ _ (start-residues _ pr a (load .base))
       ∙ passes _ _ _ (both-inside (headerOf tape .steps) 0 _ (omega arith) (omega arith))
       ∙ answers _
 
@@ -68,5 +68,5 @@ module _ (tape : List ℕ) (a : ℕ) {v : List ℕ} (e : loadOutcome tape a ≡ 
       forward-answered
       ∙ ap answered
       (ap (λ (n : ℕ). run (h .modulus) (stepsOf tape) 0 n (start a)) (sym (steps-count tape))
-      ∙ run-forward (h .modulus) pr (stepsOf tape) (steps-sound tape) (start a) (good-start (h .modulus) pr a (load .base))
+      ∙ run-forward (h .modulus) pr (stepsOf tape) (steps-sound tape) (start a) (residues-start (h .modulus) pr a (load .base))
       ∙ accepted-program tape (accepted-named h tape (load .accepted) some) .raises (h .modulus) pr a (load .base) power)

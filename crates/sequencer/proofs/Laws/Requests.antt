@@ -6,11 +6,11 @@ use Prim.Native.Nat.{ℕ, suc, _+_, _-_, _^_, _≤_, _<_}
 use native.Mathlib.Omega.{arith}
 use lib.ListN.{length, getD, set, drop, length-drop, length-append}
 use lib.Seq.{sets, drop-cons, take-at, drop-at}
-use Rattle.refusal.specs.Outcomes.{Outcome, numberIn, after}
+use Rattle.refusal.specs.Outcomes.{Outcome, refusalNumber, after}
 use Rattle.tape.specs.Layout.{part}
 use Rattle.tape.proofs.Laws.Rows.{part-inside}
 use Rattle.sequencer.specs.Services.{runOutcome}
-use Rattle.sequencer.specs.Lists.{Request, afterAll, numbersAll, requestsOf, AllBelow, Given, tapesOf, PositionsFit}
+use Rattle.sequencer.specs.Lists.{Request, afterAll, numbersAll, requestsOf, AllBelow, EncodedRequests, tapesOf, PositionsFit}
 
 fewer : (row words : List ℕ) → length words < 4 → requestsOf row words ≡ []
 unfolding requestsOf
@@ -53,7 +53,7 @@ module _ (row words : List ℕ) (i : ℕ) where
     unfolding afterAll
     after-next this = ap (afterAll (requestsOf row (drop (i + 4) words))) this ∙ sym (ap (λ (qs : List Request). afterAll qs v) first)
 
-    pub numbers-next : (numbers numbers′ : List ℕ) (n : ℕ) → w ≡ after answer v → numbers′ ≡ set numbers n (numberIn answer)
+    pub numbers-next : (numbers numbers′ : List ℕ) (n : ℕ) → w ≡ after answer v → numbers′ ≡ set numbers n (refusalNumber answer)
         → sets numbers′ (n + 1) (numbersAll (requestsOf row (drop (i + 4) words)) w) ≡ sets numbers n (numbersAll (requestsOf row (drop i words)) v)
     unfolding numbersAll
     numbers-next numbers numbers′ n this noted =
@@ -100,6 +100,6 @@ below-words at (q ∷ qs) short fit =
     let long = length-append (q .tape) (tapesOf qs) in
     (omega arith, (omega arith, (fit .0, (fit .1, below-words (at + length (q .tape)) qs (omega arith) (fit .2)))))
 
-pub requests-given : (qs : List Request) → AllBelow (2 ^ 32) (tapesOf qs) → length (tapesOf qs) < 2 ^ 32 → PositionsFit qs → Given qs
+pub requests-given : (qs : List Request) → AllBelow (2 ^ 32) (tapesOf qs) → length (tapesOf qs) < 2 ^ 32 → PositionsFit qs → EncodedRequests qs
 requests-given qs fits short positions =
     record { row = tapesOf qs; words = wordsFrom 0 qs; row-fits = fits; words-fit = below-words 0 qs (omega arith) positions; requests = words-requests [] qs }

@@ -9,8 +9,8 @@ use Rattle.refusal.specs.Outcomes.{Outcome, refused, answered, after}
 use Rattle.modular.specs.Primes.{Prime}
 use Rattle.tape.specs.declared.Step.{Step}
 use Rattle.tape.specs.Layout.{headerOf, stepsOf}
-use Rattle.machine.specs.Machine.{run, Good}
-use Rattle.machine.proofs.Laws.Runs.{run-good, run-compose, run-stay}
+use Rattle.machine.specs.Machine.{run, Residues}
+use Rattle.machine.proofs.Laws.Runs.{run-residues, run-compose, run-stay}
 use Rattle.sequencer.specs.Lists.{Request, answerTo, afterAll, numbersAll, unlessRefused, performed}
 use Rattle.sequencer.specs.Demand.{Returns, RewindEnds}
 use Rattle.sequencer.proofs.Laws.Answers.{steps-sound, prime-of, run-answered, each-as-said}
@@ -22,14 +22,14 @@ module _ (tape : List ℕ) (home : ℕ) (pr : Prime (headerOf tape .modulus)) wh
   abbrev xs : List Step
   xs = stepsOf tape
 
-  from-there : (qs : List Request) (at : ℕ) (v : List ℕ) → Good p v → Returns tape home at (performed qs v)
+  from-there : (qs : List Request) (at : ℕ) (v : List ℕ) → Residues p v → Returns tape home at (performed qs v)
       → afterAll qs v ≡ run p xs at home v
   unfolding afterAll performed Returns
   from-there [] at v g e = sym (run-stay p pr xs (steps-sound tape) at v g) ∙ ap (λ (j : ℕ). run p xs at j v) e
   from-there (q ∷ qs) at v g h = go (answerTo q v) refl (from-there qs) h
     where
       go : (answer : Outcome (List ℕ)) → answerTo q v ≡ answer
-          → ((at′ : ℕ) (v′ : List ℕ) → Good p v′ → Returns tape home at′ (performed qs v′) → afterAll qs v′ ≡ run p xs at′ home v′)
+          → ((at′ : ℕ) (v′ : List ℕ) → Residues p v′ → Returns tape home at′ (performed qs v′) → afterAll qs v′ ≡ run p xs at′ home v′)
           → Returns tape home at (unlessRefused answer q (performed qs (after answer v)))
           → afterAll qs (after answer v) ≡ run p xs at home v
       go (refused n) e rest returns = rest at v g returns
@@ -37,7 +37,7 @@ module _ (tape : List ℕ) (home : ℕ) (pr : Prime (headerOf tape .modulus)) wh
           let there : w ≡ run p xs at (q .goal) v =
           run-answered (q .tape) v (q .from) (q .goal) w e
           ∙ ap₂ (λ (t : List ℕ) (i : ℕ). run (headerOf t .modulus) (stepsOf t) i (q .goal) v) (returns .0) (returns .1) in
-          rest (q .goal) w (rw there (run-good p pr xs (steps-sound tape) at (q .goal) v g)) (returns .2)
+          rest (q .goal) w (rw there (run-residues p pr xs (steps-sound tape) at (q .goal) v g)) (returns .2)
           ∙ ap (run p xs (q .goal) home) there
           ∙ run-compose p pr xs (steps-sound tape) at (q .goal) home v g
 

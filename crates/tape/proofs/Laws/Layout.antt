@@ -14,7 +14,7 @@ use Rattle.tape.specs.declared.Decoded.the-variants.{Heading, P, R, K, E
 use Rattle.tape.specs.declared.Header.{Header}
 use Rattle.tape.specs.Steps.{AllSound}
 use Rattle.tape.specs.Words.{numberLimit, variantLimit, decoded, encoded, stepWord}
-use Rattle.tape.specs.Layout.{otherWords, stepCount, stepWords, stepWordsOf, endAt, sortOf, valueOf, meansAt, headerOf, stepsIn, stepsOf, isHeader, isFreeOrNamed, allSteps, isEnd, laidOut, Program, headerFor, wordsOf, programOf}
+use Rattle.tape.specs.Layout.{otherWords, stepCount, stepWords, stepWordsOf, endAt, sortOf, valueOf, meansAt, headerOf, stepsIn, stepsOf, isHeader, isFreeOrNamed, allSteps, isEnd, laidOut, Program, headerFor, programWords, programOf}
 use Rattle.refusal.proofs.Laws.Tests.{both, and-both, implied, implies}
 use Rattle.tape.proofs.Laws.Words.{decoded-encoded, decoded-lawful, value-small, variant-small, word-again}
 use Rattle.tape.proofs.Laws.Rows.{steps-words, words-all-steps, words-steps, words-count, means-past}
@@ -132,8 +132,8 @@ module _ (tape : List ℕ) (laid : laidOut tape ≡ true) where
     | no h ↦ absurd (omega (arith, rules .end, ap sortOf (means-past tape (4 + stepCount tape) (omega arith))))
   ]
 
-  pub words-program : wordsOf (programOf tape) ≡ tape
-  unfolding wordsOf
+  pub words-program : programWords (programOf tape) ≡ tape
+  unfolding programWords
   words-program =
       let w0 = word-again (getD tape 0 0) (rules .sort-0) (λ z. omega arith) in
       let w1 = word-again (getD tape 1 0) (rules .sort-1) (λ z. omega arith) in
@@ -144,7 +144,7 @@ module _ (tape : List ℕ) (laid : laidOut tape ≡ true) where
       rw (w0, w1, w2, w3, steps, end) (sym (tape-row tape laid-out-long))
 
 -- the numbers of a header fit their words
-pub record Fits (h : Header) : Type 0 where
+pub record HeaderFits (h : Header) : Type 0 where
   pub variant-small : h .variant < variantLimit
   pub modulus-small : h .modulus < numberLimit
   pub order-small : h .order < numberLimit
@@ -153,11 +153,11 @@ pub record Fits (h : Header) : Type 0 where
 
 -- what a program's words can say: its numbers fit, a free program has 0 for r and k, and the steps are sound
 pub record LawfulProgram (q : Program) : Type 0 where
-  pub fits : Fits (headerFor q)
+  pub fits : HeaderFits (headerFor q)
   pub free : q .variant ≡ 0 → (q .order ≡ 0) × (q .exponent ≡ 0)
   pub sound : AllSound (q .steps)
 
-pub header-fits : (tape : List ℕ) → laidOut tape ≡ true → Fits (headerOf tape)
+pub header-fits : (tape : List ℕ) → laidOut tape ≡ true → HeaderFits (headerOf tape)
 header-fits tape laid =
     let rules = laid-out-rules tape laid in
     record {
@@ -170,43 +170,43 @@ header-fits tape laid =
 
 -- ---- from a program to its tape and back
 
-pub program-length : (q : Program) → length (wordsOf q) ≡ length (q .steps) + otherWords
-unfolding wordsOf
+pub program-length : (q : Program) → length (programWords q) ≡ length (q .steps) + otherWords
+unfolding programWords
 program-length q = simp (length-append, length-map) (omega arith)
 
 module _ (q : Program) (lawful : LawfulProgram q) where
-  means-0 : meansAt (wordsOf q) 0 ≡ Heading (q .variant)
-  unfolding wordsOf
+  means-0 : meansAt (programWords q) 0 ≡ Heading (q .variant)
+  unfolding programWords
   means-0 = decoded-encoded (Heading (q .variant)) (lawful .fits .variant-small)
 
-  means-1 : meansAt (wordsOf q) 1 ≡ P (q .modulus)
-  unfolding wordsOf
+  means-1 : meansAt (programWords q) 1 ≡ P (q .modulus)
+  unfolding programWords
   means-1 = decoded-encoded (P (q .modulus)) (lawful .fits .modulus-small)
 
-  means-2 : meansAt (wordsOf q) 2 ≡ R (q .order)
-  unfolding wordsOf
+  means-2 : meansAt (programWords q) 2 ≡ R (q .order)
+  unfolding programWords
   means-2 = decoded-encoded (R (q .order)) (lawful .fits .order-small)
 
-  means-3 : meansAt (wordsOf q) 3 ≡ K (q .exponent)
-  unfolding wordsOf
+  means-3 : meansAt (programWords q) 3 ≡ K (q .exponent)
+  unfolding programWords
   means-3 = decoded-encoded (K (q .exponent)) (lawful .fits .exponent-small)
 
-  count-is : stepCount (wordsOf q) ≡ length (q .steps)
+  count-is : stepCount (programWords q) ≡ length (q .steps)
   count-is = omega (arith, program-length q)
 
-  words-are : stepWordsOf (wordsOf q) ≡ map stepWord (q .steps)
-  unfolding wordsOf
+  words-are : stepWordsOf (programWords q) ≡ map stepWord (q .steps)
+  unfolding programWords
   words-are = row-words _ _ _ _ _ (map stepWord (q .steps))
 
-  end-means : decoded (endAt (wordsOf q)) ≡ End (length (q .steps))
-  unfolding wordsOf
+  end-means : decoded (endAt (programWords q)) ≡ End (length (q .steps))
+  unfolding programWords
   end-means =
       ap decoded (row-end _ _ _ _ (encoded (End (length (q .steps)))) (map stepWord (q .steps)))
       ∙ decoded-encoded (End (length (q .steps))) (lawful .fits .count-small)
 
-  pub program-laid-out : laidOut (wordsOf q) ≡ true
+  pub program-laid-out : laidOut (programWords q) ≡ true
   program-laid-out =
-      rules-laid-out (wordsOf q)
+      rules-laid-out (programWords q)
       (record {
         sort-0 = ap sortOf means-0;
         sort-1 = ap sortOf means-1;
@@ -218,14 +218,14 @@ module _ (q : Program) (lawful : LawfulProgram q) where
         count = ap valueOf end-means ∙ sym count-is;
       })
 
-  pub program-header : headerOf (wordsOf q) ≡ headerFor q
+  pub program-header : headerOf (programWords q) ≡ headerFor q
   program-header = cc (ap valueOf means-0, ap valueOf means-1, ap valueOf means-2, ap valueOf means-3, count-is)
 
-  pub program-steps : stepsOf (wordsOf q) ≡ q .steps
+  pub program-steps : stepsOf (programWords q) ≡ q .steps
   program-steps = ap stepsIn words-are ∙ words-steps (q .steps) (lawful .sound)
 
-  pub program-words : programOf (wordsOf q) ≡ q
+  pub program-words : programOf (programWords q) ≡ q
   program-words =
-      let fields : programOf (wordsOf q) ≡ record { variant = q .variant; modulus = q .modulus; order = q .order; exponent = q .exponent; steps = q .steps } =
+      let fields : programOf (programWords q) ≡ record { variant = q .variant; modulus = q .modulus; order = q .order; exponent = q .exponent; steps = q .steps } =
       cc (ap valueOf means-0, ap valueOf means-1, ap valueOf means-2, ap valueOf means-3, program-steps) in
       fields

@@ -7,7 +7,7 @@ use borrow.Author.Tests.{lt-ltb, le-ltb, eq-eqb, ne-eqb}
 use Rattle.tape.specs.declared.Step.{Step}
 use Rattle.tape.specs.declared.Step.the-variants.{Swp}
 use Rattle.tape.specs.declared.Decoded.the-variants.{Heading, Action, Bad}
-use Rattle.tape.specs.Words.{kindOf, headingIn, areApart, actionIn, swapIn, decoded}
+use Rattle.tape.specs.Words.{kindOf, headingIn, areDistinct, actionIn, swapIn, decoded}
 
 -- ---- a heading's
 
@@ -27,23 +27,23 @@ module _ (payload : ℕ) where
 -- ---- a multiplication's or a division's
 
 module _ (payload : ℕ) where
-  pub apart-high : 16 ≤ payload → areApart payload ≡ false
-  apart-high high = rw (le-ltb payload 16 high)
+  pub distinct-high : 16 ≤ payload → areDistinct payload ≡ false
+  distinct-high high = rw (le-ltb payload 16 high)
 
-  pub apart-low : payload < 16 → areApart payload ≡ not (eqb (payload % 4) (payload / 4))
-  apart-low low = rw (lt-ltb payload 16 low)
+  pub distinct-low : payload < 16 → areDistinct payload ≡ not (eqb (payload % 4) (payload / 4))
+  distinct-low low = rw (lt-ltb payload 16 low)
 
 module _ (step : ℕ → ℕ → Step) (payload : ℕ) where
-  pub action-apart : areApart payload ≡ true → actionIn step payload ≡ Action (step (payload % 4) (payload / 4))
+  pub action-distinct : areDistinct payload ≡ true → actionIn step payload ≡ Action (step (payload % 4) (payload / 4))
   unfolding actionIn
-  action-apart e = rw e
+  action-distinct e = rw e
 
-  pub action-bad : areApart payload ≡ false → actionIn step payload ≡ Bad
+  pub action-bad : areDistinct payload ≡ false → actionIn step payload ≡ Bad
   unfolding actionIn
   action-bad e = rw e
 
   pub action-good : payload < 16 → (payload % 4 ≡ payload / 4 → ⊥) → actionIn step payload ≡ Action (step (payload % 4) (payload / 4))
-  action-good low apart = action-apart (apart-low payload low ∙ ap not (ne-eqb (payload % 4) (payload / 4) apart))
+  action-good low apart = action-distinct (distinct-low payload low ∙ ap not (ne-eqb (payload % 4) (payload / 4) apart))
 
 -- ---- a swap's
 

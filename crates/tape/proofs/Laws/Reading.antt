@@ -14,7 +14,7 @@ use Rattle.refusal.specs.Outcomes.{Rule, refused, answered, outcome, _given-if_
 use Rattle.tape.specs.declared.Decoded.{Decoded}
 use Rattle.tape.specs.declared.Header.{Header}
 use Rattle.tape.specs.Words.{decoded}
-use Rattle.tape.specs.Layout.{otherWords, mostWords, stepCount, stepWordsOf, endAt, sortOf, valueOf, meansAt, headerOf, isLength, isHeader, isFreeOrNamed, allSteps, isEnd, laidOut, headerOutcome, readOutcome}
+use Rattle.tape.specs.Layout.{otherWords, maxWords, stepCount, stepWordsOf, endAt, sortOf, valueOf, meansAt, headerOf, isLength, isHeader, isFreeOrNamed, allSteps, isEnd, laidOut, headerOutcome, readOutcome}
 use Rattle.refusal.proofs.Laws.Tests.{by-test, both}
 
 -- ---- the rules
@@ -24,17 +24,17 @@ module _ (tape : List ℕ) where
   unfolding isLength
   length-short h = rw (lt-leb otherWords (length tape) h)
 
-  pub length-good : otherWords ≤ length tape → length tape ≤ mostWords → isLength tape ≡ true
+  pub length-good : otherWords ≤ length tape → length tape ≤ maxWords → isLength tape ≡ true
   unfolding isLength
-  length-good h k = rw (le-leb otherWords (length tape) h, le-leb (length tape) mostWords k)
+  length-good h k = rw (le-leb otherWords (length tape) h, le-leb (length tape) maxWords k)
 
-  pub length-last : otherWords ≤ length tape → isLength tape ≡ leb (length tape) mostWords
+  pub length-last : otherWords ≤ length tape → isLength tape ≡ leb (length tape) maxWords
   unfolding isLength
   length-last h = rw (le-leb otherWords (length tape) h)
 
-  pub length-most : isLength tape ≡ true → length tape ≤ mostWords
+  pub length-most : isLength tape ≡ true → length tape ≤ maxWords
   unfolding isLength
-  length-most e = leb-true (length tape) mostWords (both (leb otherWords (length tape)) (leb (length tape) mostWords) e .1)
+  length-most e = leb-true (length tape) maxWords (both (leb otherWords (length tape)) (leb (length tape) maxWords) e .1)
 
 module _ (tape : List ℕ) where
   pub header-not-1 : (sortOf (meansAt tape 0) ≡ 1 → ⊥) → isHeader tape ≡ false

@@ -43,8 +43,8 @@ module _ (t s : ℕ) where
       (λ e. omega (arith, kinds-not-below (ltb-false t s e)))
 
   -- two that differ are taken by mul and div
-  kinds-apart : (t ≡ s → ⊥) → 1 < kindsOf t s
-  kinds-apart apart =
+  kinds-distinct : (t ≡ s → ⊥) → 1 < kindsOf t s
+  kinds-distinct apart =
       by-test (ltb t s)
       (λ e. omega (arith, kinds-below (ltb-true t s e)))
       (λ e.
@@ -69,8 +69,8 @@ of-word t s kind w target source first taken e =
 
 of-step : (x : Step) (w : ℕ) → Sound x → stepWord x ≡ w → Shape w
 unfolding stepWord
-of-step (Mul t s) w a e = of-word t s 5 w (a .target-is-one) (a .source-is-one) (omega arith) (omega (arith, kinds-apart t s (a .differ))) e
-of-step (Div t s) w a e = of-word t s 6 w (a .target-is-one) (a .source-is-one) (omega arith) (omega (arith, kinds-apart t s (a .differ))) e
+of-step (Mul t s) w a e = of-word t s 5 w (a .target-is-one) (a .source-is-one) (omega arith) (omega (arith, kinds-distinct t s (a .differ))) e
+of-step (Div t s) w a e = of-word t s 6 w (a .target-is-one) (a .source-is-one) (omega arith) (omega (arith, kinds-distinct t s (a .differ))) e
 of-step (Swp t s) w a e = of-word t s 7 w (a .0 .target-is-one) (a .0 .source-is-one) (omega arith) (omega (arith, kinds-below t s (a .1))) e
 
 pub step-shape : (w : ℕ) → sortOf (decoded w) ≡ 5 → Shape w

@@ -10,7 +10,7 @@ use Rattle.tape.specs.declared.Step.{Step}
 use Rattle.tape.specs.declared.Step.the-variants.{Mul, Div, Swp}
 use Rattle.tape.specs.declared.Decoded.{Decoded}
 use Rattle.tape.specs.declared.Decoded.the-variants.{Heading, P, R, K, Action, End, Bad}
-use Rattle.tape.specs.Steps.{Apart, Sound}
+use Rattle.tape.specs.Steps.{Distinct, Sound}
 use Rattle.tape.specs.Words.{numberLimit, variantLimit, kindOf, payloadOf, word, headingIn, actionIn, swapIn, decoded, stepWord, encoded}
 use Rattle.tape.specs.Layout.{sortOf, valueOf, stepOf}
 use Rattle.refusal.proofs.Laws.Tests.{both}
@@ -36,7 +36,7 @@ module _ (kind payload : ℕ) (fits : payload < numberLimit) where
   word-payload = omega arith
 
 -- the payload of two registers has them in its bits
-module _ {t s : ℕ} (a : Apart t s) where
+module _ {t s : ℕ} (a : Distinct t s) where
   pair-small : t + 4 * s < 16
   pair-small = omega arith
 
@@ -99,7 +99,7 @@ module _ (w : ℕ) where
       record { lawful = omega arith; back = λ h. omega arith })
       means-nothing
 
-  means-action : (step : ℕ → ℕ → Step) (kind : ℕ) → ((t s : ℕ) → stepWord (step t s) ≡ word kind (t + 4 * s)) → ((t s : ℕ) → Apart t s → Sound (step t s))
+  means-action : (step : ℕ → ℕ → Step) (kind : ℕ) → ((t s : ℕ) → stepWord (step t s) ≡ word kind (t + 4 * s)) → ((t s : ℕ) → Distinct t s → Sound (step t s))
       → kindOf w ≡ kind → Means w (actionIn step (payloadOf w))
   unfolding actionIn encoded
   means-action step kind its-word sound k =
@@ -161,8 +161,8 @@ decoded-zero = refl
 
 -- ---- a lawful meaning by its parts
 
-apart-default : Apart 0 1
-apart-default = record { target-is-one = omega arith; source-is-one = omega arith; differ = λ e. omega arith }
+distinct-default : Distinct 0 1
+distinct-default = record { target-is-one = omega arith; source-is-one = omega arith; differ = λ e. omega arith }
 
 pub value-small : (d : Decoded) → Lawful d → valueOf d < numberLimit
 value-small (Heading v) h = omega arith
@@ -174,13 +174,13 @@ value-small (End n) h = h
 value-small Bad h = omega arith
 
 pub step-sound : (d : Decoded) → Lawful d → Sound (stepOf d)
-step-sound (Heading v) h = apart-default
-step-sound (P p) h = apart-default
-step-sound (R r) h = apart-default
-step-sound (K k) h = apart-default
+step-sound (Heading v) h = distinct-default
+step-sound (P p) h = distinct-default
+step-sound (R r) h = distinct-default
+step-sound (K k) h = distinct-default
 step-sound (Action step) h = h
-step-sound (End n) h = apart-default
-step-sound Bad h = apart-default
+step-sound (End n) h = distinct-default
+step-sound Bad h = distinct-default
 
 -- mul 0 1 stands for what is no step
 pub step-none : (d : Decoded) → eqb (sortOf d) 5 ≡ false → stepOf d ≡ Mul 0 1

@@ -15,13 +15,13 @@ use Rattle.refusal.proofs.Laws.Rows.{sets-append}
 use Rattle.tape.specs.declared.Decoded.the-variants.{End}
 use Rattle.tape.specs.declared.Header.{Header}
 use Rattle.tape.specs.Words.{numberLimit, variantLimit, encoded, stepWord}
-use Rattle.tape.specs.Layout.{headerWords, firstWords, Program, headerFor, wordsOf, wordCount, numbersFit, hasPlace, layBegin, laidRow}
-use Rattle.tape.proofs.Laws.Layout.{Fits, LawfulProgram, program-length}
+use Rattle.tape.specs.Layout.{headerWords, firstWords, Program, headerFor, programWords, wordCount, numbersFit, hasPlace, layBegin, laidBuffer}
+use Rattle.tape.proofs.Laws.Layout.{HeaderFits, LawfulProgram, program-length}
 
 -- ---- the numbers of a header fit
 
 module _ (h : Header) where
-  pub numbers-fit : numbersFit h ≡ true → Fits h
+  pub numbers-fit : numbersFit h ≡ true → HeaderFits h
   unfolding numbersFit
   numbers-fit e =
       let a = both (ltb (h .variant) variantLimit) _ e in
@@ -36,7 +36,7 @@ module _ (h : Header) where
         count-small = ltb-true _ _ (d .1);
       }
 
-  pub fits-numbers : Fits h → numbersFit h ≡ true
+  pub fits-numbers : HeaderFits h → numbersFit h ≡ true
   unfolding numbersFit
   fits-numbers f =
       and-both _ _ (lt-ltb _ _ (f .variant-small))
@@ -60,11 +60,11 @@ module _ (h : Header) (room : ℕ) where
   place-there long e = and-both _ _ (le-leb (wordCount h) room long) e
 
 module _ (h : Header) (row : List ℕ) where
-  pub none-laid : hasPlace h (length row) ≡ false → (0 ≡ layBegin h (length row)) × (row ≡ laidRow h row)
+  pub none-laid : hasPlace h (length row) ≡ false → (0 ≡ layBegin h (length row)) × (row ≡ laidBuffer h row)
   none-laid e = (rw e refl, rw e refl)
 
   pub laid-there : hasPlace h (length row) ≡ true
-      → (headerWords ≡ layBegin h (length row)) × (set (sets row 0 (firstWords h)) (headerWords + h .steps) (encoded (End (h .steps))) ≡ laidRow h row)
+      → (headerWords ≡ layBegin h (length row)) × (set (sets row 0 (firstWords h)) (headerWords + h .steps) (encoded (End (h .steps))) ≡ laidBuffer h row)
   laid-there e = (rw e refl, rw e refl)
 
 -- ---- a program's words
@@ -76,21 +76,21 @@ sets-past (w ∷ ws) l i j e h =
     ap (λ (l : List ℕ). sets l (suc i) ws) (set-comm l j i e w (λ z. omega arith))
     ∙ sets-past ws (set l i w) (suc i) j e (omega arith)
 
-module _ (q : Program) (lawful : LawfulProgram q) (row : List ℕ) (long : length (wordsOf q) ≤ length row) where
+module _ (q : Program) (lawful : LawfulProgram q) (row : List ℕ) (long : length (programWords q) ≤ length row) where
   there : hasPlace (headerFor q) (length row) ≡ true
   there = place-there (headerFor q) (length row) (omega (arith, program-length q)) (fits-numbers (headerFor q) (lawful .fits))
 
   pub lay-begin : layBegin (headerFor q) (length row) ≡ headerWords
   lay-begin = sym (laid-there (headerFor q) row there .0)
 
-  pub steps-fit : layBegin (headerFor q) (length row) + length (q .steps) ≤ length (laidRow (headerFor q) row)
+  pub steps-fit : layBegin (headerFor q) (length row) + length (q .steps) ≤ length (laidBuffer (headerFor q) row)
   steps-fit =
-      let size : length (laidRow (headerFor q) row) ≡ length row =
+      let size : length (laidBuffer (headerFor q) row) ≡ length row =
       ap length (sym (laid-there (headerFor q) row there .1)) ∙ length-set (sets row 0 (firstWords (headerFor q))) _ _ ∙ length-sets row 0 (firstWords (headerFor q)) in
       omega (arith, program-length q, lay-begin, size)
 
-  pub program-laid : sets (laidRow (headerFor q) row) (layBegin (headerFor q) (length row)) (map stepWord (q .steps)) ≡ wordsOf q ++ drop (length (wordsOf q)) row
-  unfolding wordsOf
+  pub program-laid : sets (laidBuffer (headerFor q) row) (layBegin (headerFor q) (length row)) (map stepWord (q .steps)) ≡ programWords q ++ drop (length (programWords q)) row
+  unfolding programWords
   program-laid =
       let h = headerFor q in
       let first : List ℕ = firstWords h in

@@ -17,9 +17,8 @@ use Rattle.refusal.proofs.Laws.Tests.{test-false, by-test, both, and-both}
 use Rattle.text.specs.declared.Parsed.{Parsed}
 use Rattle.text.specs.declared.Parsed.the-variants.{Number, NoNumber}
 use Rattle.text.specs.Text.{decimal}
-use Rattle.text.specs.Reading.{within, digitOf, allDigits, valueFrom, numberFrom, inBase, isHexadecimal, numberIn, Small}
+use Rattle.text.specs.Reading.{within, digitOf, allDigits, valueFrom, numberFrom, inBase, isHexadecimal, parseNumber, Small}
 use Rattle.text.proofs.Laws.Decimal.{decimal-one, decimal-again, decimal-some}
-
 
 -- ---- a digit's value
 
@@ -159,15 +158,15 @@ pub hexadecimal-short : (text : List ℕ) → length text < 2 → isHexadecimal 
 hexadecimal-short text h = test-false (isHexadecimal text) (λ e. omega (arith, hexadecimal-long text e))
 
 module _ (most : ℕ) (text : List ℕ) where
-  pub number-hexadecimal : isHexadecimal text ≡ true → numberIn most text ≡ inBase 16 most (drop 2 text)
-  unfolding numberIn
+  pub number-hexadecimal : isHexadecimal text ≡ true → parseNumber most text ≡ inBase 16 most (drop 2 text)
+  unfolding parseNumber
   number-hexadecimal e = rw e
 
-  pub number-decimal : isHexadecimal text ≡ false → numberIn most text ≡ inBase 10 most text
-  unfolding numberIn
+  pub number-decimal : isHexadecimal text ≡ false → parseNumber most text ≡ inBase 10 most text
+  unfolding parseNumber
   number-decimal e = rw e
 
-  pub number-small : Small most (numberIn most text)
+  pub number-small : Small most (parseNumber most text)
   number-small =
       by-test (isHexadecimal text)
       (λ yes. rw (number-hexadecimal yes) (base-small 16 most (drop 2 text)))
@@ -214,7 +213,7 @@ digits-decimal (a ∷ b ∷ text) e =
     let other : ¬ (b ≡ code "x") = λ x. omega (arith, ap digitOf x) in
     rw (ne-eqb b (code "x") other, and-false (eqb a (code "0")))
 
-pub number-back : (most n : ℕ) → n ≤ most → numberIn most (decimal n) ≡ Number n
+pub number-back : (most n : ℕ) → n ≤ most → parseNumber most (decimal n) ≡ Number n
 unfolding numberFrom
 number-back most n h =
     let s = spelt (suc n) n (omega arith) in

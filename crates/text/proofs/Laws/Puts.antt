@@ -59,18 +59,18 @@ put-rest {b = b} {m = m} text i full v = rw take-append-drop at (puts-join v (pu
 -- ---- a loop that puts a text part by part
 
 -- what is left of a text: the whole is put once the rest is
-pub record Left (before : List ℕ) (at : ℕ) (text : List ℕ) (next : ℕ) (now rest : List ℕ) : Type 0 where
+pub record RestToPut (before : List ℕ) (at : ℕ) (text : List ℕ) (next : ℕ) (now rest : List ℕ) : Type 0 where
   pub whole : {end : ℕ} {after : List ℕ} → Put now next rest end after → Put before at text end after
 
-pub all-left : (row : List ℕ) (at : ℕ) (text : List ℕ) → Left row at text at row text
+pub all-left : (row : List ℕ) (at : ℕ) (text : List ℕ) → RestToPut row at text at row text
 all-left row at text = record { whole = λ w. w }
 
 module _ {before : List ℕ} {at : ℕ} {text : List ℕ} {next : ℕ} {now : List ℕ} where
-  pub nothing-left : Left before at text next now [] → Put before at text next now
+  pub nothing-left : RestToPut before at text next now [] → Put before at text next now
   nothing-left left = left .whole (put-none now next)
 
-  pub left-next : (one rest : List ℕ) → Left before at text next now (one ++ rest) → {next′ : ℕ} {now′ : List ℕ} → Put now next one next′ now′
-      → Left before at text next′ now′ rest
+  pub left-next : (one rest : List ℕ) → RestToPut before at text next now (one ++ rest) → {next′ : ℕ} {now′ : List ℕ} → Put now next one next′ now′
+      → RestToPut before at text next′ now′ rest
   left-next one rest left w = record { whole = λ v. left .whole (puts-join w v) }
 
 -- ---- a text that fits

@@ -7,19 +7,19 @@ use native.Mathlib.Numerals.{add-one}
 use native.Mathlib.Omega.{arith}
 use lib.ListN.{length, getD, take, drop, length-drop, drop-of-length-le}
 use lib.Seq.{drop-cons, drop-drop, getD-drop}
-use Rattle.text.specs.Reading.{firstWord, pastWord, inFront, wordsOf}
+use Rattle.text.specs.Reading.{firstWord, pastWord, inFront, splitWords}
 
 -- ---- the first word of some bytes, and those past it
 
-words-some : (bytes : List ℕ) → 0 < length bytes → wordsOf bytes ≡ firstWord bytes ∷ wordsOf (pastWord bytes)
-unfolding firstWord pastWord wordsOf
+words-some : (bytes : List ℕ) → 0 < length bytes → splitWords bytes ≡ firstWord bytes ∷ splitWords (pastWord bytes)
+unfolding firstWord pastWord splitWords
 words-some [] h = absurd (omega arith)
 words-some (zero ∷ bytes) h = refl
 words-some (suc b ∷ []) h = refl
 words-some (suc b ∷ d ∷ bytes) h = ap (inFront (suc b)) (words-some (d ∷ bytes) (omega arith))
 
-words-first : (bytes : List ℕ) → getD (wordsOf bytes) 0 [] ≡ firstWord bytes
-unfolding firstWord wordsOf
+words-first : (bytes : List ℕ) → getD (splitWords bytes) 0 [] ≡ firstWord bytes
+unfolding firstWord splitWords
 words-first [] = refl
 words-first (b ∷ bytes) = ap (λ (l : List (List ℕ)). getD l 0 []) (words-some (b ∷ bytes) (omega arith))
 
@@ -73,13 +73,13 @@ module _ (bytes : List ℕ) where
     pub end-inside : i ≤ length bytes → i + left i ≤ length bytes
     end-inside h = omega (arith, first-fits (drop i bytes), length-drop i bytes)
 
-    pub word-at : (index : ℕ) → wordsOf (drop i bytes) ≡ drop index (wordsOf bytes) → take (left i) (drop i bytes) ≡ getD (wordsOf bytes) index []
+    pub word-at : (index : ℕ) → splitWords (drop i bytes) ≡ drop index (splitWords bytes) → take (left i) (drop i bytes) ≡ getD (splitWords bytes) index []
     word-at index e =
         first-taken (drop i bytes)
         ∙ sym (words-first (drop i bytes))
         ∙ ap (λ (l : List (List ℕ)). getD l 0 []) e
-        ∙ getD-drop index (wordsOf bytes) 0 []
-        ∙ ap (λ (n : ℕ). getD (wordsOf bytes) n []) (add-zero index)
+        ∙ getD-drop index (splitWords bytes) 0 []
+        ∙ ap (λ (n : ℕ). getD (splitWords bytes) n []) (add-zero index)
 
     -- past its zero byte, or past the last byte
     past-is : drop (i + left i + 1) bytes ≡ pastWord (drop i bytes)
@@ -107,8 +107,8 @@ module _ (bytes : List ℕ) where
 pub record Begins (bytes : List ℕ) (i begin : ℕ) : Type 0 where
   pub counted : i ≤ begin
   pub inside : begin ≤ length bytes
-  pub some : i ≤ length (wordsOf bytes)
-  pub rest : wordsOf (drop begin bytes) ≡ drop i (wordsOf bytes)
+  pub some : i ≤ length (splitWords bytes)
+  pub rest : splitWords (drop begin bytes) ≡ drop i (splitWords bytes)
 
 pub begins-first : (bytes : List ℕ) → Begins bytes 0 0
 begins-first bytes = record { counted = omega arith; inside = omega arith; some = omega arith; rest = refl }
@@ -116,23 +116,23 @@ begins-first bytes = record { counted = omega arith; inside = omega arith; some 
 module _ {bytes : List ℕ} {i begin : ℕ} (b : Begins bytes i begin) where
   pub begins-next : begin < length bytes → {next : ℕ} → Next bytes begin next → Begins bytes (i + 1) next
   begins-next h {next} n =
-      let word : drop i (wordsOf bytes) ≡ firstWord (drop begin bytes) ∷ wordsOf (drop next bytes) =
+      let word : drop i (splitWords bytes) ≡ firstWord (drop begin bytes) ∷ splitWords (drop next bytes) =
       sym (b .rest) ∙ rw (n .1) (words-some (drop begin bytes) (omega (arith, length-drop begin bytes))) in
       record {
         counted = omega (arith, b .counted, n .0 .0);
         inside = n .0 .1;
-        some = omega (arith, ap length word, length-drop i (wordsOf bytes));
-        rest = sym (sym (drop-drop 1 i (wordsOf bytes)) ∙ ap (drop 1) word);
+        some = omega (arith, ap length word, length-drop i (splitWords bytes));
+        rest = sym (sym (drop-drop 1 i (splitWords bytes)) ∙ ap (drop 1) word);
       }
 
   -- all are passed
-  pub begins-none : length bytes ≤ begin → drop i (wordsOf bytes) ≡ []
-  unfolding wordsOf
+  pub begins-none : length bytes ≤ begin → drop i (splitWords bytes) ≡ []
+  unfolding splitWords
   begins-none h = sym (b .rest) ∙ rw (drop-of-length-le bytes {i = begin} h)
 
-  pub begins-count : length bytes ≤ begin → length (wordsOf bytes) ≡ i
-  begins-count h = omega (arith, b .some, ap length (begins-none h), length-drop i (wordsOf bytes))
+  pub begins-count : length bytes ≤ begin → length (splitWords bytes) ≡ i
+  begins-count h = omega (arith, b .some, ap length (begins-none h), length-drop i (splitWords bytes))
 
   -- and none is left from a later index on
-  pub begins-past : length bytes ≤ begin → (index : ℕ) → i ≤ index → wordsOf (drop begin bytes) ≡ drop index (wordsOf bytes)
-  begins-past h index le = b .rest ∙ begins-none h ∙ sym (drop-of-length-le (wordsOf bytes) {i = index} (omega (arith, begins-count h)))
+  pub begins-past : length bytes ≤ begin → (index : ℕ) → i ≤ index → splitWords (drop begin bytes) ≡ drop index (splitWords bytes)
+  begins-past h index le = b .rest ∙ begins-none h ∙ sym (drop-of-length-le (splitWords bytes) {i = index} (omega (arith, begins-count h)))

@@ -6,7 +6,7 @@ use Prim.Native.Nat.{ℕ}
 use Prim.Native.String.{String}
 use Rattle.refusal.specs.Outcomes.{outcome}
 use Rattle.text.specs.Text.{ascii, decimalWithin, decimal, whole, line}
-use Rattle.text.specs.Reading.{digitOf, allDigits, valueFrom, numberFrom, inBase, isHexadecimal, numberIn}
+use Rattle.text.specs.Reading.{digitOf, allDigits, valueFrom, numberFrom, inBase, isHexadecimal, parseNumber}
 use Rattle.modular.specs.Search.{greatest}
 use Rattle.modular.specs.Primes.{isPrime}
 use Rattle.modular.specs.Residues.{remainder, times}
@@ -21,11 +21,11 @@ use Rattle.tape.specs.Layout.{isLength, isHeader, isFreeOrNamed, allSteps, isEn
 use Rattle.encoding.specs.Encoding.{tapeOf, bytesOf, noTape, tapeIn}
 use Rattle.machine.specs.Machine.{apply, doAll, run}
 use Rattle.machine.specs.Exponents.{shift, shiftAll, inRange, allInRange, staysInRange}
-use Rattle.named.specs.Parameters.{badModulus, badOrder, unnamed}
+use Rattle.named.specs.Parameters.{badModulus, badOrder, badVariant}
 use Rattle.program.specs.Services.{buildOutcome, checkRules}
 use Rattle.program.specs.Door.{onTape}
 use Rattle.program.specs.Same.{sameWords}
-use Rattle.sequencer.specs.Services.{badRegister, badRegisters, allowed, badBase, baseRules, loadOutcome, travelRules, runOutcome, forwardOutcome, traceRules, traceOutcome, badCut, cutRules, cutOutcome}
+use Rattle.sequencer.specs.Services.{badRegister, badRegisters, allowed, badBase, baseRules, loadOutcome, positionRules, runOutcome, forwardOutcome, traceRules, traceOutcome, badCut, cutRules, cutOutcome}
 use Rattle.sequencer.specs.Lists.{afterAll, numbersAll, requestsOf}
 use Rattle.listing.specs.Listing.{stepLines}
 use Rattle.tool.specs.Verbs.{entries, names, rows, indexIn, rowNamed, variantIn, parameterIn}
@@ -87,5 +87,5 @@ examples =
     ∷ []
 
 pub examples-hold : AllHold examples
-unfolding reply askedBy numbersFrom parameterIn variantIn rowNamed indexIn names rows entries built tapeReply numberReply digitOf allDigits valueFrom numberFrom inBase isHexadecimal numberIn sameWords onTape decimalWithin decimal whole line outcome tapeIn noTape tapeOf bytesOf isLength isHeader isFreeOrNamed allSteps isEnd laidOut part decoded headingIn actionIn swapIn checkRules buildOutcome badModulus badOrder unnamed isPrime greatest gcd badExponent inverse inverseOutcome remainder times badRegister badRegisters allowed badBase loadOutcome baseRules travelRules traceRules runOutcome forwardOutcome traceOutcome badCut cutRules cutOutcome afterAll numbersAll requestsOf run doAll apply staysInRange allInRange inRange shiftAll shift stepLines fib lucas pad greedy zeckendorf placesFrom weighed arePlaces reaches firstFrom height hofstadterTo G fibonacciOutcome totalOutcome numberOutcome
+unfolding reply askedBy numbersFrom parameterIn variantIn rowNamed indexIn names rows entries built tapeReply numberReply digitOf allDigits valueFrom numberFrom inBase isHexadecimal parseNumber sameWords onTape decimalWithin decimal whole line outcome tapeIn noTape tapeOf bytesOf isLength isHeader isFreeOrNamed allSteps isEnd laidOut part decoded headingIn actionIn swapIn checkRules buildOutcome badModulus badOrder badVariant isPrime greatest gcd badExponent inverse inverseOutcome remainder times badRegister badRegisters allowed badBase loadOutcome baseRules positionRules traceRules runOutcome forwardOutcome traceOutcome badCut cutRules cutOutcome afterAll numbersAll requestsOf run doAll apply staysInRange allInRange inRange shiftAll shift stepLines fib lucas pad greedy zeckendorf placesFrom weighed arePlaces reaches firstFrom height hofstadterTo G fibonacciOutcome totalOutcome numberOutcome
 examples-hold = (refl, (refl, (refl, (refl, (refl, (refl, (refl, (refl, (refl, (refl, (refl, (refl, (refl, (refl, (refl, (refl, (refl, (refl, (refl, (refl, (refl, (refl, tt))))))))))))))))))))))

@@ -16,7 +16,7 @@ use Rattle.text.proofs.Laws.Quoting.{quoted-most}
 use Rattle.tool.specs.declared.Row.{Row}
 use Rattle.tool.specs.Verbs.{isVariant}
 use Rattle.tool.specs.Texts.{reasonFor, refusalLine, noVerbLine, fromText, countText, wrongCountLine, listed, variantsText, unreadText, unreadLine, lines, usage}
-use Rattle.tool.specs.Rows.{mostText, longestName}
+use Rattle.tool.specs.Rows.{maxText, longestName}
 
 -- of two texts, by a test
 either-most : (t : Bool) (a b : List ℕ) (most : ℕ) → length a ≤ most → length b ≤ most → length (cond t a b) ≤ most
@@ -63,7 +63,7 @@ refusal-most own n h =
 
 -- ---- complaints
 
-pub no-verb-most : (word : List ℕ) → length (noVerbLine word) ≤ mostText
+pub no-verb-most : (word : List ℕ) → length (noVerbLine word) ≤ maxText
 unfolding noVerbLine
 no-verb-most word =
     let told = ascii "fibexp: " ++ quoted word in
@@ -97,7 +97,7 @@ count-most least most h k =
     )
 
 pub wrong-count-most : (name : List ℕ) (row : Row) (given : ℕ) → length name ≤ longestName → row .least < 18446744073709551616
-    → row .most < 18446744073709551616 → given < 18446744073709551616 → length (wrongCountLine name row given) ≤ mostText
+    → row .most < 18446744073709551616 → given < 18446744073709551616 → length (wrongCountLine name row given) ≤ maxText
 unfolding wrongCountLine
 wrong-count-most name row given short h k g =
     let a = ascii "fibexp: " ++ name in
@@ -131,7 +131,7 @@ unread-text-most row place h =
     either-most (isVariant (row .verb) place) (ascii ": no variant; " ++ variantsText) (before ++ decimal (row .largest)) 100 no-variant-most
     (omega (arith, length-append before (decimal (row .largest)), decimal-64 (row .largest) h))
 
-pub unread-most : (word : List ℕ) (row : Row) (place : ℕ) → row .largest < 18446744073709551616 → length (unreadLine word row place) ≤ mostText
+pub unread-most : (word : List ℕ) (row : Row) (place : ℕ) → row .largest < 18446744073709551616 → length (unreadLine word row place) ≤ maxText
 unfolding unreadLine
 unread-most word row place h =
     let told = ascii "fibexp: " ++ quoted word in
@@ -145,6 +145,6 @@ unread-most word row place h =
       unread-text-most row place h,
     )
 
-pub usage-most : length usage ≤ mostText
+pub usage-most : length usage ≤ maxText
 unfolding usage lines variantsText listed decimal decimalWithin
-usage-most = leb-true (length usage) mostText refl
+usage-most = leb-true (length usage) maxText refl

@@ -10,7 +10,7 @@ use Rattle.text.specs.Rows.{Put}
 use Rattle.text.proofs.Laws.Decimal.{decimal-32, decimal-64}
 use Rattle.text.proofs.Laws.Puts.{puts-join}
 use Rattle.text.proofs.Laws.Lines.{put-word, put-last, line-length}
-use Rattle.tool.specs.Rows.{mostText}
+use Rattle.tool.specs.Rows.{maxText}
 
 -- a text, and what is put behind it with its end
 pub puts-then : {a b c : List ℕ} {at m n : ℕ} {vs : List ℕ} (ws us : List ℕ) → Put a at vs m b → Put b m (ws ++ us) n c → Put a at (vs ++ ws ++ us) n c
@@ -22,7 +22,7 @@ pub one-put : {a b c : List ℕ} {at m k : ℕ} (name : List ℕ) (n : ℕ) → 
     → Put a at (line (name ∷ decimal n ∷ [])) k c
 one-put name n v w = put-word name (decimal n) [] v (put-last (decimal n) w)
 
-pub one-short : (name : List ℕ) (n : ℕ) → length name ≤ 7 → n < 4294967296 → length (line (name ∷ decimal n ∷ [])) ≤ mostText
+pub one-short : (name : List ℕ) (n : ℕ) → length name ≤ 7 → n < 4294967296 → length (line (name ∷ decimal n ∷ [])) ≤ maxText
 one-short name n short h = omega (arith, line-length name (decimal n ∷ []), decimal-32 n h)
 
 pub two-put : {a b c d : List ℕ} {at l k p : ℕ} (name : List ℕ) (m n : ℕ) → Put a at (name ++ blank ∷ []) l b → Put b l (decimal m ++ blank ∷ []) k c
@@ -30,7 +30,7 @@ pub two-put : {a b c d : List ℕ} {at l k p : ℕ} (name : List ℕ) (m n : ℕ
 two-put name m n v w x = put-word name (decimal m) (decimal n ∷ []) v (one-put (decimal m) n w x)
 
 pub two-short : (name : List ℕ) (m n : ℕ) → length name ≤ 7 → m < 4294967296 → n < 4294967296
-    → length (line (name ∷ decimal m ∷ decimal n ∷ [])) ≤ mostText
+    → length (line (name ∷ decimal m ∷ decimal n ∷ [])) ≤ maxText
 two-short name m n short h k = omega (arith, line-length name (decimal m ∷ decimal n ∷ []), decimal-32 m h, decimal-32 n k)
 
 -- ---- exponents
@@ -47,5 +47,5 @@ four-put w x y z p q r s =
     (put-word (whole x) (whole y) (whole z ∷ []) q (put-word (whole y) (whole z) [] r (put-last (whole z) s)))
 
 pub four-short : (w x y z : ℤ) → length (whole w) ≤ 21 → length (whole x) ≤ 21 → length (whole y) ≤ 21 → length (whole z) ≤ 21
-    → length (line (map whole (w ∷ x ∷ y ∷ z ∷ []))) ≤ mostText
+    → length (line (map whole (w ∷ x ∷ y ∷ z ∷ []))) ≤ maxText
 four-short w x y z a b c d = omega (arith, line-length (whole w) (whole x ∷ whole y ∷ whole z ∷ []))

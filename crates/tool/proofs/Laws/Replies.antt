@@ -15,7 +15,7 @@ use Rattle.tape.specs.declared.Decoded.the-variants.{Heading, P, R, K, Action, 
 use Rattle.modular.specs.Inverses.{inverseOutcome}
 use Rattle.fibonacci.specs.Services.{fibonacciOutcome, numberOutcome}
 use Rattle.tape.specs.Words.{decoded}
-use Rattle.tape.specs.Layout.{mostWords, stepsOf, wordsOf}
+use Rattle.tape.specs.Layout.{maxWords, stepsOf, programWords}
 use Rattle.encoding.specs.Encoding.{bytesOf}
 use Rattle.named.specs.Named.{namedWords}
 use Rattle.program.specs.Services.{buildOutcome, checkOutcome, acceptOutcome}
@@ -69,7 +69,7 @@ unfolding usage lines
 some-usage = omega arith
 
 some-words : (p r k variant : ℕ) → 0 < length (bytesOf (namedWords p r k variant))
-unfolding wordsOf bytesOf
+unfolding programWords bytesOf
 some-words p r k variant = omega arith
 
 some-listing : (o : Outcome Header) (steps : List Step) → 0 < length (linesFor o steps)
@@ -109,7 +109,7 @@ on-tape-some Play own v tape tapes = some-line _
 built-some : (own : ℕ) (v : List ℕ) → 0 < length (built own v .text)
 unfolding built
 built-some own v =
-    some-printed own (buildOutcome (at v 0) (at v 1) (at v 2) (at v 3) mostWords) (λ (n : ℕ). bytesOf (namedWords (at v 0) (at v 1) (at v 2) (at v 3))) (λ n. some-words (at v 0) (at v 1) (at v 2) (at v 3))
+    some-printed own (buildOutcome (at v 0) (at v 1) (at v 2) (at v 3) maxWords) (λ (n : ℕ). bytesOf (namedWords (at v 0) (at v 1) (at v 2) (at v 3))) (λ n. some-words (at v 0) (at v 1) (at v 2) (at v 3))
 
 means-some : (verb : Verb) (own : ℕ) (v tape tapes : List ℕ) → 0 < length (means verb own v tape tapes .text)
 means-some Unknown own v tape tapes = some-usage

@@ -10,7 +10,7 @@ use lib.ListN.{length, getD, drop, drop-of-length-le, List·getD-eq-default}
 use Rattle.refusal.proofs.Laws.Tests.{test-false, by-test, both}
 use Rattle.text.specs.declared.Parsed.{Parsed}
 use Rattle.text.specs.declared.Parsed.the-variants.{Number, NoNumber}
-use Rattle.text.specs.Reading.{Small, numberIn}
+use Rattle.text.specs.Reading.{Small, parseNumber}
 use Rattle.text.proofs.Laws.Digits.{number-small}
 use Rattle.encoding.proofs.Laws.Tapes.{drop-next}
 use Rattle.named.specs.Named.{variantNames}
@@ -23,7 +23,7 @@ use Rattle.tool.specs.declared.ScriptVerb.the-variants.{Tape, Append, Ch
 use Rattle.tool.specs.declared.Verb.{Verb}
 use Rattle.tool.specs.declared.Verb.the-variants.{Unknown, Build, Script, Help, Version, OnTape, OnNumbers, InScript}
 use Rattle.tool.specs.declared.Row.{Row}
-use Rattle.tool.specs.Verbs.{mostParameters, largest32, largest64, entries, names, rows, indexIn, noRow, rowNamed, isHidden, limitOn, limitIn, limitOf, isVariant, variantIn, parameterIn}
+use Rattle.tool.specs.Verbs.{maxParameters, largest32, largest64, entries, names, rows, indexIn, noRow, rowNamed, isHidden, limitOn, limitIn, limitOf, isVariant, variantIn, parameterIn}
 use Rattle.tool.specs.Rows.{longestName}
 
 -- ---- where a name stands
@@ -78,7 +78,7 @@ row-test test (row ∷ rows) all none (suc i) = row-test test rows (both (test r
 
 -- no row lets a larger number in than its verb can do with, nor more parameters than there is room for
 abbrev isLimited : Row → Bool
-isLimited row = leb (row .largest) (limitOf (row .verb)) && (leb (row .least) mostParameters && leb (row .most) mostParameters)
+isLimited row = leb (row .largest) (limitOf (row .verb)) && (leb (row .least) maxParameters && leb (row .most) maxParameters)
 
 limited : (name : List ℕ) → isLimited (rowNamed name) ≡ true
 unfolding rowNamed rows entries
@@ -88,16 +88,16 @@ three : (a b c : Bool) → a && (b && c) ≡ true → (a ≡ true) × (b ≡ tru
 three a b c e = let p = both a (b && c) e in let q = both b c (p .1) in (p .0, q .0, q .1)
 
 module _ (name : List ℕ) where
-  tests : (leb (rowNamed name .largest) (limitOf (rowNamed name .verb)) ≡ true) × (leb (rowNamed name .least) mostParameters ≡ true) × (leb (rowNamed name .most) mostParameters ≡ true)
+  tests : (leb (rowNamed name .largest) (limitOf (rowNamed name .verb)) ≡ true) × (leb (rowNamed name .least) maxParameters ≡ true) × (leb (rowNamed name .most) maxParameters ≡ true)
   tests = three _ _ _ (limited name)
 
   pub row-largest : rowNamed name .largest ≤ limitOf (rowNamed name .verb)
   row-largest = leb-true _ _ (tests .0)
 
-  pub row-least : rowNamed name .least ≤ mostParameters
+  pub row-least : rowNamed name .least ≤ maxParameters
   row-least = leb-true _ _ (tests .1)
 
-  pub row-most : rowNamed name .most ≤ mostParameters
+  pub row-most : rowNamed name .most ≤ maxParameters
   row-most = leb-true _ _ (tests .2)
 
 -- ---- the names are short
@@ -195,4 +195,4 @@ unfolding parameterIn
 parameter-small row place word h =
     by-test (isVariant (row .verb) place)
     (λ yes. rw (yes, variant-limit (row .verb) place yes) (variant-small word))
-    (λ no. rw no (weaker (row .largest) (limitOf (row .verb)) (numberIn (row .largest) word) h (number-small (row .largest) word)))
+    (λ no. rw no (weaker (row .largest) (limitOf (row .verb)) (parseNumber (row .largest) word) h (number-small (row .largest) word)))

@@ -20,7 +20,7 @@ abbrev μ-loop : tie.MeasureT-loop
 loop-holds : tie.Need-loop-holds Inv-loop μ-loop
 loop-holds c = setting-starts _ _ (omega arith) (c .before .zeckendorf .ensures .0)
 
--- in the loop, the row holds the list of n at the index before i
+-- in the loop, the buffer holds the list of n at the index before i
 index : (c : tie.In-loop Inv-loop μ-loop) → c .before .loop .i - 1 < length (placesOf (c .before .before .before .before .args .n))
 index c = omega (arith, c .before .loop .inv .within)
 

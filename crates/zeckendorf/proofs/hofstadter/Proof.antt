@@ -34,7 +34,7 @@ loop-holds c = rw (c .before .zeckendorf .ensures .0) (summing-starts fib _)
 index : (c : tie.In-loop Inv-loop μ-loop) → c .before .loop .i - 1 < length (placesOf (c .before .before .before .before .args .n))
 index c = omega (arith, c .before .loop .inv .within, c .loop-test .taken)
 
--- and the row holds the list there
+-- and the buffer holds the list there
 place : (c : tie.In-loop Inv-loop μ-loop)
     → getD (c .before .before .before .zeckendorf .result .places) (c .before .loop .i - 1) 0 ≡ getD (placesOf (c .before .before .before .before .args .n)) (c .before .loop .i - 1) 0
 place c =
@@ -46,23 +46,23 @@ place-small c =
     let n = c .before .before .before .before .args .n in
     omega (arith, place c, places-at 92 (placesOf n) (c .before .loop .i - 1) (zeckendorf-places-64 n (omega arith)) (index c))
 
-array-read-climb : tie.Need-array-read-climb Inv-loop μ-loop
-array-read-climb c = omega (arith, index c, zeckendorf-count-64 (c .before .before .before .before .args .n) (omega arith))
+array-read-ascend-to : tie.Need-array-read-ascend-to Inv-loop μ-loop
+array-read-ascend-to c = omega (arith, index c, zeckendorf-count-64 (c .before .before .before .before .args .n) (omega arith))
 
-cast-climb : tie.Need-cast-climb Inv-loop μ-loop
-cast-climb c = omega (arith, place-small c)
+cast-ascend-to : tie.Need-cast-ascend-to Inv-loop μ-loop
+cast-ascend-to c = omega (arith, place-small c)
 
-climb-requires : tie.Need-climb-requires Inv-loop μ-loop
-climb-requires c κs = (c .before .loop .inv .weighs, (omega (arith, place c, c .before .loop .inv .ahead (c .loop-test .taken)), place-small c))
+ascend-to-requires : tie.Need-ascend-to-requires Inv-loop μ-loop
+ascend-to-requires c κs = (c .before .loop .inv .weighs, (omega (arith, place c, c .before .loop .inv .ahead (c .loop-test .taken)), place-small c))
 
--- `climb` comes to the place at index i - 1, below which is F of it
-reaches : (c : tie.After-climb Inv-loop μ-loop)
-    → c .climb .result .place ≡ getD (placesOf (c .before .before .before .before .before .args .n)) (c .before .before .loop .i - 1) 0
-reaches c = c .climb .ensures .1 ∙ place (c .before)
+-- `ascend_to` comes to the place at index i - 1, below which is F of it
+reaches : (c : tie.After-ascend-to Inv-loop μ-loop)
+    → c .ascend-to .result .place ≡ getD (placesOf (c .before .before .before .before .before .args .n)) (c .before .before .loop .i - 1) 0
+reaches c = c .ascend-to .ensures .1 ∙ place (c .before)
 
-weighs : (c : tie.After-climb Inv-loop μ-loop)
-    → c .climb .result .below ≡ fib (getD (placesOf (c .before .before .before .before .before .args .n)) (c .before .before .loop .i - 1) 0)
-weighs c = c .climb .ensures .0 .below-is ∙ ap fib (reaches c)
+weighs : (c : tie.After-ascend-to Inv-loop μ-loop)
+    → c .ascend-to .result .below ≡ fib (getD (placesOf (c .before .before .before .before .before .args .n)) (c .before .before .loop .i - 1) 0)
+weighs c = c .ascend-to .ensures .0 .below-is ∙ ap fib (reaches c)
 
 add-sum : tie.Need-add-sum Inv-loop μ-loop
 add-sum c =
@@ -73,7 +73,7 @@ loop-again : tie.Need-loop-again Inv-loop μ-loop
 loop-again c =
     let n = c .before .before .before .before .before .before .args .n in
     let called = c .before in
-    summing-next 92 (zeckendorf-places-64 n (omega arith)) (c .before .before .before .loop .inv) (c .before .before .loop-test .taken) (called .climb .ensures .0) (reaches called) (weighs called)
+    summing-next 92 (zeckendorf-places-64 n (omega arith)) (c .before .before .before .loop .inv) (c .before .before .loop-test .taken) (called .ascend-to .ensures .0) (reaches called) (weighs called)
 
 returns : tie.Need-returns Inv-loop μ-loop
 returns c = summing-ends (c .before .loop .inv) (c .loop-test .left) ∙ sum-is _
@@ -87,9 +87,9 @@ hofstadter-spec =
     (λ c κs. search needs)
     loop-holds
     (λ c. search needs)
-    array-read-climb
-    cast-climb
-    climb-requires
+    array-read-ascend-to
+    cast-ascend-to
+    ascend-to-requires
     add-sum
     (λ c. search needs)
     loop-again

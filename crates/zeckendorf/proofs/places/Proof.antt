@@ -1,4 +1,4 @@
--- `places` meets its contract: the count is known before the row is written, and the row's front is the list of n.
+-- `places` meets its contract: the count is known before the buffer is written, and the buffer's front is the list of n.
 use mathlib.Core.Path.{_≡_, sym, ap, _∙_}
 use mathlib.Core.List.{List, [], _++_}
 use Prim.Native.Nat.{ℕ, _≤_, _<_}
@@ -9,7 +9,7 @@ use lib.ListN.{length, take, drop, length-append}
 use lib.Seq.{take-at, take-length}
 use Rattle.refusal.specs.declared.Refusal.the-variants.{Room}
 use Rattle.refusal.specs.Outcomes.{refused, answered, gives, passes, answers, row-kept, row-written}
-use Rattle.fibonacci.specs.Services.{placesOf, formRow, placesOutcome, placesRow}
+use Rattle.fibonacci.specs.Services.{placesOf, formRow, placesOutcome, placesBuffer}
 use Rattle.zeckendorf.proofs.places.Statement.{statement}
 use Rattle.zeckendorf.proofs.places.Tie as tie
 
@@ -21,25 +21,25 @@ enough : (n room : ℕ) → length (placesOf n) ≤ room → placesOutcome n roo
 unfolding placesOutcome
 enough n room h = passes Room [] (length (placesOf n)) (le-ltb room (length (placesOf n)) h) ∙ answers (length (placesOf n))
 
--- the list stands at the front of the row that holds the form
-front : (n count : ℕ) (row : List ℕ) → count ≡ length (placesOf n) → row ≡ formRow n → take count row ≡ placesOf n
-front n count row e f = rw f (take-at (placesOf n) _ count (sym e))
+-- the list stands at the front of the buffer that holds the form
+front : (n count : ℕ) (buffer : List ℕ) → count ≡ length (placesOf n) → buffer ≡ formRow n → take count buffer ≡ placesOf n
+front n count buffer e f = rw f (take-at (placesOf n) _ count (sym e))
 
--- what copying a list into a row leaves there
-copied : {src after : List ℕ} (list row : List ℕ) → src ≡ list → after ≡ take (length src) src ++ drop (length src) row → after ≡ list ++ drop (length list) row
-copied list row e f = f ∙ rw e (ap (λ (l : List ℕ). l ++ drop (length list) row) (take-length list))
+-- what copying a list into a buffer leaves there
+copied : {src after : List ℕ} (list buffer : List ℕ) → src ≡ list → after ≡ take (length src) src ++ drop (length src) buffer → after ≡ list ++ drop (length list) buffer
+copied list buffer e f = f ∙ rw e (ap (λ (l : List ℕ). l ++ drop (length list) buffer) (take-length list))
 
--- what the form's row holds up to its count
+-- what the form's buffer holds up to its count
 listed : (c : tie.After-zeckendorf) → take (c .zeckendorf .result .count) (c .zeckendorf .result .places) ≡ placesOf (c .before .before .args .n)
 listed c = front _ _ _ (c .zeckendorf .ensures .0) (c .zeckendorf .ensures .1)
 
 returns : tie.Need-returns
-unfolding placesRow
+unfolding placesBuffer
 returns c =
     let n = c .before .before .before .before .args .n in
-    let row = c .before .before .before .before .args .row .now in
-    let e = short n (length row) (omega (arith, c .before .before .zeckendorf .ensures .0)) in
-    (sym e, sym (row-kept (placesOf n) row e))
+    let buffer = c .before .before .before .before .args .buffer .now in
+    let e = short n (length buffer) (omega (arith, c .before .before .zeckendorf .ensures .0)) in
+    (sym e, sym (row-kept (placesOf n) buffer e))
 
 array-share-prefix-list : tie.Need-array-share-prefix-list
 array-share-prefix-list c =
@@ -53,14 +53,14 @@ copy-requires : tie.Need-copy-requires
 copy-requires c κs = omega (arith, c .before .before .before .before .zeckendorf .ensures .0, ap length (listed (c .before .before .before .before)))
 
 returns-2 : tie.Need-returns-2
-unfolding placesRow
+unfolding placesBuffer
 returns-2 c =
     let z = c .before .before .before .before .before .before .before in
     let n = z .before .before .args .n in
-    let row = z .before .before .args .row .now in
-    let e = enough n (length row) (omega (arith, z .zeckendorf .ensures .0)) in
+    let buffer = z .before .before .args .buffer .now in
+    let e = enough n (length buffer) (omega (arith, z .zeckendorf .ensures .0)) in
     let w = c .before .before .copy .ensures .1 in
-    (ap answered (z .zeckendorf .ensures .0) ∙ sym e, copied (placesOf n) row (listed z) w ∙ sym (row-written (placesOf n) row e))
+    (ap answered (z .zeckendorf .ensures .0) ∙ sym e, copied (placesOf n) buffer (listed z) w ∙ sym (row-written (placesOf n) buffer e))
 
 pub places-spec : {M : Type 1} → statement M
 places-spec =

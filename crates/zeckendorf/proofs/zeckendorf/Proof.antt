@@ -4,13 +4,13 @@ use mathlib.Core.Path.{_≡_}
 use Prim.Native.Nat.{_-_, _<_}
 use native.Mathlib.Omega.{arith}
 use borrow.Author.Needs.{needs}
-use Rattle.fibonacci.specs.Weights.{Weighs}
+use Rattle.fibonacci.specs.Inner.Weights.{IsWeight}
 use Rattle.fibonacci.proofs.Laws.Taking.{Taking, taking-starts, taking-room, taking-takes, taking-skips, taking-ends}
 use Rattle.zeckendorf.proofs.zeckendorf.Statement.{statement}
 use Rattle.zeckendorf.proofs.zeckendorf.Tie as tie
 
 abbrev Inv-loop : tie.InvT-loop
-Inv-loop n places₀ count₀ rest₀ at₀ places count rest at = Weighs at × Taking n places count rest (at .place)
+Inv-loop n places₀ count₀ rest₀ at₀ places count rest at = IsWeight at × Taking n places count rest (at .place)
 
 abbrev μ-loop : tie.MeasureT-loop
 μ-loop n places₀ count₀ rest₀ at₀ places count rest at = at .place

@@ -7,16 +7,16 @@ use lib.Seq.{take-all}
 use Rattle.refusal.specs.Rows.{Wrote}
 use Rattle.refusal.proofs.Laws.Rows.{wrote-none, wrote-room, wrote-next, wrote-length}
 use Rattle.named.specs.Generators.{ascend}
-use Rattle.program.specs.Writing.{ascendWords}
+use Rattle.program.specs.Inner.Writing.{ascendWords}
 use Rattle.program.proofs.Laws.Writing.{ascend-next, ascend-total}
 use Rattle.building.proofs.writer.ascend.Statement.{statement}
 use Rattle.building.proofs.writer.ascend.Tie as tie
 
 abbrev Inv-loop : tie.InvT-loop
-Inv-loop row₀ at firsts seconds next₀ i₀ row next i = (i ≤ length firsts) × Wrote row₀ at (ascendWords (take i firsts) (take i seconds)) next row
+Inv-loop buffer₀ at firsts seconds next₀ i₀ buffer next i = (i ≤ length firsts) × Wrote buffer₀ at (ascendWords (take i firsts) (take i seconds)) next buffer
 
 abbrev μ-loop : tie.MeasureT-loop
-μ-loop row₀ at firsts seconds next₀ i₀ row next i = length firsts - i
+μ-loop buffer₀ at firsts seconds next₀ i₀ buffer next i = length firsts - i
 
 loop-holds : tie.Need-loop-holds Inv-loop μ-loop
 unfolding ascend

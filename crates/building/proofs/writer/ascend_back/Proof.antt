@@ -7,21 +7,21 @@ use lib.ListN.{length, drop}
 use lib.Seq.{drop-length}
 use Rattle.refusal.specs.Rows.{Wrote}
 use Rattle.refusal.proofs.Laws.Rows.{wrote-none, wrote-room, wrote-next, wrote-length}
-use Rattle.machine.specs.Machine.{back}
+use Rattle.machine.specs.Machine.{inverted}
 use Rattle.named.specs.Generators.{ascend}
-use Rattle.program.specs.Writing.{ascendBackWords}
+use Rattle.program.specs.Inner.Writing.{ascendBackWords}
 use Rattle.program.proofs.Laws.Writing.{ascend-back-next, ascend-back-total}
 use Rattle.building.proofs.writer.ascend_back.Statement.{statement}
 use Rattle.building.proofs.writer.ascend_back.Tie as tie
 
 abbrev Inv-loop : tie.InvT-loop
-Inv-loop row₀ at firsts seconds next₀ i₀ row next i = (i ≤ length firsts) × Wrote row₀ at (ascendBackWords (drop i firsts) (drop i seconds)) next row
+Inv-loop buffer₀ at firsts seconds next₀ i₀ buffer next i = (i ≤ length firsts) × Wrote buffer₀ at (ascendBackWords (drop i firsts) (drop i seconds)) next buffer
 
 abbrev μ-loop : tie.MeasureT-loop
-μ-loop row₀ at firsts seconds next₀ i₀ row next i = i
+μ-loop buffer₀ at firsts seconds next₀ i₀ buffer next i = i
 
 loop-holds : tie.Need-loop-holds Inv-loop μ-loop
-unfolding ascend back
+unfolding ascend inverted
 loop-holds c =
     let a = c .before .before .before in
     (omega arith, rw (drop-length (a .args .firsts .now)) (wrote-none _ _))

@@ -8,16 +8,16 @@ use lib.Seq.{drop-length}
 use Rattle.refusal.specs.Rows.{Wrote}
 use Rattle.refusal.proofs.Laws.Rows.{wrote-none, wrote-room, wrote-next, wrote-length}
 use Rattle.named.specs.Generators.{descend}
-use Rattle.program.specs.Writing.{descendWords}
+use Rattle.program.specs.Inner.Writing.{descendWords}
 use Rattle.program.proofs.Laws.Writing.{descend-next, descend-total}
 use Rattle.building.proofs.writer.descend.Statement.{statement}
 use Rattle.building.proofs.writer.descend.Tie as tie
 
 abbrev Inv-loop : tie.InvT-loop
-Inv-loop row₀ at bits next₀ i₀ row next i = (i ≤ length bits) × Wrote row₀ at (descendWords (drop i bits)) next row
+Inv-loop buffer₀ at bits next₀ i₀ buffer next i = (i ≤ length bits) × Wrote buffer₀ at (descendWords (drop i bits)) next buffer
 
 abbrev μ-loop : tie.MeasureT-loop
-μ-loop row₀ at bits next₀ i₀ row next i = i
+μ-loop buffer₀ at bits next₀ i₀ buffer next i = i
 
 loop-holds : tie.Need-loop-holds Inv-loop μ-loop
 unfolding descend

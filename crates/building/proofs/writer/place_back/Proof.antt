@@ -4,7 +4,7 @@ use borrow.Author.Needs.{needs}
 use lib.ListN.{length-append}
 use Rattle.tape.specs.declared.Step.the-variants.{Div}
 use Rattle.tape.specs.Words.{stepWord}
-use Rattle.program.specs.Writing.{chosen}
+use Rattle.program.specs.Inner.Writing.{chosen}
 use Rattle.refusal.proofs.Laws.Rows.{wrote-more, wrote-length}
 use Rattle.program.proofs.Laws.Writing.{back-words, back-length}
 use Rattle.building.proofs.writer.place_back.Statement.{statement}

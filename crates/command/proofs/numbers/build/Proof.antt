@@ -1,23 +1,23 @@
--- `numbers::build` meets its contract: what build answers stands in the row's front, and its bytes are put.
+-- `numbers::build` meets its contract: what build answers stands in the buffer's front, and its bytes are put.
 use mathlib.Core.Path.{_≡_, refl, sym, ap, _∙_}
 use Prim.Native.Nat.{_≤_}
 use native.Mathlib.Omega.{arith}
 use lib.ListN.{length, take}
 use lib.Seq.{length-take-le}
 use Rattle.refusal.specs.Outcomes.{answered, numberOutcomeOf}
-use Rattle.tape.specs.Layout.{mostWords}
+use Rattle.tape.specs.Layout.{maxWords}
 use Rattle.encoding.specs.Encoding.{bytesOf}
 use Rattle.encoding.proofs.Laws.Bytes.{bytes-length}
 use Rattle.named.specs.Named.{namedWords}
 use Rattle.program.specs.Services.{buildOutcome}
 use Rattle.program.proofs.Laws.Checking.{build-count, build-words}
 use Rattle.tool.specs.Replies.{built}
-use Rattle.tool.specs.Rows.{mostText}
+use Rattle.tool.specs.Rows.{maxText}
 use borrow.Author.Needs.{needs}
 use Rattle.command.proofs.numbers.build.Statement.{statement}
 use Rattle.command.proofs.numbers.build.Tie as tie
 
-made : (c : tie.After-answer) → buildOutcome (c .before .before .before .before .before .before .before .before .small .result) (c .before .before .before .before .before .before .before .small2 .result) (c .before .before .before .before .before .before .small3 .result) (c .before .before .before .before .before .small4 .result) mostWords ≡ answered (c .answer .given .0 .0)
+made : (c : tie.After-answer) → buildOutcome (c .before .before .before .before .before .before .before .before .small .result) (c .before .before .before .before .before .before .before .small2 .result) (c .before .before .before .before .before .before .small3 .result) (c .before .before .before .before .before .small4 .result) maxWords ≡ answered (c .answer .given .0 .0)
 made c = sym (c .before .before .before .build .ensures .0) ∙ ap numberOutcomeOf (c .answer .given .1)
 
 words : (c : tie.After-answer)
@@ -28,7 +28,7 @@ fits : (c : tie.After-answer) → c .answer .given .0 .0 ≤ length (c .before .
 fits c = omega (arith, build-count _ _ _ _ _ _ (made c) .1, c .before .before .before .build .kept .1 .1 .1 .1 .0)
 
 -- the bytes of no tape are more than the most text
-short : (c : tie.After-answer) → length (bytesOf (namedWords (c .before .before .before .before .before .before .before .before .small .result) (c .before .before .before .before .before .before .before .small2 .result) (c .before .before .before .before .before .before .small3 .result) (c .before .before .before .before .before .small4 .result))) ≤ mostText
+short : (c : tie.After-answer) → length (bytesOf (namedWords (c .before .before .before .before .before .before .before .before .small .result) (c .before .before .before .before .before .before .before .small2 .result) (c .before .before .before .before .before .before .small3 .result) (c .before .before .before .before .before .small4 .result))) ≤ maxText
 short c = rw (← words c, bytes-length (take (c .answer .given .0 .0) (c .before .before .before .build .last .1 .1 .1 .1 .0))) (omega (arith, length-take-le (c .answer .given .0 .0) (c .before .before .before .build .last .1 .1 .1 .1 .0) (fits c), build-count _ _ _ _ _ _ (made c) .1))
 
 array-share-prefix-row : tie.Need-array-share-prefix-row

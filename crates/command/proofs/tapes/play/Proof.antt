@@ -8,7 +8,7 @@ use lib.ListN.{length, take, drop, length-drop}
 use lib.Seq.{length-take-le}
 use Rattle.refusal.proofs.Laws.Rows.{wrote-taken, wrote-length}
 use Rattle.sequencer.specs.Lists.{requestsOf}
-use Rattle.tool.specs.Verbs.{mostParameters}
+use Rattle.tool.specs.Verbs.{maxParameters}
 use Rattle.tool.specs.Replies.{registersIn, runsTold}
 use Rattle.command.proofs.Laws.Runs.{runs-told}
 use borrow.Author.Needs.{needs}
@@ -30,7 +30,7 @@ module _ (c : tie.After-past-registers) where
   requests : c .past-registers .result .now ≡ drop 4 values
   requests = c .past-registers .ensures ∙ ap (drop 4) (taken (c .before .before .before))
 
-  few : length (c .past-registers .result .now) ≤ mostParameters
+  few : length (c .past-registers .result .now) ≤ maxParameters
   few = omega (arith, ap length requests, length-drop 4 values)
 
 runs-requires : tie.Need-runs-requires
@@ -38,7 +38,7 @@ runs-requires c κs = omega (arith, few (c .before .before))
 
 -- the row has room for what is told, which stands at its front
 module _ (c : tie.After-runs) where
-  size : c .runs .result ≤ mostParameters
+  size : c .runs .result ≤ maxParameters
   size = omega (arith, c .runs .ensures .1, few (c .before .before .before))
 
   abbrev tapes : List ℕ

@@ -1,4 +1,4 @@
--- `words::heading_in` meets its contract: each return is a case of `headingIn` by its tests.
+-- `payloads::heading_in` meets its contract: each return is a case of `headingIn` by its tests.
 use mathlib.Core.Path.{sym}
 use Rattle.tape.proofs.Laws.Payloads.{heading-good, heading-format, heading-high}
 use Rattle.decoding.proofs.payloads.heading_in.Statement.{statement}

@@ -1,4 +1,4 @@
--- `words::swap_in` meets its contract: each return is a case of `swapIn` by its tests.
+-- `payloads::swap_in` meets its contract: each return is a case of `swapIn` by its tests.
 use mathlib.Core.Path.{sym}
 use Rattle.tape.proofs.Laws.Payloads.{swap-good, swap-high, swap-order}
 use Rattle.decoding.proofs.payloads.swap_in.Statement.{statement}

@@ -1,4 +1,4 @@
--- `words::is_step` meets its contract: its tests are the parts of the shape of a step's word, and a word means a step where it has that shape.
+-- `steps::is_step` meets its contract: its tests are the parts of the shape of a step's word, and a word means a step where it has that shape.
 use mathlib.Core.Path.{sym, _∙_}
 use native.Mathlib.Omega.{arith}
 use Prim.Native.Nat.{_-_}

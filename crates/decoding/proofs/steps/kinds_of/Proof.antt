@@ -1,4 +1,4 @@
--- `words::kinds_of` meets its contract: each return is a case of the definition by its tests.
+-- `steps::kinds_of` meets its contract: each return is a case of the definition by its tests.
 use mathlib.Core.Path.{sym}
 use native.Mathlib.Nat.{le-antisymm}
 use Rattle.tape.proofs.Laws.Shapes.{kinds-below, kinds-above, kinds-none}

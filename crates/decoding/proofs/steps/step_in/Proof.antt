@@ -1,4 +1,4 @@
--- `words::step_in` meets its contract: a step's word has its registers in its payload, and its kind says which step.
+-- `steps::step_in` meets its contract: a step's word has its registers in its payload, and its kind says which step.
 use mathlib.Core.Path.{sym}
 use Rattle.tape.proofs.Laws.Shapes.{step-shape, kind-7, means-5, means-6, means-7}
 use Rattle.decoding.proofs.steps.step_in.Statement.{statement}

@@ -6,18 +6,18 @@ use native.Mathlib.Omega.{arith}
 use borrow.Author.Needs.{needs}
 use lib.ListN.{length, drop, length-set}
 use Rattle.text.specs.Rows.{Put}
-use Rattle.text.proofs.Laws.Puts.{Left, all-left, nothing-left, left-next, put-one, put-length}
+use Rattle.text.proofs.Laws.Puts.{RestToPut, all-left, nothing-left, left-next, put-one, put-length}
 use Rattle.encoding.specs.Encoding.{tapeOf}
 use Rattle.encoding.proofs.Laws.Tapes.{tape-next, tape-end}
 use Rattle.encoding.proofs.words.words.Statement.{statement}
 use Rattle.encoding.proofs.words.words.Tie as tie
 
 abbrev Inv-loop : tie.InvT-loop
-Inv-loop bytes row₀ count i₀ row i =
-    (i ≤ length bytes / 4) × (length row ≡ length row₀) × Left row₀ 0 (tapeOf bytes) i row (tapeOf (drop (4 * i) bytes))
+Inv-loop bytes buffer₀ count i₀ buffer i =
+    (i ≤ length bytes / 4) × (length buffer ≡ length buffer₀) × RestToPut buffer₀ 0 (tapeOf bytes) i buffer (tapeOf (drop (4 * i) bytes))
 
 abbrev μ-loop : tie.MeasureT-loop
-μ-loop bytes row₀ count i₀ row i = length bytes / 4 - i
+μ-loop bytes buffer₀ count i₀ buffer i = length bytes / 4 - i
 
 loop-holds : tie.Need-loop-holds Inv-loop μ-loop
 loop-holds c = (omega arith, refl, all-left _ _ _)
@@ -46,14 +46,14 @@ add-word-3 c = omega arith
 shared-slice-read-word-4 : tie.Need-shared-slice-read-word-4 Inv-loop μ-loop
 shared-slice-read-word-4 c = omega arith
 
-mul-row : tie.Need-mul-row Inv-loop μ-loop
-mul-row c = omega arith
+mul-buffer : tie.Need-mul-buffer Inv-loop μ-loop
+mul-buffer c = omega arith
 
 -- the word of the next four bytes comes next
 coming : (c : tie.After-word Inv-loop μ-loop)
     → let l = c .before .before .before .before .before .before in
     let a = l .before .before .before .args in
-    Left (a .row .now) 0 (tapeOf (a .bytes .now)) (l .loop .i) (l .loop .row) (c .word .result ∷ tapeOf (drop (4 * (l .loop .i + 1)) (a .bytes .now)))
+    RestToPut (a .buffer .now) 0 (tapeOf (a .bytes .now)) (l .loop .i) (l .loop .buffer) (c .word .result ∷ tapeOf (drop (4 * (l .loop .i + 1)) (a .bytes .now)))
 coming c =
     let l = c .before .before .before .before .before .before in
     let bytes = l .before .before .before .args .bytes .now in
@@ -61,13 +61,13 @@ coming c =
     rw (c .word .ensures, ← next, ← tape-next bytes (4 * l .loop .i) (omega arith)) (l .loop .inv .2)
 
 -- there is room for it
-room : (c : tie.After-word Inv-loop μ-loop) → let l = c .before .before .before .before .before .before in l .loop .i < length (l .loop .row)
+room : (c : tie.After-word Inv-loop μ-loop) → let l = c .before .before .before .before .before .before in l .loop .i < length (l .loop .buffer)
 room c =
     let l = c .before .before .before .before .before .before in
     omega (arith, l .before .before .before .pre, l .loop .inv .1)
 
-slice-write-row : tie.Need-slice-write-row Inv-loop μ-loop
-slice-write-row c = room c
+slice-write-buffer : tie.Need-slice-write-buffer Inv-loop μ-loop
+slice-write-buffer c = room c
 
 add-i : tie.Need-add-i Inv-loop μ-loop
 add-i c = omega arith
@@ -84,7 +84,7 @@ loop-again c =
     )
 
 done : (c : tie.After-loop Inv-loop μ-loop) → let a = c .before .before .before .before .args in
-    Put (a .row .now) 0 (tapeOf (a .bytes .now)) (c .before .loop .i) (c .before .loop .row)
+    Put (a .buffer .now) 0 (tapeOf (a .bytes .now)) (c .before .loop .i) (c .before .loop .buffer)
 done c =
     let bytes = c .before .before .before .before .args .bytes .now in
     nothing-left (rw (tape-end bytes (4 * c .before .loop .i) (omega arith)) at (c .before .loop .inv .2))
@@ -111,8 +111,8 @@ words-spec =
     add-word-3
     shared-slice-read-word-4
     (λ c κs. search needs)
-    mul-row
-    slice-write-row
+    mul-buffer
+    slice-write-buffer
     add-i
     loop-less
     loop-again

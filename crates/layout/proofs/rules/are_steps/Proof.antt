@@ -1,4 +1,4 @@
--- `layout::are_steps` meets its contract: the test of all words is the test of those that are left.
+-- `rules::are_steps` meets its contract: the test of all words is the test of those that are left.
 use mathlib.Core.Path.{_≡_, refl, sym, _∙_}
 use Prim.Native.Nat.{_-_}
 use borrow.Author.Needs.{needs}

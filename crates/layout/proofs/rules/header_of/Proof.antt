@@ -1,4 +1,4 @@
--- `layout::header_of` meets its contract: each field is what the word at its place holds.
+-- `rules::header_of` meets its contract: each field is what the word at its place holds.
 use borrow.Author.Needs.{needs}
 use Rattle.layout.proofs.rules.header_of.Statement.{statement}
 use Rattle.layout.proofs.rules.header_of.Tie as tie

@@ -1,4 +1,4 @@
--- `layout::is_end` meets its contract: the word past the steps is tested for its sort, then for its count.
+-- `rules::is_end` meets its contract: the word past the steps is tested for its sort, then for its count.
 use mathlib.Core.Path.{_≡_, sym, ap, ap₂, _∙_}
 use Prim.Native.Nat.{ℕ}
 use native.Mathlib.Omega.{arith}

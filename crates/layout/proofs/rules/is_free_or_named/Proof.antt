@@ -1,4 +1,4 @@
--- `layout::is_free_or_named` meets its contract: each return is a case of the rule by its tests.
+-- `rules::is_free_or_named` meets its contract: each return is a case of the rule by its tests.
 use mathlib.Core.Path.{sym}
 use Rattle.tape.proofs.Laws.Reading.{header-named, free-order, free-exponent}
 use Rattle.layout.proofs.rules.is_free_or_named.Statement.{statement}

@@ -1,4 +1,4 @@
--- `layout::is_header` meets its contract: the sorts that it tests are those of the first four words, one after another.
+-- `rules::is_header` meets its contract: the sorts that it tests are those of the first four words, one after another.
 use mathlib.Core.Path.{_≡_, sym, ap, _∙_}
 use borrow.Author.Needs.{needs}
 use lib.Dec.{eqb}

@@ -1,4 +1,4 @@
--- `layout::is_length` meets its contract: each return is a case of the rule by its tests.
+-- `rules::is_length` meets its contract: each return is a case of the rule by its tests.
 use mathlib.Core.Path.{sym}
 use Rattle.tape.proofs.Laws.Reading.{length-short, length-last}
 use Rattle.layout.proofs.rules.is_length.Statement.{statement}

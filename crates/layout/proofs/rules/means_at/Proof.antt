@@ -1,4 +1,4 @@
--- `layout::means_at` meets its contract: past the tape the definition reads 0, which means nothing.
+-- `rules::means_at` meets its contract: past the tape the definition reads 0, which means nothing.
 use mathlib.Core.Path.{sym}
 use borrow.Author.Needs.{needs}
 use Rattle.tape.proofs.Laws.Rows.{means-past}

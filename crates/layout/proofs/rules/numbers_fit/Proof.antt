@@ -1,4 +1,4 @@
--- `layout::numbers_fit` meets its contract: each return is a case of the definition by its tests.
+-- `rules::numbers_fit` meets its contract: each return is a case of the definition by its tests.
 use borrow.Author.Tests.{lt-ltb, le-ltb}
 use Rattle.tape.specs.Layout.{numbersFit}
 use Rattle.layout.proofs.rules.numbers_fit.Statement.{statement}

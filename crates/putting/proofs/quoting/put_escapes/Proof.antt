@@ -1,4 +1,4 @@
--- `quoting::put_escapes` meets its contract: with i bytes put, the first i stand in the row, escaped.
+-- `quoting::put_escapes` meets its contract: with i bytes put, the first i stand in the buffer, escaped.
 use Prim.Native.Nat.{_-_, _≤_}
 use native.Mathlib.Omega.{arith}
 use borrow.Author.Needs.{needs}
@@ -12,10 +12,10 @@ use Rattle.putting.proofs.quoting.put_escapes.Statement.{statement}
 use Rattle.putting.proofs.quoting.put_escapes.Tie as tie
 
 abbrev Inv-loop : tie.InvT-loop
-Inv-loop row₀ at bytes next₀ i₀ row next i = (i ≤ length bytes) × Put row₀ at (escapes (take i bytes)) next row
+Inv-loop buffer₀ at bytes next₀ i₀ buffer next i = (i ≤ length bytes) × Put buffer₀ at (escapes (take i bytes)) next buffer
 
 abbrev μ-loop : tie.MeasureT-loop
-μ-loop row₀ at bytes next₀ i₀ row next i = length bytes - i
+μ-loop buffer₀ at bytes next₀ i₀ buffer next i = length bytes - i
 
 loop-holds : tie.Need-loop-holds Inv-loop μ-loop
 unfolding escapes

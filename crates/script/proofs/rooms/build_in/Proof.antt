@@ -5,20 +5,20 @@ use native.Mathlib.Omega.{arith}
 use lib.ListN.{length-take, length-replicate}
 use lib.Seq.{length-take-le}
 use borrow.Author.Needs.{needs}
-use Rattle.tool.specs.Verbs.{mostRoom}
+use Rattle.tool.specs.Verbs.{maxRoom}
 use Rattle.scripting.specs.Script.{filled}
 use Rattle.scripting.proofs.Laws.Rooms.{filled-part, did-built-in}
 use Rattle.script.proofs.rooms.build_in.Statement.{statement}
 use Rattle.script.proofs.rooms.build_in.Tie as tie
 
 slice-aggregate-build-into : tie.Need-slice-aggregate-build-into
-slice-aggregate-build-into c = sym (length-take-le (c .before .before .before .before .args .marks .room) (filled mostRoom) (omega (arith, length-replicate {A = ℕ} mostRoom 255, c .before .before .before .before .pre .0 .room)))
+slice-aggregate-build-into c = sym (length-take-le (c .before .before .before .before .args .marks .room) (filled maxRoom) (omega (arith, length-replicate {A = ℕ} maxRoom 255, c .before .before .before .before .pre .0 .room)))
 
 build-into-requires : tie.Need-build-into-requires
-build-into-requires c κs = ((c .before .before .before .before .before .before .pre .0, omega (arith, length-take (c .before .before .before .before .before .before .args .marks .room) (filled mostRoom), c .before .before .before .before .before .before .pre .0 .room)), c .before .before .before .before .before .before .pre .1)
+build-into-requires c κs = ((c .before .before .before .before .before .before .pre .0, omega (arith, length-take (c .before .before .before .before .before .before .args .marks .room) (filled maxRoom), c .before .before .before .before .before .before .pre .0 .room)), c .before .before .before .before .before .before .pre .1)
 
 returns : tie.Need-returns
-returns c = did-built-in _ (c .before .before .before .before .before .before .before .before .before .before .before .before .args .marks .room) (c .before .before .before .before .before .before .before .before .before .before .before .before .args .own) (c .before .before .before .before .before .before .before .before .before .before .before .before .args .values .now) _ _ (filled-part mostRoom (c .before .before .before .before .before .before .before .before .before .before .before .before .args .marks .room) (c .before .before .before .before .before .before .before .before .before .before .before .before .pre .0 .room)) (c .before .before .before .before .before .build-into .ensures)
+returns c = did-built-in _ (c .before .before .before .before .before .before .before .before .before .before .before .before .args .marks .room) (c .before .before .before .before .before .before .before .before .before .before .before .before .args .own) (c .before .before .before .before .before .before .before .before .before .before .before .before .args .values .now) _ _ (filled-part maxRoom (c .before .before .before .before .before .before .before .before .before .before .before .before .args .marks .room) (c .before .before .before .before .before .before .before .before .before .before .before .before .pre .0 .room)) (c .before .before .before .before .before .build-into .ensures)
 
 pub build-in-spec : {M : Type 1} → statement M
 build-in-spec =

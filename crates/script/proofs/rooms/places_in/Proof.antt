@@ -6,20 +6,20 @@ use native.Mathlib.Omega.{arith}
 use lib.ListN.{length-take, length-replicate}
 use lib.Seq.{length-take-le}
 use borrow.Author.Needs.{needs}
-use Rattle.tool.specs.Verbs.{mostRoom}
+use Rattle.tool.specs.Verbs.{maxRoom}
 use Rattle.scripting.specs.Script.{filled}
 use Rattle.scripting.proofs.Laws.Rooms.{filled-part, put-places-in}
 use Rattle.script.proofs.rooms.places_in.Statement.{statement}
 use Rattle.script.proofs.rooms.places_in.Tie as tie
 
 slice-aggregate-places-into : tie.Need-slice-aggregate-places-into
-slice-aggregate-places-into c = sym (length-take-le (c .before .before .args .room) (filled mostRoom) (omega (arith, length-replicate {A = ℕ} mostRoom 255, c .before .before .pre)))
+slice-aggregate-places-into c = sym (length-take-le (c .before .before .args .room) (filled maxRoom) (omega (arith, length-replicate {A = ℕ} maxRoom 255, c .before .before .pre)))
 
 places-into-requires : tie.Need-places-into-requires
-places-into-requires c κs = omega (arith, length-take (c .before .before .before .args .room) (filled mostRoom), c .before .before .before .pre)
+places-into-requires c κs = omega (arith, length-take (c .before .before .before .args .room) (filled maxRoom), c .before .before .before .pre)
 
 returns : tie.Need-returns
-returns c = put-places-in (c .before .before .before .before .before .before .before .args .room) (c .before .before .before .before .before .before .before .args .own) (c .before .before .before .before .before .before .before .args .n ∷ []) _ (filled-part mostRoom (c .before .before .before .before .before .before .before .args .room) (c .before .before .before .before .before .before .before .pre)) (c .before .before .before .places-into .ensures)
+returns c = put-places-in (c .before .before .before .before .before .before .before .args .room) (c .before .before .before .before .before .before .before .args .own) (c .before .before .before .before .before .before .before .args .n ∷ []) _ (filled-part maxRoom (c .before .before .before .before .before .before .before .args .room) (c .before .before .before .before .before .before .before .pre)) (c .before .before .before .places-into .ensures)
 
 pub places-in-spec : {M : Type 1} → statement M
 places-in-spec =

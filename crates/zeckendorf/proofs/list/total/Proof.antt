@@ -29,8 +29,8 @@ loop-holds c = (summing-starts _ _, omega arith)
 index : (c : tie.After-shared-slice-known2 Inv-loop μ-loop) → c .before .before .loop .i - 1 < length (c .before .before .before .before .args .list .now)
 index c = omega (arith, c .before .before .loop .inv .0 .within, c .before .loop-test .taken)
 
-shared-slice-read-climb : tie.Need-shared-slice-read-climb Inv-loop μ-loop
-shared-slice-read-climb c = index c
+shared-slice-read-ascend-to : tie.Need-shared-slice-read-ascend-to Inv-loop μ-loop
+shared-slice-read-ascend-to c = index c
 
 -- and the place there is at most 92
 place-small : (c : tie.After-shared-slice-known2 Inv-loop μ-loop) → getD (c .before .before .before .before .args .list .now) (c .before .before .loop .i - 1) 0 ≤ 92
@@ -38,16 +38,16 @@ place-small c =
     let list = c .before .before .before .before .args .list .now in
     places-at 92 list (c .before .before .loop .i - 1) (test-places 92 list (c .before .before .before .before .pre)) (index c) .1
 
-cast-climb : tie.Need-cast-climb Inv-loop μ-loop
-cast-climb c = omega (arith, place-small c)
+cast-ascend-to : tie.Need-cast-ascend-to Inv-loop μ-loop
+cast-ascend-to c = omega (arith, place-small c)
 
-climb-requires : tie.Need-climb-requires Inv-loop μ-loop
-climb-requires c κs = (c .before .before .loop .inv .0 .weighs, (c .before .before .loop .inv .0 .ahead (c .before .loop-test .taken), place-small c))
+ascend-to-requires : tie.Need-ascend-to-requires Inv-loop μ-loop
+ascend-to-requires c κs = (c .before .before .loop .inv .0 .weighs, (c .before .before .loop .inv .0 .ahead (c .before .loop-test .taken), place-small c))
 
--- `climb` comes to the place at index i, and its weight
-weighs : (c : tie.After-climb Inv-loop μ-loop)
-    → c .climb .result .weight ≡ fib (suc (getD (c .before .before .before .before .before .args .list .now) (c .before .before .before .loop .i - 1) 0))
-weighs c = c .climb .ensures .0 .weight-is ∙ ap (λ (i : ℕ). fib (suc i)) (c .climb .ensures .1)
+-- `ascend_to` comes to the place at index i, and its weight
+weighs : (c : tie.After-ascend-to Inv-loop μ-loop)
+    → c .ascend-to .result .weight ≡ fib (suc (getD (c .before .before .before .before .before .args .list .now) (c .before .before .before .loop .i - 1) 0))
+weighs c = c .ascend-to .ensures .0 .weight-is ∙ ap (λ (i : ℕ). fib (suc i)) (c .ascend-to .ensures .1)
 
 returns : tie.Need-returns Inv-loop μ-loop
 unfolding totalOutcome
@@ -59,7 +59,7 @@ returns c =
 loop-again : tie.Need-loop-again Inv-loop μ-loop
 loop-again c =
     let called = c .before .before .before in
-    (summing-next 92 (test-places 92 _ (called .before .before .before .before .before .pre)) (c .before .before .before .before .before .before .loop .inv .0) (c .before .before .before .before .before .loop-test .taken) (called .climb .ensures .0) (called .climb .ensures .1) (weighs called), omega arith)
+    (summing-next 92 (test-places 92 _ (called .before .before .before .before .before .pre)) (c .before .before .before .before .before .before .loop .inv .0) (c .before .before .before .before .before .loop-test .taken) (called .ascend-to .ensures .0) (called .ascend-to .ensures .1) (weighs called), omega arith)
 
 returns-2 : tie.Need-returns-2 Inv-loop μ-loop
 unfolding totalOutcome
@@ -76,9 +76,9 @@ total-spec =
     μ-loop
     loop-holds
     (λ c. search needs)
-    shared-slice-read-climb
-    cast-climb
-    climb-requires
+    shared-slice-read-ascend-to
+    cast-ascend-to
+    ascend-to-requires
     (λ c. search needs)
     returns
     (λ c. search needs)

@@ -11,11 +11,11 @@ use Rattle.zeckendorf.proofs.weights.fib_at.Tie as tie
 returns : tie.Need-returns
 returns c = sym (ap fib (c .if1 .taken) ∙ fib-zero)
 
-climb-requires : tie.Need-climb-requires
-climb-requires c κs = (weighs-foot, (omega arith, omega (arith, c .before .pre)))
+ascend-to-requires : tie.Need-ascend-to-requires
+ascend-to-requires c κs = (weighs-foot, (omega arith, omega (arith, c .before .pre)))
 
 returns-2 : tie.Need-returns-2
-returns-2 c = c .climb .ensures .0 .weight-is ∙ ap fib (omega (arith, c .climb .ensures .1))
+returns-2 c = c .ascend-to .ensures .0 .weight-is ∙ ap fib (omega (arith, c .ascend-to .ensures .1))
 
 pub fib-at-spec : {M : Type 1} → statement M
-fib-at-spec = tie.close (tie.spec returns (λ c. search needs) climb-requires returns-2)
+fib-at-spec = tie.close (tie.spec returns (λ c. search needs) ascend-to-requires returns-2)

@@ -3,13 +3,13 @@ use mathlib.Core.Path.{_≡_, sym, ap, _∙_}
 use native.Mathlib.Omega.{arith}
 use Prim.Native.Nat.{_-_, _≤_, _<_}
 use Rattle.fibonacci.specs.Fibonacci.{fib}
-use Rattle.fibonacci.specs.Weights.{Weighs}
+use Rattle.fibonacci.specs.Inner.Weights.{IsWeight}
 use Rattle.fibonacci.proofs.Laws.Weights.{weighs-foot, weighs-next, place-below}
 use Rattle.zeckendorf.proofs.weights.highest.Statement.{statement}
 use Rattle.zeckendorf.proofs.weights.highest.Tie as tie
 
 abbrev Inv-loop : tie.InvT-loop
-Inv-loop n at₀ at = Weighs at × (at .place ≤ 92) × (at .below ≤ n)
+Inv-loop n at₀ at = IsWeight at × (at .place ≤ 92) × (at .below ≤ n)
 
 abbrev μ-loop : tie.MeasureT-loop
 μ-loop n at₀ at = 92 - at .place
