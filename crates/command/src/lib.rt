@@ -1,15 +1,14 @@
 // The command-line tool: its reply to a command line.
 mod numbers;
-mod tapes;
 mod values;
 
 ghost use mathlib.Core.Path.{_≡_};
 ghost use Prim.Native.Nat.{_≤_};
 ghost use lib.ListN.{length};
 ghost use Rattle.text.specs.Reading.{splitWords};
-ghost use Rattle.tool.specs.Verbs.{maxParameters, limitOf};
+ghost use Rattle.tool.specs.Verbs.{largest32, maxParameters, limitOf};
 ghost use Rattle.tool.specs.Calls.{askedBy};
-ghost use Rattle.tool.specs.Replies.{means, ownIn, replyTo, reply, answers, verbIn, readsTape, readsScript, writesTape};
+ghost use Rattle.tool.specs.Replies.{tapeReply, means, ownIn, replyTo, reply, answers, verbIn, readsTape, readsScript, writesTape};
 ghost use Rattle.tool.specs.Texts.{usage, versionLine};
 ghost use Rattle.tool.specs.Rows.{Told, Within};
 use arguments::understand;
@@ -25,13 +24,16 @@ use parsing::nth_word;
 use putting::put;
 use refusal::Refusal;
 use tape::MAX_WORDS;
-use tapes::on_tape;
+use tape_verbs::on_tape;
 use tool::ANSWERED;
 use tool::Call;
+use tool::MAX_PARAMETERS;
 use tool::NOT_UNDERSTOOD;
 use tool::Reply;
 use tool::Row;
+use tool::TapeVerb;
 use tool::Verb;
+use values::words;
 use verbs::gives_tape;
 use verbs::takes_lines;
 use verbs::takes_tape;
@@ -137,7 +139,7 @@ fn perform(
     let verb = row.verb;
     match verb {
         Verb::Build => build(own, values, text),
-        Verb::OnTape(v) => on_tape(v, own, values, tape, tapes, text),
+        Verb::OnTape(v) => perform_on_tape(v, own, values, tape, tapes, text),
         Verb::OnNumbers(v) => on_numbers(v, own, values, text),
         Verb::Help => help(text),
         Verb::Version => version(text),
@@ -149,6 +151,23 @@ fn perform(
         Verb::Unknown => complaint(put_usage(text)),
         Verb::InScript(_) => complaint(put_usage(text)),
     }
+}
+
+// A verb on a tape, whose parameters have 32 bits.
+fn perform_on_tape(
+    verb: TapeVerb,
+    own: u32,
+    values: &[u64],
+    tape: &[u32],
+    tapes: &[u32],
+    text: &mut [u8],
+) -> Reply
+    requires { ⌜ (length (now values) ≤ maxParameters) × Within largest32 (now values) ⌝ }
+    ensures { λ r. ⌜ Told (now (text .entry)) (tapeReply verb own (now (values .entry)) (now (tape .entry)) (now (tapes .entry))) r (now (text .exit)) ⌝ }
+{
+    let mut row = [0u32; MAX_PARAMETERS];
+    let count = words(values, &mut row);
+    on_tape(verb, own, &row[..count], tape, tapes, text)
 }
 
 fn help(text: &mut [u8]) -> Reply

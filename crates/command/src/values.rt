@@ -1,13 +1,10 @@
 // The parameters of a verb, at the widths that the services take.
 ghost use mathlib.Core.Path.{_≡_};
 ghost use Prim.Native.Nat.{_≤_};
-ghost use lib.ListN.{length, getD, drop};
+ghost use lib.ListN.{length, getD};
 ghost use Rattle.refusal.specs.Rows.{Wrote};
-ghost use Rattle.machine.specs.Machine.{valuesOf};
 ghost use Rattle.tool.specs.Verbs.{largest8, largest32};
-ghost use Rattle.tool.specs.Replies.{registersIn};
 ghost use Rattle.tool.specs.Rows.{Within};
-use machine::Registers;
 
 // A parameter, 0 where there is none.
 pub(crate) fn large(values: &[u64], place: usize) -> u64
@@ -25,29 +22,6 @@ pub(crate) fn small(values: &[u64], place: usize) -> u32
     ensures { λ n. ⌜ n ≡ getD (now (values .entry)) place 0 ⌝ }
 {
     large(values, place) as u32
-}
-
-// The first four, which are registers.
-pub(crate) fn registers(values: &[u64]) -> Registers
-    requires { ⌜ Within largest32 (now values) ⌝ }
-    ensures { λ r. ⌜ valuesOf r ≡ registersIn (now (values .entry)) ⌝ }
-{
-    Registers {
-        c: small(values, 0),
-        d: small(values, 1),
-        e: small(values, 2),
-        f: small(values, 3),
-    }
-}
-
-// Those behind the first four.
-pub(crate) fn past_registers(values: &[u32]) -> &[u32]
-    ensures { λ r. ⌜ now r ≡ drop 4 (now (values .entry)) ⌝ }
-{
-    if values.len() < 4 {
-        return &values[..0];
-    }
-    &values[4..]
 }
 
 // All of them at 32 bits.

@@ -64,7 +64,7 @@ pub fn answer(buffer: &mut [u8], own: u32, answer: NumberAnswer) -> Reply
 }
 
 // Four registers, or the refusal.
-pub fn standing(buffer: &mut [u8], own: u32, answer: RegistersAnswer) -> Reply
+pub fn print_registers(buffer: &mut [u8], own: u32, answer: RegistersAnswer) -> Reply
     ensures { λ r. ⌜ Told (now (buffer .entry)) (printed own (registersOutcomeOf answer) numbersLine) r (now (buffer .exit)) ⌝ }
 {
     match answer {
@@ -74,7 +74,7 @@ pub fn standing(buffer: &mut [u8], own: u32, answer: RegistersAnswer) -> Reply
 }
 
 // The same, with register 1 on a line of its own before them.
-pub fn forward(buffer: &mut [u8], own: u32, answer: RegistersAnswer) -> Reply
+pub fn print_power(buffer: &mut [u8], own: u32, answer: RegistersAnswer) -> Reply
     ensures { λ r. ⌜ Told (now (buffer .entry)) (printed own (registersOutcomeOf answer) powerLines) r (now (buffer .exit)) ⌝ }
 {
     match answer {
@@ -84,7 +84,7 @@ pub fn forward(buffer: &mut [u8], own: u32, answer: RegistersAnswer) -> Reply
 }
 
 // Four exponents, or the refusal.
-pub fn trace(buffer: &mut [u8], own: u32, answer: ExponentsAnswer) -> Reply
+pub fn print_exponents(buffer: &mut [u8], own: u32, answer: ExponentsAnswer) -> Reply
     ensures { λ r. ⌜ Told (now (buffer .entry)) (printed own (exponentsOutcomeOf answer) exponentsLine) r (now (buffer .exit)) ⌝ }
 {
     match answer {

@@ -1,28 +1,21 @@
-// A command line in a script: the verbs that only a script has, those that look at the room, and all others as in the tool.
-ghost use mathlib.Core.Path.{_≡_};
+// A command line in a script, by what its call comes to there.
 ghost use mathlib.Core.Bool.{true};
-ghost use Prim.Native.Nat.{_≤_};
-ghost use lib.ListN.{length, getD};
+ghost use lib.ListN.{length};
 ghost use Rattle.text.specs.Reading.{splitWords};
-ghost use Rattle.tool.specs.Verbs.{maxParameters, limitOf, largest32};
-ghost use Rattle.tool.specs.Calls.{known, askedBy};
-ghost use Rattle.tool.specs.Rows.{Within};
-ghost use Rattle.scripting.specs.Script.{isPlaces, isListing, buildBy, byVerb, replied, commanded};
-ghost use Rattle.scripting.specs.States.{roomIn, stateIn, Inside, Did};
-use crate::edits::edit;
-use crate::rooms::build_in;
-use crate::rooms::build_line;
-use crate::rooms::list_in;
-use crate::rooms::places_in;
+ghost use Rattle.tool.specs.Calls.{askedBy};
+ghost use Rattle.scripting.specs.Script.{replied, commanded};
+ghost use Rattle.scripting.specs.States.{stateIn, Inside, Did};
+use acts::act_of;
+use acts::count_in;
 use arguments::understand;
+use build_lines::build;
 use command::reply_on;
+use edits::edit;
+use rooms::list_in;
+use rooms::places_in;
+use scripting::Act;
 use scripting::Marks;
 use scripting::Printed;
-use tool::Call;
-use tool::NumberVerb;
-use tool::Row;
-use tool::TapeVerb;
-use tool::Verb;
 
 // Does a command line.
 pub(crate) fn commanded(
@@ -37,12 +30,24 @@ pub(crate) fn commanded(
     let line = understand(arguments, true);
     let call = line.call;
     let values = line.values;
-    match call {
-        Call::Known { row, count } => perform(arguments, row, &values[..count], tapes, marks, text),
-        Call::NoWord => as_tool(arguments, tapes, marks, text),
-        Call::NoVerb => as_tool(arguments, tapes, marks, text),
-        Call::WrongCount { row, given } => as_tool(arguments, tapes, marks, text),
-        Call::Unread { row, index } => as_tool(arguments, tapes, marks, text),
+    let count = count_in(call);
+    let act = act_of(call, marks.roomed);
+    match act {
+        Act::Reply => as_tool(arguments, tapes, marks, text),
+        Act::Edit(verb) => edit(verb, &values[..count], tapes, marks, text),
+        Act::BuildTape(own) => build(own, &values[..count], tapes, marks, text),
+        Act::PlacesInRoom(own) => Printed {
+            marks,
+            length: places_in(own, &values[..count], marks.room, text),
+        },
+        Act::ListInRoom => {
+            let begin = marks.begin;
+            let end = marks.end;
+            Printed {
+                marks,
+                length: list_in(&tapes[begin..end], marks.room, text),
+            }
+        }
     }
 }
 
@@ -64,140 +69,5 @@ fn as_tool(arguments: &[u8], tapes: &[u32], marks: Marks, text: &mut [u8]) -> Pr
     Printed {
         marks,
         length: reply.length,
-    }
-}
-
-// A verb on its parameters.
-fn perform(
-    arguments: &[u8],
-    row: Row,
-    values: &[u64],
-    tapes: &mut [u32],
-    marks: Marks,
-    text: &mut [u8],
-) -> Printed
-    requires { ⌜ Inside marks (now tapes) ⌝ }
-    requires { ⌜ askedBy true (splitWords (now arguments)) ≡ known row (now values) ⌝ }
-    requires { ⌜ (length (now values) ≤ maxParameters) × Within (limitOf (row .verb)) (now values) ⌝ }
-    ensures { λ r. ⌜ Did (byVerb (length (now (tapes .entry))) (row .verb) row (now (values .entry)) (stateIn marks (now (tapes .entry)))) (now (text .entry)) r (now (tapes .exit)) (now (text .exit)) ⌝ }
-{
-    let verb = row.verb;
-    match verb {
-        Verb::InScript(v) => edit(v, values, tapes, marks, text),
-        Verb::Build => build(row.own, values, tapes, marks, text),
-        Verb::OnNumbers(v) => on_numbers(v, arguments, row, values, tapes, marks, text),
-        Verb::OnTape(v) => on_tape(v, arguments, row, values, tapes, marks, text),
-        Verb::Unknown => as_tool(arguments, tapes, marks, text),
-        Verb::Script => as_tool(arguments, tapes, marks, text),
-        Verb::Help => as_tool(arguments, tapes, marks, text),
-        Verb::Version => as_tool(arguments, tapes, marks, text),
-    }
-}
-
-// Build, in a room or not.
-fn build(own: u32, values: &[u64], tapes: &mut [u32], marks: Marks, text: &mut [u8]) -> Printed
-    requires { ⌜ Inside marks (now tapes) ⌝ }
-    requires { ⌜ Within largest32 (now values) ⌝ }
-    ensures { λ r. ⌜ Did (buildBy (length (now (tapes .entry))) (roomIn marks) own (now (values .entry)) (stateIn marks (now (tapes .entry)))) (now (text .entry)) r (now (tapes .exit)) (now (text .exit)) ⌝ }
-{
-    if marks.roomed {
-        return build_in(own, values, tapes, marks, text);
-    }
-    build_line(own, values, tapes, marks, text)
-}
-
-// A verb on numbers: places looks at the room.
-fn on_numbers(
-    verb: NumberVerb,
-    arguments: &[u8],
-    row: Row,
-    values: &[u64],
-    tapes: &[u32],
-    marks: Marks,
-    text: &mut [u8],
-) -> Printed
-    requires { ⌜ Inside marks (now tapes) ⌝ }
-    requires { ⌜ (row .verb ≡ Verb.OnNumbers verb) × (askedBy true (splitWords (now arguments)) ≡ known row (now values)) ⌝ }
-    ensures { λ r. ⌜ Did (byVerb (length (now (tapes .entry))) (row .verb) row (now (values .entry)) (stateIn marks (now (tapes .entry)))) (now (text .entry)) r (now (tapes .entry)) (now (text .exit)) ⌝ }
-{
-    if !marks.roomed {
-        return as_tool(arguments, tapes, marks, text);
-    }
-    if !is_places(verb) {
-        return as_tool(arguments, tapes, marks, text);
-    }
-    Printed {
-        marks,
-        length: places_in(row.own, first(values), marks.room, text),
-    }
-}
-
-// A verb on the tape at hand: list looks at the room.
-fn on_tape(
-    verb: TapeVerb,
-    arguments: &[u8],
-    row: Row,
-    values: &[u64],
-    tapes: &[u32],
-    marks: Marks,
-    text: &mut [u8],
-) -> Printed
-    requires { ⌜ Inside marks (now tapes) ⌝ }
-    requires { ⌜ (row .verb ≡ Verb.OnTape verb) × (askedBy true (splitWords (now arguments)) ≡ known row (now values)) ⌝ }
-    ensures { λ r. ⌜ Did (byVerb (length (now (tapes .entry))) (row .verb) row (now (values .entry)) (stateIn marks (now (tapes .entry)))) (now (text .entry)) r (now (tapes .entry)) (now (text .exit)) ⌝ }
-{
-    if !marks.roomed {
-        return as_tool(arguments, tapes, marks, text);
-    }
-    if !is_listing(verb) {
-        return as_tool(arguments, tapes, marks, text);
-    }
-    let begin = marks.begin;
-    let end = marks.end;
-    Printed {
-        marks,
-        length: list_in(&tapes[begin..end], marks.room, text),
-    }
-}
-
-// The first parameter, 0 where there is none.
-fn first(values: &[u64]) -> u64
-    ensures { λ n. ⌜ n ≡ getD (now (values .entry)) 0 0 ⌝ }
-{
-    if values.len() == 0 {
-        return 0;
-    }
-    values[0]
-}
-
-fn is_places(verb: NumberVerb) -> bool
-    ensures { λ r. ⌜ r ≡ isPlaces verb ⌝ }
-{
-    match verb {
-        NumberVerb::Places => true,
-        NumberVerb::Decode => false,
-        NumberVerb::Fibonacci => false,
-        NumberVerb::NumberOf => false,
-        NumberVerb::Hofstadter => false,
-        NumberVerb::Inverse => false,
-        NumberVerb::Height => false,
-        NumberVerb::Prime => false,
-        NumberVerb::MulMod => false,
-        NumberVerb::PowMod => false,
-    }
-}
-
-fn is_listing(verb: TapeVerb) -> bool
-    ensures { λ r. ⌜ r ≡ isListing verb ⌝ }
-{
-    match verb {
-        TapeVerb::Listing => true,
-        TapeVerb::Check => false,
-        TapeVerb::Load => false,
-        TapeVerb::Run => false,
-        TapeVerb::Power => false,
-        TapeVerb::Trace => false,
-        TapeVerb::Cut => false,
-        TapeVerb::Play => false,
     }
 }

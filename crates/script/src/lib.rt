@@ -1,18 +1,16 @@
 // A script: command lines one after another, with a row of tapes kept between them.
 mod commands;
-mod edits;
-mod rooms;
 mod whole_line;
 
 ghost use mathlib.Core.Path.{_≡_};
-ghost use Prim.Native.Nat.{min};
 ghost use lib.ListN.{take, drop};
 ghost use Rattle.scripting.specs.Script.{lineDone};
 ghost use Rattle.scripting.specs.States.{capacityOf, stateIn, insideOf, DidLine};
-use scripting::MAX_ROOM;
 use scripting::MAX_TAPES;
 use scripting::Marks;
 use scripting::Printed;
+use tape_row::inside;
+use tape_row::least;
 use whole_line::done;
 
 // Does a line on a row of tapes, of which the first `MAX_TAPES` words are used. What it prints is put from the start of its row; in a
@@ -23,26 +21,4 @@ pub fn line(line: &[u8], tapes: &mut [u32], marks: Marks, text: &mut [u8]) -> Pr
 {
     let capacity = least(tapes.len(), MAX_TAPES);
     done(line, &mut tapes[..capacity], inside(marks, capacity), text)
-}
-
-// Marks that stand in the row.
-fn inside(marks: Marks, capacity: usize) -> Marks
-    ensures { λ m. ⌜ m ≡ insideOf marks capacity ⌝ }
-{
-    let end = least(marks.end, capacity);
-    Marks {
-        begin: least(marks.begin, end),
-        end,
-        room: least(marks.room, MAX_ROOM),
-        roomed: marks.roomed,
-    }
-}
-
-fn least(a: usize, b: usize) -> usize
-    ensures { λ r. ⌜ r ≡ min a b ⌝ }
-{
-    if a < b {
-        return a;
-    }
-    b
 }

@@ -1,6 +1,8 @@
 // Scripts: command lines one after another, with a row of tapes kept between them. The definitions and the types that they name; the
 // functions over them are in the crates above.
 
+use tool::ScriptVerb;
+
 // Where the tape at hand begins in the row of tapes, where it ends, and the room that build, places and list get where `roomed` says so.
 pub struct Marks {
     pub begin: usize,
@@ -13,6 +15,16 @@ pub struct Marks {
 pub struct Printed {
     pub marks: Marks,
     pub length: usize,
+}
+
+// What a call comes to in a script: as the tool replies, an edit of the tape at hand, a build, or places or list in a room; with the
+// refusal that is the verb's own.
+pub enum Act {
+    Reply,
+    Edit(ScriptVerb),
+    BuildTape(u32),
+    PlacesInRoom(u32),
+    ListInRoom,
 }
 
 // The most words of a row of tapes.

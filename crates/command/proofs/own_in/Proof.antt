@@ -1,6 +1,5 @@
 -- `own_in` meets its contract: where the bytes are whole words, or no tape was to come, it is the row's own.
-
-use Rattle.command.proofs.Laws.Replies.{own-whole}
+use Rattle.tool.proofs.Laws.Replies.{own-whole}
 use borrow.Author.Needs.{needs}
 use Rattle.command.proofs.own_in.Statement.{statement}
 use Rattle.command.proofs.own_in.Tie as tie

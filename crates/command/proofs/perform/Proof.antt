@@ -1,6 +1,6 @@
 -- `perform` meets its contract: each arm is its verb's meaning.
-use Rattle.tool.proofs.Laws.Lengths.{usage-most}
-use Rattle.command.proofs.Laws.Replies.{complained, script-most}
+use Rattle.tool.proofs.Laws.Lengths.{script-most, usage-most}
+use Rattle.tool.proofs.Laws.Parts.{complained}
 use borrow.Author.Needs.{needs}
 use Rattle.command.proofs.perform.Statement.{statement}
 use Rattle.command.proofs.perform.Tie as tie
@@ -8,8 +8,8 @@ use Rattle.command.proofs.perform.Tie as tie
 build-requires : tie.Need-build-requires
 build-requires c κs = rw (c .before .enum-told .given .1) at (c .before .before .before .before .before .before .before .before .pre .1)
 
-on-tape-requires : tie.Need-on-tape-requires
-on-tape-requires c κs = (c .before .before .before .before .before .before .before .before .before .pre .0, rw (c .before .before .verb .given .1) at (c .before .before .before .before .before .before .before .before .before .pre .1))
+perform-on-tape-requires : tie.Need-perform-on-tape-requires
+perform-on-tape-requires c κs = (c .before .before .before .before .before .before .before .before .before .pre .0, rw (c .before .before .verb .given .1) at (c .before .before .before .before .before .before .before .before .before .pre .1))
 
 on-numbers-requires : tie.Need-on-numbers-requires
 on-numbers-requires c κs = (c .before .before .before .before .before .before .before .before .before .pre .0, rw (c .before .before .verb2 .given .1) at (c .before .before .before .before .before .before .before .before .before .pre .1))
@@ -18,7 +18,7 @@ returns : tie.Need-returns
 returns c = rw (← c .before .before .before .before .before .before .own-in .ensures, c .before .before .before .before .enum-told .given .1) (c .before .before .build .ensures)
 
 returns-2 : tie.Need-returns-2
-returns-2 c = rw (← c .before .before .before .before .before .before .before .own-in .ensures, c .before .before .before .before .before .verb .given .1) (c .before .before .on-tape .ensures)
+returns-2 c = rw (← c .before .before .before .before .before .before .before .own-in .ensures, c .before .before .before .before .before .verb .given .1) (c .before .before .perform-on-tape .ensures)
 
 returns-3 : tie.Need-returns-3
 returns-3 c = rw (← c .before .before .before .before .before .before .before .own-in .ensures, c .before .before .before .before .before .verb2 .given .1) (c .before .before .on-numbers .ensures)
@@ -46,7 +46,7 @@ perform-spec =
     (λ c. search needs)
     build-requires
     (λ c. search needs)
-    on-tape-requires
+    perform-on-tape-requires
     (λ c. search needs)
     on-numbers-requires
     (λ c. search needs)

@@ -5,7 +5,7 @@ use native.Mathlib.Omega.{arith}
 use lib.ListN.{length}
 use lib.Seq.{length-take-le}
 use Rattle.tool.proofs.Laws.Lengths.{no-verb-most, wrong-count-most, unread-most, usage-most}
-use Rattle.command.proofs.Laws.Replies.{complained}
+use Rattle.tool.proofs.Laws.Parts.{complained}
 use borrow.Author.Needs.{needs}
 use Rattle.command.proofs.reply_on.Statement.{statement}
 use Rattle.command.proofs.reply_on.Tie as tie

@@ -8,7 +8,7 @@ use native.Mathlib.Omega.{arith}
 use Rattle.refusal.specs.declared.Refusal.{Refusal}
 use Rattle.refusal.specs.declared.Refusal.the-variants.{Modulus, Order, Exponent, Variant, Room, Length, Word, Mismatch, Register, Position, Base, Range, Index}
 use Rattle.refusal.specs.Refusals.{numberOf}
-use Rattle.refusal.specs.Outcomes.{Rule, refused, answered, outcome, applies, refusalNumber, andThen, after, _given-if_}
+use Rattle.refusal.specs.Outcomes.{Outcome, Rule, refused, answered, outcome, applies, refusalNumber, andThen, after, _given-if_}
 
 -- a call that is answered has passed its first rule
 pub passed : {A : Type 0} (t : Bool) (e : Refusal) (rules : List Rule) (x y : A) → outcome ((e given-if t) ∷ rules) x ≡ answered y
@@ -95,6 +95,11 @@ unfolding outcome
 refused-range [] x e = let z : _≡_ {A = ℕ} 0 1 = cc in absurd (omega arith)
 refused-range ((r given-if true) ∷ rules) x {n} e = let same : numberOf r ≡ n = cc in rw same at (number-range r)
 refused-range ((r given-if false) ∷ rules) x e = refused-range rules x e
+
+-- a call is refused where its number isn't 0
+pub by-number : {A : Type 0} (o : Outcome A) → ¬ (refusalNumber o ≡ 0) → o ≡ refused (refusalNumber o)
+by-number (refused n) h = refl
+by-number (answered x) h = absurd (h refl)
 
 -- 0 says that a call is answered, and a place that another answer by the same rules goes to holds that answer; else what it held
 module _ {A B : Type 0} (x : A) (y held : B) where

@@ -1,12 +1,11 @@
 -- `line` meets its contract: the words that are used are a row of their own, and the others stand as they did.
-use mathlib.Core.Path.{_≡_, sym, ap, _∙_}
+use mathlib.Core.Path.{sym}
 use Prim.Native.Nat.{ℕ}
 use native.Mathlib.Omega.{arith}
-use lib.ListN.{length, drop}
-use lib.Seq.{length-take-le, drop-at}
+use lib.Seq.{length-take-le}
 use borrow.Author.Needs.{needs}
-use Rattle.scripting.specs.States.{capacityOf}
-use Rattle.scripting.proofs.Laws.Judging.{inside-used, did-used}
+use Rattle.scripting.specs.Script.{State, lineDone}
+use Rattle.scripting.proofs.Laws.Used.{inside-used, did-used}
 use Rattle.script.proofs.line.Statement.{statement}
 use Rattle.script.proofs.line.Tie as tie
 
@@ -14,15 +13,15 @@ slice-aggregate-done : tie.Need-slice-aggregate-done
 slice-aggregate-done c = sym (length-take-le (c .before .least .result) (c .before .before .before .before .before .args .tapes .now) (omega (arith, c .before .least .ensures)))
 
 done-requires : tie.Need-done-requires
-done-requires c κs = rw (c .before .inside .ensures, c .before .before .before .least .ensures) (inside-used (c .before .before .before .before .before .before .before .args .marks) (c .before .before .before .before .before .before .before .args .tapes .now))
+done-requires c κs =
+    let s = c .before .before .before .before .before .before .before in
+    inside-used (s .args .marks) (s .args .tapes .now) (c .before .before .before .least .ensures) (c .before .inside .ensures)
 
 returns : tie.Need-returns
-returns c = let row = c .before .before .before .before .before .before .before .before .before .before .before .before .args .tapes .now in
-    let capacity : c .before .before .before .before .before .before .before .before .least .result ≡ capacityOf row = c .before .before .before .before .before .before .before .before .least .ensures in
-    let same : length (c .before .before .before .before .done .last .1 .0) ≡ capacityOf row = c .before .before .before .before .done .kept .1 .0 ∙ length-take-le (c .before .before .before .before .before .before .before .before .least .result) row (omega (arith, capacity)) ∙ capacity in (
-      did-used (c .before .before .before .before .before .before .before .before .before .before .before .before .args .marks) row (c .before .before .before .before .before .before .before .before .before .before .before .before .args .line .now) same (rw (c .before .before .before .before .before .before .inside .ensures, capacity) at (c .before .before .before .before .done .ensures)) _,
-      drop-at (c .before .before .before .before .done .last .1 .0) _ (capacityOf row) same ∙ ap (λ (n : ℕ). drop n row) capacity,
-    )
+returns c =
+    let s = c .before .before .before .before .before .before .before .before .before .before .before .before in
+    did-used (s .args .marks) (s .args .tapes .now) (c .before .before .before .before .before .before .before .before .least .ensures) (c .before .before .before .before .before .before .inside .ensures) (λ (capacity : ℕ) (state : State). lineDone capacity (s .args .line .now) state)
+    (c .before .before .before .before .done .kept .1 .0) (c .before .before .before .before .done .ensures)
 
 pub line-spec : {M : Type 1} → statement M
 line-spec =

@@ -37,12 +37,12 @@ module _ {m : Marks} {row : List ℕ} (inside : Inside m row) {before after : Li
       (ap (λ (n : ℕ). take n row′) (sym (w .next-is)) ∙ wrote-behind w fits ∙ words-behind row (m .begin) at words begins)
       marks p
 
-  pub did-no-words : {at : ℕ} (words : List ℕ) → m .begin ≤ at → at ≤ m .end → length row - at < length words
-      → Did (prints (stateIn m row) (fullLine (length row))) before r row after
+  pub did-no-words : {at : ℕ} (words : List ℕ) → m .begin ≤ at → at ≤ m .end → length row - at < length words → r .marks ≡ m
+      → Put before 0 (fullLine (length row)) (r .length) after
       → Did (edited (length row) (stateIn m row) (drop (m .begin) (take at row) ++ words)) before r row after
-  did-no-words {at} words begins ends long did =
+  did-no-words {at} words begins ends long marks put =
       let part = drop (m .begin) (take at row) in
-      did-full inside (part ++ words) _ (omega (arith, length-append part words, up-to row (m .begin) at (omega (arith, inside .end)))) did
+      did-full inside (part ++ words) _ (omega (arith, length-append part words, up-to row (m .begin) at (omega (arith, inside .end)))) marks put
 
   -- from the start of the tape at hand on, or from its end on
   pub did-set : {row′ : List ℕ} (v : List ℕ)

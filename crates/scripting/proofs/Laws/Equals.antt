@@ -1,21 +1,21 @@
 -- Lines byte by byte: where a blank, an equals sign and a blank first stand is found by looking at three bytes from each place on; an empty line, or
 -- one that begins with #, is copied; and a line's arguments are its bytes one by one.
 use mathlib.Core.Path.{_≡_, refl, sym, ap, _∙_}
-use mathlib.Core.Bool.{Bool, true, false, cond}
+use mathlib.Core.Bool.{true, false, cond}
 use mathlib.Core.List.{List, [], _∷_}
 use Prim.Native.Nat.{ℕ, suc, _+_, _≤_, _<_}
 use Prim.Native.Char.{code}
-use native.Mathlib.Nat.{zero-add, add-zero}
+use native.Mathlib.Nat.{add-zero}
 use native.Mathlib.Numerals.{add-one}
 use native.Mathlib.Omega.{arith}
 use lib.Dec.{eqb}
 use lib.ListN.{length, getD, take, drop, set, drop-of-length-le, length-drop, length-map, List·getD-map}
 use lib.Seq.{drop-cons, getD-drop}
 use borrow.Author.Tests.{eq-eqb, ne-eqb}
-use Rattle.refusal.specs.Rows.{Wrote}
 use Rattle.text.specs.Text.{blank}
+use Rattle.text.specs.Rows.{Put}
+use Rattle.text.proofs.Laws.Puts.{put-next}
 use Rattle.scripting.specs.Script.{argumentsOf, isEquals, equalsIn, isCopied}
-use Rattle.scripting.proofs.Laws.Tapes.{wrote-step}
 
 -- ---- an equals sign between blanks
 
@@ -81,24 +81,6 @@ module _ (line : List ℕ) (i : ℕ) where
   unfolding equalsIn
   equals-nowhere h = ap equalsIn (drop-of-length-le line {i = i} h)
 
--- it is whole
-whole-from : (l : List ℕ) → isEquals l ≡ true → 3 ≤ length l
-whole-from [] e = let z : _≡_ {A = ℕ} 0 1 = cc in omega arith
-whole-from (a ∷ []) e = let z : _≡_ {A = ℕ} 0 1 = cc in omega arith
-whole-from (a ∷ b ∷ []) e = let z : _≡_ {A = ℕ} 0 1 = cc in omega arith
-whole-from (a ∷ b ∷ c ∷ l) e = omega arith
-
-whole-by : (l : List ℕ) (t : Bool) (n : ℕ) → isEquals l ≡ t → (suc n < length l → suc n + 3 ≤ length l) → cond t 0 (suc n) < length l
-    → cond t 0 (suc n) + 3 ≤ length l
-whole-by l true n e again h = omega (arith, whole-from l e)
-whole-by l false n e again h = again h
-
-pub equals-whole : (line : List ℕ) → equalsIn line < length line → equalsIn line + 3 ≤ length line
-unfolding equalsIn
-equals-whole [] h = absurd (omega arith)
-equals-whole (b ∷ line) h =
-    whole-by (b ∷ line) (isEquals (b ∷ line)) (equalsIn line) refl (λ k. omega (arith, equals-whole line (omega arith))) h
-
 -- ---- a copied line
 
 pub copied-none : (line : List ℕ) → length line ≡ 0 → isCopied line ≡ true
@@ -115,9 +97,8 @@ pub arguments-length : (line : List ℕ) → length (argumentsOf line) ≡ lengt
 arguments-length line = simp length-map
 
 -- the byte at i, behind those in front of it
-pub arguments-next : {a b : List ℕ} {x : ℕ} (line : List ℕ) (i : ℕ) → i < length line → x ≡ cond (eqb (getD line i 0) blank) 0 (getD line i 0)
-    → Wrote a 0 (take i (argumentsOf line)) i b → Wrote a 0 (take (i + 1) (argumentsOf line)) (i + 1) (set b i x)
-arguments-next {a} {b} line i h e w =
+pub arguments-next : {a b : List ℕ} {x : ℕ} (line : List ℕ) (i : ℕ) → i < length line → i < length b → x ≡ cond (eqb (getD line i 0) blank) 0 (getD line i 0)
+    → Put a 0 (take i (argumentsOf line)) i b → Put a 0 (take (i + 1) (argumentsOf line)) (i + 1) (set b i x)
+arguments-next line i h room e w =
     let byte : ℕ → ℕ = λ n. cond (eqb n blank) 0 n in
-    let more = wrote-step {a = a} {b = b} {at = 0} (argumentsOf line) i (omega (arith, length-map line byte)) (rw zero-add w) in
-    rw (e, ← List·getD-map byte line i 0) (simp zero-add at more)
+    rw (e, ← List·getD-map byte line i 0) (put-next (argumentsOf line) i (omega (arith, length-map line byte)) room w)

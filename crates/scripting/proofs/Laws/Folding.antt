@@ -2,7 +2,6 @@
 use mathlib.Core.Path.{_≡_, refl, sym, ap, _∙_}
 use mathlib.Core.List.{List, _++_}
 use Prim.Native.Nat.{ℕ, _≤_}
-use native.Mathlib.Nat.{min-eq-left}
 use native.Mathlib.Omega.{arith}
 use lib.ListN.{take, length-take}
 use lib.Seq.{take-take}
@@ -10,18 +9,14 @@ use Rattle.scripting.specs.declared.Marks.{Marks}
 use Rattle.scripting.specs.declared.Printed.{Printed}
 use Rattle.scripting.specs.Script.{Done, lineDone, scriptFrom}
 use Rattle.scripting.specs.States.{stateIn, Inside, insideOf, DidLine, Runs, no-lines, one-line}
+use Rattle.scripting.proofs.Laws.Used.{marks-kept}
 
 module _ (m : Marks) (capacity : ℕ) (row : List ℕ) (inside : Inside m (take capacity row)) where
   within : m .end ≤ capacity
   within = omega (arith, inside .end, length-take capacity row)
 
-  -- marks inside the row stay as they are
-  kept : insideOf m capacity ≡ m
-  unfolding insideOf
-  kept = rw (min-eq-left within, min-eq-left (inside .begin), min-eq-left (inside .room))
-
   state-kept : stateIn (insideOf m capacity) row ≡ stateIn m (take capacity row)
-  state-kept = ap (λ (k : Marks). stateIn k row) kept ∙ ap (λ (l : List ℕ). record { tapes = l; begin = m .begin; room = stateIn m row .room }) (sym (take-take (m .end) capacity row within))
+  state-kept = ap (λ (k : Marks). stateIn k row) (marks-kept m capacity (inside .begin) within (inside .room)) ∙ ap (λ (l : List ℕ). record { tapes = l; begin = m .begin; room = stateIn m row .room }) (sym (take-take (m .end) capacity row within))
 
 -- the next line begins in the state that this one left
 next-state : (capacity : ℕ) (row : List ℕ) {done : Done} {text text′ : List ℕ} {r : Printed} → DidLine done text r (take capacity row) text′ → stateIn (insideOf (r .marks) capacity) row ≡ done .state

@@ -1,21 +1,20 @@
--- A line by what it is: each kind of line is a case of the definition; and marks brought into a row stand for the same state in the words that are used.
+-- A line by what it is: each kind of line is a case of the definition.
 use mathlib.Core.Path.{_≡_, ap, _∙_}
 use mathlib.Core.Bool.{true, false}
 use mathlib.Core.List.{List, [], _∷_, _++_}
-use Prim.Native.Nat.{ℕ, min, _≤_, _<_, _+_}
+use Prim.Native.Nat.{ℕ, _≤_, _<_, _+_}
 use native.Mathlib.Omega.{arith}
-use lib.ListN.{length, take, drop, length-append, length-take}
-use lib.Seq.{take-take, take-at}
+use lib.ListN.{length, take, drop, length-append}
 use borrow.Author.Tests.{lt-ltb, le-ltb}
 use Rattle.text.specs.Text.{newline}
 use Rattle.text.specs.Reading.{splitWords}
 use Rattle.text.specs.Rows.{Put}
-use Rattle.text.proofs.Laws.Puts.{puts-join, put-taken}
+use Rattle.text.proofs.Laws.Puts.{put-taken}
 use Rattle.tool.specs.Calls.{askedBy}
 use Rattle.scripting.specs.declared.Marks.{Marks}
 use Rattle.scripting.specs.declared.Printed.{Printed}
 use Rattle.scripting.specs.Script.{State, Done, prints, commanded, argumentsOf, commandDone, equalsIn, isCopied, verdict, judged, maxLine, longLine, maxPrinted, lineDone}
-use Rattle.scripting.specs.States.{stateIn, Inside, capacityOf, insideOf, Did, DidLine}
+use Rattle.scripting.specs.States.{stateIn, Did, DidLine}
 use Rattle.scripting.proofs.Laws.Verdicts.{verdict-short}
 
 -- a command line is its arguments
@@ -25,15 +24,15 @@ unfolding commandDone
 did-command capacity line s e did = rw e at did
 
 -- what a command printed, and the verdict on it
-pub did-judged : {space space′ before mid after row : List ℕ} {made r : Printed} {a : ℕ} (done : Done) (said : List ℕ) → Did done space made row space′
-    → length space ≡ maxPrinted → length said ≤ maxLine → r .marks ≡ made .marks → Put before 0 (take (made .length) space′) a mid
-    → Put mid a (verdict (take (made .length) space′) said) (r .length) after → DidLine (judged done said) before r row after
-did-judged {space} {row = row} {made} done said did size few marks v w =
+pub did-judged : {space space′ before after row : List ℕ} {made r : Printed} (done : Done) (said : List ℕ) → Did done space made row space′
+    → length space ≡ maxPrinted → length said ≤ maxLine → r .marks ≡ made .marks
+    → Put before 0 (take (made .length) space′ ++ verdict (take (made .length) space′) said) (r .length) after → DidLine (judged done said) before r row after
+did-judged {space} {row = row} {made} done said did size few marks put =
     let text = put-taken (did .printed) (omega (arith, did .short)) in
     record {
       state = ap (λ (m : Marks). stateIn m row) marks ∙ did .state;
       inside = rw marks (did .inside);
-      printed = rw text at (puts-join v w);
+      printed = rw text at put;
       short = rw (length-append (done .text) (verdict (done .text) said)) (omega (arith, did .short, verdict-short (done .text) said));
     }
 
@@ -62,23 +61,3 @@ module _ (capacity : ℕ) (line : List ℕ) (s : State) where
       pub line-command : length line ≤ equalsIn line → lineDone capacity line s ≡ commandDone capacity line s
       unfolding lineDone
       line-command h = rw (le-ltb maxLine (length line) few, other, le-ltb (equalsIn line) (length line) h)
-
--- ---- the words that are used
-
-module _ (m : Marks) (row : List ℕ) where
-  used : length (take (capacityOf row) row) ≡ capacityOf row
-  used = length-take (capacityOf row) row ∙ omega arith
-
-  pub inside-used : Inside (insideOf m (capacityOf row)) (take (capacityOf row) row)
-  unfolding insideOf
-  inside-used = record { size = omega (arith, used); begin = omega arith; end = omega (arith, used); room = omega arith }
-
-  pub state-used : stateIn (insideOf m (capacityOf row)) (take (capacityOf row) row) ≡ stateIn (insideOf m (capacityOf row)) row
-  unfolding insideOf
-  state-used = rw (take-take (min (m .end) (capacityOf row)) (capacityOf row) row (omega arith))
-
-  pub did-used : {before after row′ : List ℕ} {r : Printed} (line : List ℕ) → length row′ ≡ capacityOf row
-      → DidLine (lineDone (length (take (capacityOf row) row)) line (stateIn (insideOf m (capacityOf row)) (take (capacityOf row) row))) before r row′ after
-      → (rest : List ℕ)
-      → DidLine (lineDone (capacityOf row) line (stateIn (insideOf m (capacityOf row)) row)) before r (take (capacityOf row) (row′ ++ rest)) after
-  did-used {row′ = row′} line same did rest = rw (take-at row′ rest (capacityOf row) same, ← state-used) (rw used at did)

@@ -4,7 +4,7 @@ use mathlib.Core.Path.{_≡_, sym, ap, _∙_}
 use mathlib.Core.List.{List, [], _∷_, _++_}
 use Prim.Native.Nat.{ℕ, _+_, _-_, _*_, _≤_}
 use native.Mathlib.Omega.{arith}
-use lib.ListN.{length, take, length-append, length-replicate, replicate-append-replicate}
+use lib.ListN.{length, getD, take, length-append, length-replicate, replicate-append-replicate}
 use lib.Seq.{take-at}
 use Rattle.refusal.specs.declared.NumberAnswer.{NumberAnswer}
 use Rattle.refusal.specs.declared.NumberAnswer.the-variants.{Answered, Refused}
@@ -96,10 +96,11 @@ did-built-in capacity room own v s row e did = rw e at did
 abbrev pub Prints : List ℕ → List ℕ → ℕ → List ℕ → Type 0
 Prints before text next after = Put before 0 text next after × (length text ≤ maxCommanded)
 
-pub put-places-in : {before after : List ℕ} {next : ℕ} (room own : ℕ) (v row : List ℕ) → row ≡ filled room
-    → Prints before (placesInto row own v) next after → Prints before (placesIn room own v) next after
-unfolding placesIn
-put-places-in room own v row e p = rw e at p
+-- a verb's first parameter is all that places looks at
+pub put-places-in : {before after : List ℕ} {next : ℕ} (room own n : ℕ) (v row : List ℕ) → row ≡ filled room → n ≡ getD v 0 0
+    → Prints before (placesInto row own (n ∷ [])) next after → Prints before (placesIn room own v) next after
+unfolding placesIn placesInto
+put-places-in room own n v row e f p = rw f at (rw e at p)
 
 pub put-list-in : {before after : List ℕ} {next : ℕ} (room : ℕ) (tape row bytes : List ℕ) → row ≡ filled room → bytes ≡ bytesOf tape
     → Prints before (listInto row bytes) next after → Prints before (listIn room tape) next after

@@ -2,13 +2,12 @@
 use mathlib.Core.Path.{_≡_, refl, sym, ap, _∙_}
 use mathlib.Core.List.{List, [], _∷_, _++_, append-assoc}
 use Prim.Native.Nat.{ℕ, zero, suc, _+_, _-_, _≤_, _<_}
-use native.Mathlib.Numerals.{add-one}
 use native.Mathlib.Omega.{arith}
 use lib.ListN.{length, getD, take, drop, set, length-append, take-append-drop}
-use lib.Seq.{sets-eq, take-suc, take-take, take-at, take-add, take-set-le, take-set-lt, drop-set-add, length-take-le}
+use lib.Seq.{sets-eq, take-take, take-at, take-add, take-set-le, take-set-lt, drop-set-add, length-take-le}
 use borrow.Author.Tests.{le-leb, lt-leb}
 use Rattle.refusal.specs.Rows.{Wrote}
-use Rattle.refusal.proofs.Laws.Rows.{wrote-more}
+use Rattle.refusal.proofs.Laws.Rows.{wrote-element}
 use Rattle.text.specs.Text.{ascii, decimal, newline, numberLine}
 use Rattle.text.specs.Rows.{Put}
 use Rattle.text.proofs.Laws.Decimal.{decimal-32}
@@ -48,7 +47,7 @@ unfolding fullLine
 full-line capacity v w x =
     rw (append-assoc (ascii "fibexp: a row of tapes has at most " ++ decimal capacity) (ascii " words") (newline ∷ [])) (puts-join (puts-join v w) x)
 
-pub full-short : (capacity : ℕ) → capacity < 4294967296 → length (fullLine capacity) ≤ maxCommanded
+full-short : (capacity : ℕ) → capacity < 4294967296 → length (fullLine capacity) ≤ maxCommanded
 unfolding fullLine
 full-short capacity h =
     simp length-append (omega (arith, decimal-32 capacity h))
@@ -71,9 +70,10 @@ module _ {m : Marks} {row : List ℕ} (inside : Inside m row) (tape : List ℕ) 
   tape-full text h = rw (front, lt-leb (length (take (m .begin) row ++ tape)) (length row) (omega (arith, size)))
 
   -- there is no room for it
-  pub did-full : {before after : List ℕ} {r : Printed} (text : List ℕ) → length row < m .begin + length tape
-      → Did (prints (stateIn m row) (fullLine (length row))) before r row after → Did (withTape (length row) (stateIn m row) tape text) before r row after
-  did-full text h did = rw (tape-full text h) did
+  pub did-full : {before after : List ℕ} {r : Printed} (text : List ℕ) → length row < m .begin + length tape → r .marks ≡ m
+      → Put before 0 (fullLine (length row)) (r .length) after → Did (withTape (length row) (stateIn m row) tape text) before r row after
+  did-full text h marks put =
+      rw (tape-full text h) (did-print (fullLine (length row)) inside marks put (full-short (length row) (omega (arith, inside .size))))
 
   module _ {before after row′ : List ℕ} {r : Printed} (end : ℕ) (end-is : end ≡ m .begin + length tape) (fits : end ≤ length row)
       (same : length row′ ≡ length row) (words : take end row′ ≡ take (m .begin) row ++ tape) where
@@ -107,9 +107,7 @@ wrote-behind {a} {b} {at} {n} {words} w h =
 -- the word at i, behind those in front of it
 pub wrote-step : {a b : List ℕ} {at : ℕ} (words : List ℕ) (i : ℕ) → i < length words → Wrote a at (take i words) (at + i) b
     → Wrote a at (take (i + 1) words) (at + (i + 1)) (set b (at + i) (getD words i 0))
-wrote-step {b = b} {at} words i h w =
-    rw (add-one i, take-suc words i 0)
-    (wrote-more w (record { next-is = omega arith; after-is = refl }))
+wrote-step words i h w = wrote-element words i h refl (omega arith) w
 
 module _ (row : List ℕ) (begin : ℕ) where
   -- the words of a tape up to `at`, and others behind them

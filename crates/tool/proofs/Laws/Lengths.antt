@@ -15,7 +15,7 @@ use Rattle.text.proofs.Laws.Decimal.{decimal-32, decimal-64}
 use Rattle.text.proofs.Laws.Quoting.{quoted-most}
 use Rattle.tool.specs.declared.Row.{Row}
 use Rattle.tool.specs.Verbs.{isVariant}
-use Rattle.tool.specs.Texts.{reasonFor, refusalLine, noVerbLine, fromText, countText, wrongCountLine, listed, variantsText, unreadText, unreadLine, lines, usage}
+use Rattle.tool.specs.Texts.{reasonFor, refusalLine, noVerbLine, fromText, countText, wrongCountLine, listed, variantsText, unreadText, unreadLine, scriptLine, lines, usage}
 use Rattle.tool.specs.Rows.{maxText, longestName}
 
 -- of two texts, by a test
@@ -144,6 +144,9 @@ unread-most word row place h =
       quoted-most word,
       unread-text-most row place h,
     )
+
+pub script-most : length scriptLine ≤ maxText
+script-most = omega arith
 
 pub usage-most : length usage ≤ maxText
 unfolding usage lines variantsText listed decimal decimalWithin

@@ -1,4 +1,6 @@
--- Replies put part by part: a part with its last byte behind it, lines of a name and numbers, lines of exponents, and how long they are.
+-- Replies put part by part: a part with its last byte behind it, lines of a name and numbers, lines of exponents, and how long they are;
+-- a complaint whose line was put.
+use mathlib.Core.Path.{_≡_}
 use mathlib.Core.List.{List, [], _∷_, _++_, map, append-assoc}
 use Prim.Native.Nat.{ℕ, suc, _^_, _≤_, _<_}
 use native.Mathlib.Omega.{arith}
@@ -10,7 +12,9 @@ use Rattle.text.specs.Rows.{Put}
 use Rattle.text.proofs.Laws.Decimal.{decimal-32, decimal-64}
 use Rattle.text.proofs.Laws.Puts.{puts-join}
 use Rattle.text.proofs.Laws.Lines.{put-word, put-last, line-length}
-use Rattle.tool.specs.Rows.{maxText}
+use Rattle.tool.specs.declared.Reply.{Reply}
+use Rattle.tool.specs.Replies.{complains}
+use Rattle.tool.specs.Rows.{maxText, Told}
 
 -- a text, and what is put behind it with its end
 pub puts-then : {a b c : List ℕ} {at m n : ℕ} {vs : List ℕ} (ws us : List ℕ) → Put a at vs m b → Put b m (ws ++ us) n c → Put a at (vs ++ ws ++ us) n c
@@ -49,3 +53,9 @@ four-put w x y z p q r s =
 pub four-short : (w x y z : ℤ) → length (whole w) ≤ 21 → length (whole x) ≤ 21 → length (whole y) ≤ 21 → length (whole z) ≤ 21
     → length (line (map whole (w ∷ x ∷ y ∷ z ∷ []))) ≤ maxText
 four-short w x y z a b c d = omega (arith, line-length (whole w) (whole x ∷ whole y ∷ whole z ∷ []))
+
+-- ---- complaints
+
+pub complained : {before after text : List ℕ} {length′ : ℕ} {r : Reply} → Put before 0 text length′ after → length text ≤ maxText
+    → (r .status ≡ 2) × (r .length ≡ length′) → Told before (complains text) r after
+complained w short e = record { status = e .0; text = rw (e .1) w; short = short }

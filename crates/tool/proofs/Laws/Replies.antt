@@ -1,5 +1,7 @@
--- No text of a reply is empty, so standard output is empty exactly where the call was refused or not understood.
-use mathlib.Core.Bool.{Bool, false}
+-- No text of a reply is empty, so standard output is empty exactly where the call was refused or not understood. Where the bytes that came
+-- are whole words, the refusal whose reason is a verb's own is that of its row.
+use mathlib.Core.Path.{_≡_}
+use mathlib.Core.Bool.{Bool, true, false, and-false}
 use mathlib.Core.List.{List, [], _∷_, _++_}
 use Prim.Native.Nat.{ℕ, _<_}
 use native.Mathlib.Omega.{arith}
@@ -27,6 +29,8 @@ use Rattle.tool.specs.declared.NumberVerb.{NumberVerb}
 use Rattle.tool.specs.declared.NumberVerb.the-variants.{Decode, Fibonacci, Places, NumberOf, Hofstadter, Inverse, Height, Prime, MulMod, PowMod}
 use Rattle.tool.specs.declared.Verb.{Verb}
 use Rattle.tool.specs.declared.Verb.the-variants.{Unknown, Build, Script, Help, Version, OnTape, OnNumbers, InScript}
+use Rattle.tool.specs.declared.Row.{Row}
+use Rattle.tool.specs.Verbs.{takesTape}
 use Rattle.tool.specs.Texts.{exponentsLine, powerLines, meaning, stepMeaning, refusalLine, noVerbLine, wrongCountLine, unreadLine, lines, usage}
 use Rattle.tool.specs.Calls.{Asked, noWord, noVerb, wrongCount, unread, known, askedBy}
 use Rattle.tool.specs.Replies.{Replied, printed, at, registersIn, Streams, built, numberReply, tapeReply, means, ownIn, replyTo, reply, isWhole}
@@ -144,3 +148,8 @@ streams r some =
 pub reply-empty : (words : List (List ℕ)) (input : List ℕ) → Streams (reply words input)
 unfolding reply
 reply-empty words input = streams (reply words input) (reply-some (askedBy false words) (isWhole input) _ _)
+
+-- ---- the refusal whose reason is a verb's own
+
+pub own-whole : (row : Row) → row .own ≡ ownIn row true
+own-whole row = rw (and-false (takesTape (row .verb)))

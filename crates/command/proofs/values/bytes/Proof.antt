@@ -1,11 +1,11 @@
 -- `values::bytes` meets its contract: with i numbers copied, the first i stand in the row.
+use mathlib.Core.Path.{refl}
 use Prim.Native.Nat.{_-_, _≤_}
 use native.Mathlib.Omega.{arith}
 use lib.ListN.{length, take}
 use lib.Seq.{take-all}
 use Rattle.refusal.specs.Rows.{Wrote}
-use Rattle.refusal.proofs.Laws.Rows.{wrote-none, wrote-length}
-use Rattle.command.proofs.Laws.Values.{copied-next}
+use Rattle.refusal.proofs.Laws.Rows.{wrote-none, wrote-length, wrote-element}
 use Rattle.command.proofs.values.bytes.Statement.{statement}
 use Rattle.command.proofs.values.bytes.Tie as tie
 
@@ -37,7 +37,7 @@ loop-less : tie.Need-loop-less Inv-loop μ-loop
 loop-less c = omega arith
 
 loop-again : tie.Need-loop-again Inv-loop μ-loop
-loop-again c = (omega arith, copied-next (c .before .before .before .before .before .before .args .values .now) (c .before .before .before .loop .i) _ (omega arith) (c .byte .ensures) (c .before .before .before .loop .inv .1))
+loop-again c = (omega arith, wrote-element (c .before .before .before .before .before .before .args .values .now) (c .before .before .before .loop .i) (omega arith) (c .byte .ensures) refl (c .before .before .before .loop .inv .1))
 
 same-length : tie.Need-same-length Inv-loop μ-loop
 same-length c = wrote-length (c .before .loop .inv .1)

@@ -1,41 +1,46 @@
--- `judge` meets its contract: what the command printed stands whole in the space, and the line goes on past the equals sign.
-use Prim.Native.Nat.{ℕ, _+_, _-_}
-use Prim.Native.Nat.{_+_, _-_}
-use lib.ListN.{length, drop, length-take, length-drop, length-replicate}
-use lib.Seq.{take-all, length-take-le}
+-- `judge` meets its contract: what the command printed stands whole in the space, and the verdict is on that.
 use mathlib.Core.Path.{refl, sym}
-use Prim.Native.Nat.{_+_}
+use mathlib.Core.List.{List}
+use Prim.Native.Nat.{ℕ, _+_, _≤_}
 use native.Mathlib.Omega.{arith}
-use lib.ListN.{drop, length-take, length-drop, length-replicate}
+use lib.ListN.{length, drop, length-take, length-drop, length-replicate}
 use lib.Seq.{length-take-le}
 use borrow.Author.Needs.{needs}
 use Rattle.text.proofs.Laws.Puts.{put-inside}
-use Rattle.scripting.specs.Script.{maxPrinted}
-use Rattle.scripting.proofs.Laws.Equals.{equals-whole}
+use Rattle.scripting.specs.declared.Printed.{Printed}
+use Rattle.scripting.specs.Script.{Done, maxLine, maxPrinted}
+use Rattle.scripting.specs.States.{Did}
 use Rattle.scripting.proofs.Laws.Judging.{did-judged}
 use Rattle.script.proofs.whole_line.judge.Statement.{statement}
 use Rattle.script.proofs.whole_line.judge.Tie as tie
+
+-- what a command printed is in its row
+inside : {done : Done} {before row after : List ℕ} {r : Printed} → Did done before r row after → r .length ≤ length after
+inside did = put-inside (did .printed) (omega arith)
+
+-- a part of a line is no longer than the line may be
+short : (line : List ℕ) (n : ℕ) → length line ≤ maxLine → length (drop n line) ≤ maxLine
+short line n h = omega (arith, length-drop n line)
 
 slice-aggregate-command : tie.Need-slice-aggregate-command
 slice-aggregate-command c = sym (length-take-le (c .before .before .before .before .args .at) (c .before .before .before .before .args .line .now) (omega (arith, c .before .before .before .before .pre .1)))
 
 command-requires : tie.Need-command-requires
-command-requires c κs = (c .before .before .before .before .before .before .pre .0, omega (arith, length-take (c .before .before .before .before .before .before .args .at) (c .before .before .before .before .before .before .args .line .now), c .before .before .before .before .before .before .pre .1))
+command-requires c κs =
+    let s = c .before .before .before .before .before .before in
+    (s .pre .0, omega (arith, length-take (s .args .at) (s .args .line .now), s .pre .1))
 
-slice-aggregate-put : tie.Need-slice-aggregate-put
-slice-aggregate-put c = sym (length-take-le (c .before .before .before .before .before .before .command .result .length) (c .before .before .before .before .before .before .command .last .1 .1 .1 .0) (put-inside (c .before .before .before .before .before .before .command .ensures .printed) (omega arith)))
+array-share-prefix-space : tie.Need-array-share-prefix-space
+array-share-prefix-space c = inside (c .before .before .before .before .before .command .ensures)
 
-slice-aggregate-put-verdict : tie.Need-slice-aggregate-put-verdict
-slice-aggregate-put-verdict c = sym (length-take-le (c .before .before .before .before .before .before .before .before .before .before .before .command .result .length) (c .before .before .before .before .before .before .before .before .before .before .before .command .last .1 .1 .1 .0) (put-inside (c .before .before .before .before .before .before .before .before .before .before .before .command .ensures .printed) (omega arith)))
-
-sub-put-verdict : tie.Need-sub-put-verdict
-sub-put-verdict c = omega (arith, equals-whole (c .before .before .before .before .before .before .before .before .before .before .before .before .before .before .before .before .before .before .args .line .now) (omega (arith, c .before .before .before .before .before .before .before .before .before .before .before .before .before .before .before .before .before .before .pre .1)), c .before .before .before .before .before .before .before .before .before .before .before .before .before .before .before .before .before .before .pre .1)
-
-part-put-verdict-start : tie.Need-part-put-verdict-start
-part-put-verdict-start c = omega (arith, equals-whole (c .before .before .before .before .before .before .before .before .before .before .before .before .before .before .before .before .before .before .args .line .now) (omega (arith, c .before .before .before .before .before .before .before .before .before .before .before .before .before .before .before .before .before .before .pre .1)), c .before .before .before .before .before .before .before .before .before .before .before .before .before .before .before .before .before .before .pre .1)
+slice-aggregate-put-judged : tie.Need-slice-aggregate-put-judged
+slice-aggregate-put-judged c = sym (length-take-le (c .before .before .before .before .before .before .command .result .length) (c .before .before .before .before .before .before .command .last .1 .1 .1 .0) (inside (c .before .before .before .before .before .before .command .ensures)))
 
 returns : tie.Need-returns
-returns c = did-judged _ (drop (c .before .before .before .before .before .before .before .before .before .before .before .before .before .before .before .before .before .before .before .before .before .before .args .at + 3) (c .before .before .before .before .before .before .before .before .before .before .before .before .before .before .before .before .before .before .before .before .before .before .args .line .now)) (c .before .before .before .before .before .before .before .before .before .before .before .before .before .before .before .command .ensures) (length-replicate {A = ℕ} maxPrinted 0) (omega (arith, length-drop (c .before .before .before .before .before .before .before .before .before .before .before .before .before .before .before .before .before .before .before .before .before .before .args .at + 3) (c .before .before .before .before .before .before .before .before .before .before .before .before .before .before .before .before .before .before .before .before .before .before .args .line .now), c .before .before .before .before .before .before .before .before .before .before .before .before .before .before .before .before .before .before .before .before .before .before .pre .1)) refl (c .before .before .before .before .before .before .before .before .put .ensures) (rw (take-all (length (c .before .before .before .before .before .before .before .before .before .before .before .before .before .before .before .before .before .before .before .before .before .before .args .line .now) - (c .before .before .before .before .before .before .before .before .before .before .before .before .before .before .before .before .before .before .before .before .before .before .args .at + 3)) (drop (c .before .before .before .before .before .before .before .before .before .before .before .before .before .before .before .before .before .before .before .before .before .before .args .at + 3) (c .before .before .before .before .before .before .before .before .before .before .before .before .before .before .before .before .before .before .before .before .before .before .args .line .now)) (omega (arith, length-drop (c .before .before .before .before .before .before .before .before .before .before .before .before .before .before .before .before .before .before .before .before .before .before .args .at + 3) (c .before .before .before .before .before .before .before .before .before .before .before .before .before .before .before .before .before .before .before .before .before .before .args .line .now)))) at (c .before .before .put-verdict .ensures))
+returns c =
+    let s = c .before .before .before .before .before .before .before .before .before .before .before .before .before .before .before .before in
+    let past = s .args .at + 3 in
+    did-judged _ (drop past (s .args .line .now)) (c .before .before .before .before .before .before .before .before .before .command .ensures) (length-replicate {A = ℕ} maxPrinted 0) (short (s .args .line .now) past (s .pre .1 .1)) refl (c .before .before .put-judged .ensures)
 
 pub judge-spec : {M : Type 1} → statement M
 judge-spec =
@@ -44,15 +49,8 @@ judge-spec =
     slice-aggregate-command
     (λ c. search needs)
     command-requires
-    (λ c. search needs)
-    (λ c. search needs)
-    slice-aggregate-put
-    (λ c κs. search needs)
-    (λ c. search needs)
-    slice-aggregate-put-verdict
-    sub-put-verdict
-    part-put-verdict-start
-    (λ c. search needs)
+    array-share-prefix-space
+    slice-aggregate-put-judged
     (λ c κs. search needs)
     (λ c. search needs)
     (λ c. search needs)

@@ -1,2 +1,0 @@
--- The laws of a verb's parameters.
-pub mod Laws

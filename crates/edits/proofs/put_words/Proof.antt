@@ -1,0 +1,46 @@
+-- `put_words` meets its contract: the words stand behind those that the tape keeps, or the row has no room for them.
+use mathlib.Core.Path.{refl, sym, ap, _∙_}
+use Prim.Native.Nat.{ℕ, _+_}
+use native.Mathlib.Omega.{arith}
+use borrow.Author.Needs.{needs}
+use Rattle.tool.specs.Verbs.{largest32}
+use Rattle.scripting.specs.declared.Marks.{Marks}
+use Rattle.scripting.specs.States.{heldTo}
+use Rattle.scripting.proofs.Laws.Held.{held-length}
+use Rattle.scripting.proofs.Laws.Tapes.{ended}
+use Rattle.scripting.proofs.Laws.Edits.{did-no-words, did-words}
+use Rattle.edits.proofs.put_words.Statement.{statement}
+use Rattle.edits.proofs.put_words.Tie as tie
+
+returns : tie.Need-returns
+returns c =
+    let s = c .before .before .before .before .before .before .before .before in
+    let values = s .args .values .now in
+    did-no-words (s .pre .0) (heldTo largest32 values) (s .pre .1) (s .pre .2) (omega (arith, held-length largest32 values, c .before .before .before .before .if1 .taken)) refl (c .before .before .put-full .ensures)
+
+count-words-requires : tie.Need-count-words-requires
+count-words-requires c κs = omega (arith, c .before .before .before .before .before .before .before .before .before .before .pre .1, ap (λ (m : Marks). m .begin) (c .before .ending .ensures), ap (λ (m : Marks). m .end) (c .before .ending .ensures))
+
+returns-2 : tie.Need-returns-2
+returns-2 c =
+    let s = c .before .before .before .before .before .before .before .before .before .before .before .before .before in
+    let values = s .args .values .now in
+    let same = held-length largest32 values in
+    did-words (s .pre .0) (s .pre .1) (omega (arith, same, c .before .before .before .before .before .before .before .before .before .if1 .left, s .pre .2, s .pre .0 .end)) (c .before .before .before .before .before .before .before .store .ensures)
+    (c .before .before .before .before .ending .ensures ∙ ap (λ (n : ℕ). ended (s .args .marks) (s .args .at + n)) (sym same)) (c .before .before .count-words .ensures)
+
+pub put-words-spec : {M : Type 1} → statement M
+put-words-spec =
+    tie.close
+    (tie.spec
+    (λ c. search needs)
+    (λ c κs. search needs)
+    (λ c. search needs)
+    returns
+    (λ c κs. search needs)
+    (λ c. search needs)
+    (λ c κs. search needs)
+    count-words-requires
+    (λ c. search needs)
+    (λ c. search needs)
+    returns-2)

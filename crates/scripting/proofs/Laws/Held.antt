@@ -1,0 +1,25 @@
+-- Parameters held to a limit: there are as many, each is the least of two, and those within the limit stay as they are.
+use mathlib.Core.Path.{_≡_, refl}
+use mathlib.Core.List.{List, [], _∷_}
+use Prim.Native.Nat.{ℕ, zero, suc, min}
+use native.Mathlib.Nat.{min-eq-left}
+use native.Mathlib.Omega.{arith}
+use lib.ListN.{length, getD, length-map}
+use Rattle.tool.specs.Rows.{Within}
+use Rattle.scripting.specs.States.{heldTo}
+
+module _ (limit : ℕ) where
+  pub held-length : (values : List ℕ) → length (heldTo limit values) ≡ length values
+  unfolding heldTo
+  held-length values = simp length-map
+
+  pub held-at : (values : List ℕ) (i : ℕ) → getD (heldTo limit values) i 0 ≡ min (getD values i 0) limit
+  unfolding heldTo
+  held-at [] i = omega arith
+  held-at (n ∷ values) zero = refl
+  held-at (n ∷ values) (suc i) = held-at values i
+
+  pub held-within : (values : List ℕ) → Within limit values → heldTo limit values ≡ values
+  unfolding heldTo
+  held-within [] within = refl
+  held-within (n ∷ values) within = rw (min-eq-left (within zero), held-within values (λ i. within (suc i)))

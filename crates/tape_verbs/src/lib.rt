@@ -1,0 +1,136 @@
+// The verbs on a tape: what is replied to each.
+mod values;
+
+ghost use Prim.Native.Nat.{_+_, _/_, _≤_};
+ghost use mathlib.Core.Path.{_≡_};
+ghost use lib.ListN.{length, getD, take};
+ghost use lib.Seq.{sets};
+ghost use Rattle.refusal.specs.Rows.{Wrote};
+ghost use Rattle.text.specs.Text.{numbersLine};
+ghost use Rattle.tape.specs.Layout.{stepsOf};
+ghost use Rattle.machine.specs.Machine.{valuesOf};
+ghost use Rattle.program.specs.Services.{acceptOutcome};
+ghost use Rattle.sequencer.specs.Services.{runOutcome, cutOutcome};
+ghost use Rattle.sequencer.specs.Lists.{requestsOf};
+ghost use Rattle.listing.specs.Listing.{linesFor};
+ghost use Rattle.tool.specs.Verbs.{maxParameters};
+ghost use Rattle.tool.specs.Replies.{answers, printed, registersIn, runsTold, played, tapeReply};
+ghost use Rattle.tool.specs.Rows.{Told};
+use lines::numbers_line;
+use lister::list_tape;
+use machine::Registers;
+use printing::answer;
+use printing::print_exponents;
+use printing::print_power;
+use printing::print_registers;
+use printing::refuse;
+use tool::ANSWERED;
+use tool::MAX_PARAMETERS;
+use tool::Reply;
+use tool::TapeVerb;
+use values::first;
+use values::parameter;
+use values::past_registers;
+use values::registers;
+
+// The registers of the machine, which a list of runs begins with.
+const REGISTERS: usize = 4;
+
+// The words of a request in a list of runs.
+const REQUEST_WORDS: usize = 4;
+
+// A verb on the tape at hand; a list of runs is on the row of tapes. No verb has more parameters than `tool::MAX_PARAMETERS`: what
+// stands behind that many isn't looked at.
+pub fn on_tape(
+    verb: TapeVerb,
+    own: u32,
+    values: &[u32],
+    tape: &[u32],
+    tapes: &[u32],
+    text: &mut [u8],
+) -> Reply
+    ensures { λ r. ⌜ Told (now (text .entry)) (tapeReply verb own (take maxParameters (now (values .entry))) (now (tape .entry)) (now (tapes .entry))) r (now (text .exit)) ⌝ }
+{
+    let given = first(values);
+    match verb {
+        TapeVerb::Check => answer(text, own, accepting::check(tape)),
+        TapeVerb::Listing => list(tape, text),
+        TapeVerb::Load => print_registers(text, own, running::load(tape, parameter(given, 0))),
+        TapeVerb::Run => run(own, given, tape, text),
+        TapeVerb::Power => print_power(text, own, running::forward(tape, parameter(given, 0))),
+        TapeVerb::Trace => print_exponents(text, own, inspecting::trace(tape, parameter(given, 0))),
+        TapeVerb::Cut => cut(own, tape, parameter(given, 0), parameter(given, 1), text),
+        TapeVerb::Play => play(given, tapes, text),
+    }
+}
+
+// The listing, which of a refused tape is the line of its refusal.
+fn list(tape: &[u32], text: &mut [u8]) -> Reply
+    ensures { λ r. ⌜ Told (now (text .entry)) (answers (linesFor (acceptOutcome (now (tape .entry))) (stepsOf (now (tape .entry))))) r (now (text .exit)) ⌝ }
+{
+    let listed = list_tape(tape, text);
+    Reply {
+        status: ANSWERED,
+        length: listed.written,
+    }
+}
+
+// Run, its registers the first four parameters.
+fn run(own: u32, values: &[u32], tape: &[u32], text: &mut [u8]) -> Reply
+    ensures { λ r. ⌜ Told (now (text .entry)) (printed own (runOutcome (now (tape .entry)) (registersIn (now (values .entry))) (getD (now (values .entry)) 4 0) (getD (now (values .entry)) 5 0)) numbersLine) r (now (text .exit)) ⌝ }
+{
+    let at = registers(values);
+    let answer = running::run(tape, at, parameter(values, 4), parameter(values, 5));
+    print_registers(text, own, answer)
+}
+
+// The step words of a part of the tape.
+fn cut(own: u32, tape: &[u32], first: u32, last: u32, text: &mut [u8]) -> Reply
+    ensures { λ r. ⌜ Told (now (text .entry)) (printed own (cutOutcome (now (tape .entry)) first last) numbersLine) r (now (text .exit)) ⌝ }
+{
+    let mut number: u32 = 0;
+    let part = inspecting::cut(tape, first, last, &mut number);
+    if number != 0 {
+        return refuse(text, own, number);
+    }
+    Reply {
+        status: ANSWERED,
+        length: numbers_line(text, 0, part),
+    }
+}
+
+// A list of runs: four registers, then the requests. Told are the registers at its end, then each run's number.
+fn play(values: &[u32], tapes: &[u32], text: &mut [u8]) -> Reply
+    requires { ⌜ length (now values) ≤ maxParameters ⌝ }
+    ensures { λ r. ⌜ Told (now (text .entry)) (played (now (values .entry)) (now (tapes .entry))) r (now (text .exit)) ⌝ }
+{
+    let requests = past_registers(values);
+    let mut told = [0u32; MAX_PARAMETERS];
+    let length = runs(tapes, requests, registers(values), &mut told);
+    Reply {
+        status: ANSWERED,
+        length: numbers_line(text, 0, &told[..length]),
+    }
+}
+
+// The registers after a list of runs, then each run's number, and how many these are.
+fn runs(tapes: &[u32], requests: &[u32], registers: Registers, told: &mut [u32]) -> usize
+    requires { ⌜ 4 + length (now requests) / 4 ≤ length (now told) ⌝ }
+    ensures { λ count. ⌜ Wrote (now (told .entry)) 0 (runsTold (requestsOf (now (tapes .entry)) (now (requests .entry))) (valuesOf registers)) count (now (told .exit)) ⌝ }
+    ensures { λ count. ⌜ count ≡ 4 + length (now (requests .entry)) / 4 ⌝ }
+{
+    let after = playing::play(tapes, requests, registers, &mut told[REGISTERS..]);
+    put_registers(after, told);
+    REGISTERS + requests.len() / REQUEST_WORDS
+}
+
+// The registers in the first four places.
+fn put_registers(registers: Registers, told: &mut [u32])
+    requires { ⌜ 4 ≤ length (now told) ⌝ }
+    ensures { λ _. ⌜ now (told .exit) ≡ sets (now (told .entry)) 0 (valuesOf registers) ⌝ }
+{
+    told[0] = registers.c;
+    told[1] = registers.d;
+    told[2] = registers.e;
+    told[3] = registers.f;
+}
