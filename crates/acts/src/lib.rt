@@ -2,7 +2,7 @@
 ghost use mathlib.Core.Path.{_≡_};
 ghost use mathlib.Core.Bool.{cond};
 ghost use Rattle.scripting.specs.Script.{isPlaces, isListing};
-ghost use Rattle.scripting.specs.Acts.{actBy, actOf, countOf};
+ghost use Rattle.scripting.specs.Inner.Acts.{actBy, actOf, countOf};
 use scripting::Act;
 use tool::Call;
 use tool::NumberVerb;

@@ -1,24 +1,24 @@
 // Build: the words of a named program, written into a lent buffer.
-mod conditions;
 mod drawing;
 mod forms;
 mod words;
 mod writer;
 
 ghost use mathlib.Core.Path.{_≡_};
+ghost use Prim.Native.Nat.{_≤_};
 ghost use lib.ListN.{length};
 ghost use Rattle.refusal.specs.Outcomes.{numberOutcomeOf};
 ghost use Rattle.named.specs.Named.{namedWords};
+ghost use Rattle.named.specs.Parameters.{badOrder};
 ghost use Rattle.program.specs.Services.{buildOutcome, buildBuffer};
 ghost use Rattle.program.specs.Inner.Forms.{RowsFromTable};
 ghost use Rattle.program.specs.Inner.Building.{Writable, Built};
-use conditions::good_inverse;
-pub use conditions::is_bad_modulus;
-use conditions::is_bad_order;
-pub use conditions::is_bad_variant;
 use drawing::draw;
 use forms::forms;
 use forms::step_count;
+use parameters::good_inverse;
+use parameters::is_bad_modulus;
+use parameters::is_bad_variant;
 use program::FormRows;
 use refusal::NumberAnswer;
 use refusal::Refusal;
@@ -67,4 +67,15 @@ fn write(p: u32, r: u32, k: u32, variant: u32, forms: FormRows, buffer: &mut [u3
     let at = layout::lay_out(buffer, header);
     draw(buffer, at, forms);
     NumberAnswer::Answered(total as u64)
+}
+
+// Refusal 2: r < 2, or r doesn't divide p - 1.
+fn is_bad_order(p: u32, r: u32) -> bool
+    requires { ⌜ 1 ≤ p ⌝ }
+    ensures { λ bad. ⌜ bad ≡ badOrder p r ⌝ }
+{
+    if r < 2 {
+        return true;
+    }
+    (p - 1) % r != 0
 }

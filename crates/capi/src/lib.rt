@@ -17,6 +17,8 @@ ghost use Rattle.text.specs.Reading.{splitWords};
 ghost use Rattle.text.specs.Rows.{Put};
 ghost use Rattle.tool.specs.Replies.{reply, readsTape};
 ghost use Rattle.tool.specs.Rows.{maxText};
+use memory::bit;
+use memory::number_of;
 use memory::registers_in;
 use memory::store_exponents;
 use memory::store_registers;
@@ -48,7 +50,7 @@ pub extern "C" fn fibexp_number(places: &[u8], n: &mut u64) -> u32
     ensures { λ number. ⌜ number ≡ refusalNumber (numberOutcome (now (places .entry))) ⌝ }
     ensures { λ _. ⌜ now (n .exit) ≡ after (numberOutcome (now (places .entry))) (now (n .entry)) ⌝ }
 {
-    store_u64(zeckendorf::number(places), n)
+    store_u64(zeckendorf::number_of_places(places), n)
 }
 
 // Hofstadter's G, which refuses nothing: the answer is G(n) itself.
@@ -98,10 +100,7 @@ pub extern "C" fn fibexp_build(
 pub extern "C" fn fibexp_check(tape: &[u32]) -> u32
     ensures { λ number. ⌜ number ≡ refusalNumber (checkOutcome (now (tape .entry))) ⌝ }
 {
-    match accepting::check(tape) {
-        NumberAnswer::Answered(accepted) => 0,
-        NumberAnswer::Refused(e) => refusal::number(e),
-    }
+    number_of(accepting::check(tape))
 }
 
 // Load: check's refusals, 9, 11.
@@ -197,10 +196,7 @@ pub extern "C" fn fibexp_reply(
 pub extern "C" fn fibexp_reads(arguments: &[u8]) -> u32
     ensures { λ r. ⌜ r ≡ bit (readsTape (splitWords (now (arguments .entry)))) ⌝ }
 {
-    if command::reads_tape(arguments) {
-        return 1;
-    }
-    0
+    bit(command::reads_tape(arguments))
 }
 
 // Stores an answer that fits 32 bits.

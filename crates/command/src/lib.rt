@@ -10,7 +10,7 @@ ghost use Rattle.tool.specs.Verbs.{largest32, maxParameters, limitOf};
 ghost use Rattle.tool.specs.Calls.{askedBy};
 ghost use Rattle.tool.specs.Replies.{tapeReply, means, ownIn, replyTo, reply, answers, verbIn, readsTape, readsScript, writesTape};
 ghost use Rattle.tool.specs.Texts.{usage, versionLine};
-ghost use Rattle.tool.specs.Rows.{Told, Within};
+ghost use Rattle.tool.specs.Rows.{Told, AllAtMost};
 use arguments::understand;
 use complaints::put_no_verb;
 use complaints::put_unread;
@@ -132,7 +132,7 @@ fn perform(
     tapes: &[u32],
     text: &mut [u8],
 ) -> Reply
-    requires { ⌜ (length (now values) ≤ maxParameters) × Within (limitOf (row .verb)) (now values) ⌝ }
+    requires { ⌜ (length (now values) ≤ maxParameters) × AllAtMost (limitOf (row .verb)) (now values) ⌝ }
     ensures { λ r. ⌜ Told (now (text .entry)) (means (row .verb) (ownIn row whole) (now (values .entry)) (now (tape .entry)) (now (tapes .entry))) r (now (text .exit)) ⌝ }
 {
     let own = own_in(row, whole);
@@ -162,7 +162,7 @@ fn perform_on_tape(
     tapes: &[u32],
     text: &mut [u8],
 ) -> Reply
-    requires { ⌜ (length (now values) ≤ maxParameters) × Within largest32 (now values) ⌝ }
+    requires { ⌜ (length (now values) ≤ maxParameters) × AllAtMost largest32 (now values) ⌝ }
     ensures { λ r. ⌜ Told (now (text .entry)) (tapeReply verb own (now (values .entry)) (now (tape .entry)) (now (tapes .entry))) r (now (text .exit)) ⌝ }
 {
     let mut row = [0u32; MAX_PARAMETERS];

@@ -6,7 +6,7 @@ ghost use lib.ListN.{length};
 ghost use Rattle.tool.specs.Verbs.{largest8, largest32, maxParameters, limitOn};
 ghost use Rattle.fibonacci.specs.Services.{bit};
 ghost use Rattle.tool.specs.Replies.{built, numberReply};
-ghost use Rattle.tool.specs.Rows.{Told, Within};
+ghost use Rattle.tool.specs.Rows.{Told, AllAtMost};
 use crate::values::bytes;
 use crate::values::large;
 use crate::values::small;
@@ -25,7 +25,7 @@ use tool::Reply;
 
 // A verb on its parameters.
 pub(crate) fn on_numbers(verb: NumberVerb, own: u32, values: &[u64], text: &mut [u8]) -> Reply
-    requires { ⌜ (length (now values) ≤ maxParameters) × Within (limitOn verb) (now values) ⌝ }
+    requires { ⌜ (length (now values) ≤ maxParameters) × AllAtMost (limitOn verb) (now values) ⌝ }
     ensures { λ r. ⌜ Told (now (text .entry)) (numberReply verb own (now (values .entry))) r (now (text .exit)) ⌝ }
 {
     match verb {
@@ -68,7 +68,7 @@ fn bit(truth: bool) -> u64
 
 // The tape of a named program.
 pub(crate) fn build(own: u32, values: &[u64], text: &mut [u8]) -> Reply
-    requires { ⌜ Within largest32 (now values) ⌝ }
+    requires { ⌜ AllAtMost largest32 (now values) ⌝ }
     ensures { λ r. ⌜ Told (now (text .entry)) (built own (now (values .entry))) r (now (text .exit)) ⌝ }
 {
     let mut row = [0u32; MAX_WORDS];
@@ -103,10 +103,10 @@ fn places(n: u64, text: &mut [u8]) -> Reply
 
 // The number of a list of places.
 fn number_of(own: u32, values: &[u64], text: &mut [u8]) -> Reply
-    requires { ⌜ (length (now values) ≤ maxParameters) × Within largest8 (now values) ⌝ }
+    requires { ⌜ (length (now values) ≤ maxParameters) × AllAtMost largest8 (now values) ⌝ }
     ensures { λ r. ⌜ Told (now (text .entry)) (numberReply NumberVerb.NumberOf own (now (values .entry))) r (now (text .exit)) ⌝ }
 {
     let mut row = [0u8; MAX_PARAMETERS];
     let count = bytes(values, &mut row);
-    answer(text, own, zeckendorf::number(&row[..count]))
+    answer(text, own, zeckendorf::number_of_places(&row[..count]))
 }

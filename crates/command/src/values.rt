@@ -4,7 +4,7 @@ ghost use Prim.Native.Nat.{_≤_};
 ghost use lib.ListN.{length, getD};
 ghost use Rattle.refusal.specs.Rows.{Wrote};
 ghost use Rattle.tool.specs.Verbs.{largest8, largest32};
-ghost use Rattle.tool.specs.Rows.{Within};
+ghost use Rattle.tool.specs.Rows.{AllAtMost};
 
 // A parameter, 0 where there is none.
 pub(crate) fn large(values: &[u64], place: usize) -> u64
@@ -18,7 +18,7 @@ pub(crate) fn large(values: &[u64], place: usize) -> u64
 
 // One of 32 bits.
 pub(crate) fn small(values: &[u64], place: usize) -> u32
-    requires { ⌜ Within largest32 (now values) ⌝ }
+    requires { ⌜ AllAtMost largest32 (now values) ⌝ }
     ensures { λ n. ⌜ n ≡ getD (now (values .entry)) place 0 ⌝ }
 {
     large(values, place) as u32
@@ -26,18 +26,18 @@ pub(crate) fn small(values: &[u64], place: usize) -> u32
 
 // All of them at 32 bits.
 pub(crate) fn words(values: &[u64], row: &mut [u32]) -> usize
-    requires { ⌜ (length (now values) ≤ length (now row)) × Within largest32 (now values) ⌝ }
+    requires { ⌜ (length (now values) ≤ length (now row)) × AllAtMost largest32 (now values) ⌝ }
     ensures { λ count. ⌜ Wrote (now (row .entry)) 0 (now (values .entry)) count (now (row .exit)) ⌝ }
 {
     let mut i: usize = 0;
     while i < values.len() {
-        row[i] = word(values[i]);
+        row[i] = narrow(values[i]);
         i += 1;
     }
     i
 }
 
-fn word(n: u64) -> u32
+fn narrow(n: u64) -> u32
     requires { ⌜ n ≤ largest32 ⌝ }
     ensures { λ word. ⌜ word ≡ n ⌝ }
 {
@@ -46,7 +46,7 @@ fn word(n: u64) -> u32
 
 // All of them as bytes.
 pub(crate) fn bytes(values: &[u64], row: &mut [u8]) -> usize
-    requires { ⌜ (length (now values) ≤ length (now row)) × Within largest8 (now values) ⌝ }
+    requires { ⌜ (length (now values) ≤ length (now row)) × AllAtMost largest8 (now values) ⌝ }
     ensures { λ count. ⌜ Wrote (now (row .entry)) 0 (now (values .entry)) count (now (row .exit)) ⌝ }
 {
     let mut i: usize = 0;

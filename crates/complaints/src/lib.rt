@@ -4,8 +4,8 @@ ghost use Rattle.tool.specs.Texts.{noVerbLine, fromText, countText, wrongCountL
 use putting::put;
 use putting::put_number;
 use putting::put_number_then;
-use putting::put_quoted;
 use putting::put_then;
+use quoting::put_quoted;
 use text::NEWLINE;
 use tool::NO_VARIANT;
 use tool::Row;

@@ -17,11 +17,11 @@ use scripting::MAX_TAPES;
 use scripting::Marks;
 use scripting::Printed;
 use tape_row::ending;
+use tape_row::held_word;
 use tape_row::inside;
 use tape_row::least;
 use tape_row::parameter;
 use tape_row::put_full;
-use tape_row::word;
 use text::NEWLINE;
 use tool::ScriptVerb;
 
@@ -89,7 +89,7 @@ fn store(values: &[u64], row: &mut [u32], at: usize) -> usize
 {
     let mut i: usize = 0;
     while i < values.len() {
-        row[at + i] = word(values[i]);
+        row[at + i] = held_word(values[i]);
         i += 1;
     }
     at + i

@@ -15,14 +15,14 @@ pub(crate) fn words(bytes: &[u8], buffer: &mut [u32]) -> usize
     let mut i: usize = 0;
     while i < count {
         let at = WORD_BYTES * i;
-        buffer[i] = word(bytes[at], bytes[at + 1], bytes[at + 2], bytes[at + 3]);
+        buffer[i] = word_from_bytes(bytes[at], bytes[at + 1], bytes[at + 2], bytes[at + 3]);
         i += 1;
     }
     i
 }
 
 // The word of four bytes, least significant first.
-fn word(a: u8, b: u8, c: u8, d: u8) -> u32
+fn word_from_bytes(a: u8, b: u8, c: u8, d: u8) -> u32
     ensures { λ w. ⌜ w ≡ wordOf a b c d ⌝ }
 {
     a as u32 + 256 * (b as u32 + 256 * (c as u32 + 256 * (d as u32)))

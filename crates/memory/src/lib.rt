@@ -2,6 +2,7 @@
 // comes back.
 ghost use mathlib.Core.Path.{_≡_};
 ghost use Rattle.refusal.specs.Outcomes.{numberOutcomeOf, refusalNumber, after};
+ghost use Rattle.fibonacci.specs.Services.{bit};
 ghost use Rattle.machine.specs.Machine.{valuesOf};
 ghost use Rattle.machine.specs.Exponents.{exponentsOutcomeOf};
 ghost use Rattle.sequencer.specs.Services.{registersOutcomeOf};
@@ -10,6 +11,26 @@ use machine::Registers;
 use refusal::NumberAnswer;
 use register_steps::registers_of;
 use sequencer::RegistersAnswer;
+
+// The number of a service whose answer is stored nowhere.
+pub fn number_of(answer: NumberAnswer) -> u32
+    ensures { λ n. ⌜ n ≡ refusalNumber (numberOutcomeOf answer) ⌝ }
+{
+    match answer {
+        NumberAnswer::Answered(accepted) => 0,
+        NumberAnswer::Refused(e) => refusal::number(e),
+    }
+}
+
+// A truth as a number.
+pub fn bit(truth: bool) -> u32
+    ensures { λ n. ⌜ n ≡ bit truth ⌝ }
+{
+    if truth {
+        return 1;
+    }
+    0
+}
 
 pub fn store_u64(answer: NumberAnswer, place: &mut u64) -> u32
     ensures { λ n. ⌜ n ≡ refusalNumber (numberOutcomeOf answer) ⌝ }

@@ -1,12 +1,9 @@
-// Texts, numbers and quoted words, put into a lent buffer as far as it has room.
-mod quoting;
-
+// Texts and numbers, put into a lent buffer as far as it has room.
 ghost use mathlib.Core.Path.{_≡_};
 ghost use mathlib.Core.List.{[], _∷_, _++_};
 ghost use lib.IntN.{natAbs};
 ghost use Rattle.text.specs.Text.{decimal, whole};
 ghost use Rattle.text.specs.Rows.{Put};
-pub use quoting::put_quoted;
 
 const MINUS: u8 = b'-';
 

@@ -1,4 +1,4 @@
 -- Scripts: command lines one after another, with a row of tapes kept between them.
 pub mod Script
 pub mod States
-pub mod Acts
+pub mod Inner

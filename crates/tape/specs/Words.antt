@@ -21,8 +21,8 @@ kindOf w = w / numberLimit
 abbrev pub payloadOf : ℕ → ℕ
 payloadOf w = w % numberLimit
 
-abbrev pub word : ℕ → ℕ → ℕ
-word kind payload = kind * numberLimit + payload
+abbrev pub packedWord : ℕ → ℕ → ℕ
+packedWord kind payload = kind * numberLimit + payload
 
 -- kind 1: bits 0-7 are the format, which is 1; bits 8-11 the variant
 unfoldable pub headingIn : ℕ → Decoded
@@ -57,16 +57,16 @@ decoded w =
 
 -- the word of a step
 unfoldable pub stepWord : Step → ℕ
-stepWord (Mul t s) = word 5 (t + 4 * s)
-stepWord (Div t s) = word 6 (t + 4 * s)
-stepWord (Swp t s) = word 7 (t + 4 * s)
+stepWord (Mul t s) = packedWord 5 (t + 4 * s)
+stepWord (Div t s) = packedWord 6 (t + 4 * s)
+stepWord (Swp t s) = packedWord 7 (t + 4 * s)
 
 -- the word with a meaning (`decoded-encoded` and `encoded-decoded` of proofs/Laws/Words); a word without one is 0
 unfoldable pub encoded : Decoded → ℕ
-encoded (Heading variant) = word 1 (1 + 256 * variant)
-encoded (P p) = word 2 p
-encoded (R r) = word 3 r
-encoded (K k) = word 4 k
+encoded (Heading variant) = packedWord 1 (1 + 256 * variant)
+encoded (P p) = packedWord 2 p
+encoded (R r) = packedWord 3 r
+encoded (K k) = packedWord 4 k
 encoded (Action step) = stepWord step
-encoded (End count) = word 15 count
+encoded (End count) = packedWord 15 count
 encoded Bad = 0

@@ -64,11 +64,11 @@ pub fn parameter(values: &[u64], place: usize) -> u32
     if values.len() <= place {
         return 0;
     }
-    word(values[place])
+    held_word(values[place])
 }
 
 // A number at 32 bits: the largest of them where it is larger.
-pub fn word(n: u64) -> u32
+pub fn held_word(n: u64) -> u32
     ensures { λ word. ⌜ word ≡ min n largest32 ⌝ }
 {
     if n < LARGEST_32 {

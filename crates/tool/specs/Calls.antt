@@ -14,15 +14,15 @@ pub data Numbers : Type 0 where
   all : List ℕ → Numbers
   stopped : ℕ → Numbers
 
-abbrev pub before : Parsed → ℕ → Numbers → Numbers
-before NoNumber place rest = stopped place
-before (Number n) place (all values) = all (n ∷ values)
-before (Number n) place (stopped other) = stopped other
+abbrev pub prependParsed : Parsed → ℕ → Numbers → Numbers
+prependParsed NoNumber place rest = stopped place
+prependParsed (Number n) place (all values) = all (n ∷ values)
+prependParsed (Number n) place (stopped other) = stopped other
 
 -- from a place on
 unfoldable pub numbersFrom : Row → ℕ → List (List ℕ) → Numbers
 numbersFrom row place [] = all []
-numbersFrom row place (word ∷ words) = before (parameterIn row place word) place (numbersFrom row (place + 1) words)
+numbersFrom row place (word ∷ words) = prependParsed (parameterIn row place word) place (numbersFrom row (place + 1) words)
 
 pub data Asked : Type 0 where
   noWord : Asked

@@ -25,8 +25,8 @@ pub record Told (before : List ℕ) (r : Replied) (told : Reply) (after : List �
   pub short : length (r .text) ≤ maxText
 
 -- all of a row are at most a number
-abbrev pub Within : ℕ → List ℕ → Type 0
-Within most values = (i : ℕ) → getD values i 0 ≤ most
+abbrev pub AllAtMost : ℕ → List ℕ → Type 0
+AllAtMost most values = (i : ℕ) → getD values i 0 ≤ most
 
 -- what a call of the code asks for, with the words and the row of parameters beside it
 abbrev pub askedFor : Call → List (List ℕ) → List ℕ → Asked
@@ -47,7 +47,7 @@ InRange NoVerb words values = 0 ≤ 0
 InRange (WrongCount row given) words values =
     (length (getD words 0 []) ≤ longestName) × (row .least ≤ maxParameters) × (row .most ≤ maxParameters) × (given ≤ largest64)
 InRange (Unread row index) words values = (1 ≤ index) × (row .largest ≤ largest64)
-InRange (Known row count) words values = (count ≤ maxParameters) × Within (limitOf (row .verb)) (take count values)
+InRange (Known row count) words values = (count ≤ maxParameters) × AllAtMost (limitOf (row .verb)) (take count values)
 
 pub record Understood (inScript : Bool) (words : List (List ℕ)) (r : Call) (values : List ℕ) : Type 0 where
   pub asked : askedFor r words values ≡ askedBy inScript words

@@ -101,7 +101,7 @@ pub fn places(n: u64, buffer: &mut [u8]) -> NumberAnswer
 }
 
 // List to number: the sum of the weights of its places.
-pub fn number(list: &[u8]) -> NumberAnswer
+pub fn number_of_places(list: &[u8]) -> NumberAnswer
     ensures { λ answer. ⌜ numberOutcomeOf answer ≡ numberOutcome (now (list .entry)) ⌝ }
 {
     if are_places(list) {

@@ -11,7 +11,7 @@ use lib.Dec.{eqb, ltb}
 use lib.ListN.{length, getD}
 use borrow.Author.Tests.{eqb-true, ltb-true, ltb-false}
 use Rattle.divisors.specs.Small.{limit, SmallDivisor, hasSmallDivisor}
-use Rattle.divisors.specs.Inner.Inverted.{word, DividesBy}
+use Rattle.divisors.specs.Inner.Inverted.{wordModulus, DividesBy}
 use Rattle.refusal.proofs.Laws.Tests.{by-test, both}
 use Rattle.divisors.proofs.Laws.Small.{small-told}
 
@@ -25,7 +25,7 @@ unfoldable pub covers : List ℕ → ℕ → ℕ → List ℕ → Bool
 covers fs zero e xs = true
 covers fs (suc n) e [] = dividedBy fs e && covers fs n (e + 2) []
 covers fs (suc n) e (x ∷ xs) =
-    elim (eqb (e * x % word) 1) [
+    elim (eqb (e * x % wordModulus) 1) [
       | true ↦ covers fs n (e + 2) xs
       | false ↦ dividedBy fs e && covers fs n (e + 2) (x ∷ xs)
     ]
@@ -40,7 +40,7 @@ NoneBelow p e = (d : ℕ) → d < e → ¬ (SmallDivisor p d)
 
 -- none is listed, where place 0 of the list is for 2 i + 5 or more
 abbrev NoneListed : ℕ → ℕ → List ℕ → Type 0
-NoneListed p i xs = (k d : ℕ) → k < length xs → 2 * (i + k) + 5 ≤ d → d * getD xs k 0 % word ≡ 1 → ¬ (SmallDivisor p d)
+NoneListed p i xs = (k d : ℕ) → k < length xs → 2 * (i + k) + 5 ≤ d → d * getD xs k 0 % wordModulus ≡ 1 → ¬ (SmallDivisor p d)
 
 -- f, the least divisor above 1, is a small divisor where it is not p
 pub told-by-least : (p f : ℕ) → 2 ≤ f → f ≤ limit → p % f ≡ 0 → NoneBelow p f → ltb f p ≡ hasSmallDivisor p
@@ -101,9 +101,9 @@ module _ (p : ℕ) (odd : ¬ (p % 2 ≡ 0)) where
       let next : NoneBelow p (e + 2) = past e one below (divided fs e below (parts .0)) in
       walk fs n (e + 2) i [] (parts .1) (omega arith) (omega arith) listed next d (omega arith)
   walk fs (suc n) e i (x ∷ xs) t least one listed below d high =
-      by-test (eqb (e * x % word) 1)
+      by-test (eqb (e * x % wordModulus) 1)
       (λ h.
-      let next : NoneBelow p (e + 2) = past e one below (listed 0 e (omega arith) (omega arith) (eqb-true (e * x % word) 1 h)) in
+      let next : NoneBelow p (e + 2) = past e one below (listed 0 e (omega arith) (omega arith) (eqb-true (e * x % wordModulus) 1 h)) in
       walk fs n (e + 2) (suc i) xs (rw (h, covers) at t) (omega arith) (omega arith) (listed-more i x xs listed) next d (omega arith))
       (λ h.
       let parts : (dividedBy fs e ≡ true) × (covers fs n (e + 2) (x ∷ xs) ≡ true) = both _ _ (rw (h, covers) at t) in

@@ -11,22 +11,22 @@ use lib.Dec.{leb, eqb}
 use borrow.Author.Tests.{eqb-true, eq-eqb, leb-true, le-leb}
 use lib.ListN.{length, getD}
 use Rattle.divisors.specs.Small.{limit, SmallDivisor}
-use Rattle.divisors.specs.Inner.Inverted.{word, quotientBy, isQuotient, InverseAt, DividesBy, FirstAtMost}
+use Rattle.divisors.specs.Inner.Inverted.{wordModulus, quotientBy, isQuotient, InverseAt, DividesBy, FirstAtMost}
 use Rattle.refusal.proofs.Laws.Tests.{both, and-both}
 
 -- the product of two numbers below n
 pub product-below : (n : ℕ) {x y : ℕ} → x < n → y < n → x * y < n * n
 product-below n {x} {y} hx hy = lt-of-le-of-lt (mul-le-mul-left x (le-of-lt hy)) (mul-lt-mul-of-pos-right hx (omega arith))
 
-quotient-is : (p d x : ℕ) → p < word → d * x % word ≡ 1 → d ∣ p → quotientBy x p ≡ p / d
+quotient-is : (p d x : ℕ) → p < wordModulus → d * x % wordModulus ≡ 1 → d ∣ p → quotientBy x p ≡ p / d
 quotient-is p d x fits one h =
     let q : ℕ = p / d in
-    let c : ℕ = d * x / word in
+    let c : ℕ = d * x / wordModulus in
     let whole : q * d ≡ p = div-mul-cancel d h in
-    let product : d * x ≡ 1 + c * word = omega (arith, mod-add-div' (d * x) word) in
-    let split : p * x ≡ q + q * c * word =
+    let product : d * x ≡ 1 + c * wordModulus = omega (arith, mod-add-div' (d * x) wordModulus) in
+    let split : p * x ≡ q + q * c * wordModulus =
     omega (arith, ap (λ (n : ℕ). n * x) whole, ap (λ (n : ℕ). q * n) product) in
-    ap (λ (n : ℕ). n % word) split ∙ add-mul-mod-self-right q (q * c) word ∙ mod-eq-of-lt (lt-of-le-of-lt (div-le-self p d) fits)
+    ap (λ (n : ℕ). n % wordModulus) split ∙ add-mul-mod-self-right q (q * c) wordModulus ∙ mod-eq-of-lt (lt-of-le-of-lt (div-le-self p d) fits)
 
 -- the other factor of p
 pub cofactor-two : (p d q : ℕ) → d < p → q * d ≡ p → 2 ≤ q
@@ -82,7 +82,7 @@ module _ (xs : List ℕ) (p : ℕ) where
         let least : q * (2 * i + 5) ≤ p = le-div-iff-mul-le {k = 2 * i + 5} (omega arith) .0 (f .found inside) in
         record { some = λ t. (p / q, quotient-divisor p q (omega arith) e); none = λ f. absurd (true≢false f) }
 
-    pub cleared-first : p < word → Cleared xs p i → Cleared xs p r
+    pub cleared-first : p < wordModulus → Cleared xs p i → Cleared xs p r
     cleared-first fits k = record { none = none }
       where
         none : (j d : ℕ) → j < r → InverseAt xs j d → ¬ (SmallDivisor p d)
@@ -96,7 +96,7 @@ module _ (xs : List ℕ) (p : ℕ) where
                   omega (arith, f .above j (omega arith) before)
             ]
 
-  pub cleared-more : (i : ℕ) → p < word → Cleared xs p i → isQuotient p (quotientBy (getD xs i 0) p) ≡ false → Cleared xs p (i + 1)
+  pub cleared-more : (i : ℕ) → p < wordModulus → Cleared xs p i → isQuotient p (quotientBy (getD xs i 0) p) ≡ false → Cleared xs p (i + 1)
   cleared-more i fits k e = record { none = none }
     where
       here : (d : ℕ) → InverseAt xs i d → ¬ (SmallDivisor p d)

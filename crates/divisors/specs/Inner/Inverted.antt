@@ -8,12 +8,12 @@ use lib.Dec.{leb, eqb}
 use Rattle.divisors.specs.Small.{limit, SmallDivisor}
 
 -- 2^32
-abbrev pub word : ℕ
-word = 4294967296
+abbrev pub wordModulus : ℕ
+wordModulus = 4294967296
 
 -- p times x modulo 2^32: the quotient, where x is the inverse of d and d divides p
 abbrev pub quotientBy : ℕ → ℕ → ℕ
-quotientBy x p = p * x % word
+quotientBy x p = p * x % wordModulus
 
 -- q is at least 2, and what p divided by a number up to 2^14 comes to
 unfoldable pub isQuotient : ℕ → ℕ → Bool
@@ -23,7 +23,7 @@ isQuotient p q = leb 2 q && eqb (p % q) 0 && leb (p / q) limit
 pub record InverseAt (xs : List ℕ) (j d : ℕ) : Type 0 where
   pub place : j < length xs
   pub least : 2 * j + 5 ≤ d
-  pub one : d * getD xs j 0 % word ≡ 1
+  pub one : d * getD xs j 0 % wordModulus ≡ 1
 
 -- where `found`, p has a small divisor; else none whose inverse is in the list
 pub record DividesBy (xs : List ℕ) (p : ℕ) (found : Bool) : Type 0 where

@@ -23,11 +23,11 @@ abbrev μ-loop : tie.MeasureT-loop
 loop-holds : tie.Need-loop-holds Inv-loop μ-loop
 loop-holds c = (omega arith, record { next-is = omega arith; after-is = refl })
 
-mul-word : tie.Need-mul-word Inv-loop μ-loop
-mul-word c = omega arith
+mul-held-word : tie.Need-mul-held-word Inv-loop μ-loop
+mul-held-word c = omega arith
 
-shared-slice-read-word : tie.Need-shared-slice-read-word Inv-loop μ-loop
-shared-slice-read-word c = omega arith
+shared-slice-read-held-word : tie.Need-shared-slice-read-held-word Inv-loop μ-loop
+shared-slice-read-held-word c = omega arith
 
 add-row : tie.Need-add-row Inv-loop μ-loop
 add-row c = omega (arith, c .before .before .before .before .before .before .pre)
@@ -48,7 +48,7 @@ loop-again : tie.Need-loop-again Inv-loop μ-loop
 loop-again c =
     let values = c .before .before .before .before .before .before .args .values .now in
     let i = c .before .before .before .loop .i in
-    (omega arith, rw (c .word .ensures, ← held-at largest32 values i) (wrote-step (heldTo largest32 values) i (omega (arith, held-length largest32 values, c .before .before .loop-test .taken)) (c .before .before .before .loop .inv .1)))
+    (omega arith, rw (c .held-word .ensures, ← held-at largest32 values i) (wrote-step (heldTo largest32 values) i (omega (arith, held-length largest32 values, c .before .before .loop-test .taken)) (c .before .before .before .loop .inv .1)))
 
 add-result : tie.Need-add-result Inv-loop μ-loop
 add-result c = omega (arith, c .before .before .before .before .pre)
@@ -68,8 +68,8 @@ store-spec =
     Inv-loop
     μ-loop
     loop-holds
-    mul-word
-    shared-slice-read-word
+    mul-held-word
+    shared-slice-read-held-word
     (λ c κs. search needs)
     add-row
     mul-row

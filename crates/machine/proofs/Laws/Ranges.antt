@@ -55,32 +55,32 @@ AllWithin c (e ∷ z) = Within c e × AllWithin c z
 pub four-within : {l : ℕ} {c d e f : ℤ} → Within l c → Within l d → Within l e → Within l f → AllWithin l (c ∷ d ∷ e ∷ f ∷ [])
 four-within vc vd ve vf = (vc, (vd, (ve, (vf, tt))))
 
-pub data Goes (c : ℕ) : List Step → List ℤ → List ℤ → Type 0 where
-  goes-none : {z : List ℤ} → AllWithin c z → Goes c [] z z
-  goes-step : {x : Step} {xs : List Step} {z y w : List ℤ} → AllWithin c z → shift x z ≡ y → Goes c xs y w → Goes c (x ∷ xs) z w
+pub data LeadsTo (c : ℕ) : List Step → List ℤ → List ℤ → Type 0 where
+  goes-none : {z : List ℤ} → AllWithin c z → LeadsTo c [] z z
+  goes-step : {x : Step} {xs : List Step} {z y w : List ℤ} → AllWithin c z → shift x z ≡ y → LeadsTo c xs y w → LeadsTo c (x ∷ xs) z w
 
-pub goes-append : {c : ℕ} (xs : List Step) {ys : List Step} {z y w : List ℤ} → Goes c xs z y → Goes c ys y w → Goes c (xs ++ ys) z w
+pub goes-append : {c : ℕ} (xs : List Step) {ys : List Step} {z y w : List ℤ} → LeadsTo c xs z y → LeadsTo c ys y w → LeadsTo c (xs ++ ys) z w
 goes-append [] (goes-none v) h = h
 goes-append (x ∷ xs) (goes-step v e g) h = goes-step v e (goes-append xs g h)
 
-goes-first : {c : ℕ} {xs : List Step} {z w : List ℤ} → Goes c xs z w → AllWithin c z
+goes-first : {c : ℕ} {xs : List Step} {z w : List ℤ} → LeadsTo c xs z w → AllWithin c z
 goes-first (goes-none v) = v
 goes-first (goes-step v e g) = v
 
-pub goes-back : {c : ℕ} (xs : List Step) {z w : List ℤ} → AllSound xs → length z ≡ 4 → Goes c xs z w → Goes c (inverted xs) w z
+pub goes-back : {c : ℕ} (xs : List Step) {z w : List ℤ} → AllSound xs → length z ≡ 4 → LeadsTo c xs z w → LeadsTo c (inverted xs) w z
 unfolding inverted
 goes-back [] a n (goes-none v) = goes-none v
 goes-back (x ∷ xs) {z} a n (goes-step v e g) =
     goes-append (inverted xs) (goes-back xs (a .1) (ap length (sym e) ∙ length-shift x z ∙ n) g)
     (goes-step (goes-first g) (ap (shift (inverseStep x)) (sym e) ∙ shift-inverse-step x z (a .0) n) (goes-none v))
 
-goes-shifts : {c : ℕ} (xs : List Step) {z w : List ℤ} → Goes c xs z w → shiftAll xs z ≡ w
+goes-shifts : {c : ℕ} (xs : List Step) {z w : List ℤ} → LeadsTo c xs z w → shiftAll xs z ≡ w
 unfolding shiftAll
 goes-shifts [] (goes-none v) = refl
 goes-shifts (x ∷ xs) (goes-step v e g) = ap (shiftAll xs) e ∙ goes-shifts xs g
 
 -- from the exponents that a trace starts from, w is where it ends
-pub goes-end : {c : ℕ} {xs : List Step} {w : List ℤ} → Goes c xs startExponents w → exponentsAt xs (length xs) ≡ w
+pub goes-end : {c : ℕ} {xs : List Step} {w : List ℤ} → LeadsTo c xs startExponents w → exponentsAt xs (length xs) ≡ w
 goes-end {xs = xs} g = ap (λ (l : List Step). shiftAll l startExponents) (take-length xs) ∙ goes-shifts xs g
 
 -- in range, where c is
@@ -90,7 +90,7 @@ module _ {c : ℕ} (small : c ≤ 2 ^ 62) where
   all-range [] v = refl
   all-range (e ∷ z) v = ap₂ _&&_ (within-range e (within-more small (v .0))) (all-range z (v .1))
 
-  pub goes-stays : (xs : List Step) {z w : List ℤ} → Goes c xs z w → staysInRange xs z ≡ true
+  pub goes-stays : (xs : List Step) {z w : List ℤ} → LeadsTo c xs z w → staysInRange xs z ≡ true
   unfolding staysInRange
   goes-stays [] {z} (goes-none v) = all-range z v
   goes-stays (x ∷ xs) {z} (goes-step v e g) = ap₂ _&&_ (all-range z v) (ap (staysInRange xs) e ∙ goes-stays xs g)

@@ -55,14 +55,14 @@ over-lowest (negsuc n) t = omega (arith, leZ-true lowest (negsuc n) t)
 
 -- A number e of the range's test, told in two steps: the first, by what is left of the range on the side that e can leave it on, says
 -- that e can be made; the second tests e on the other side.
-pub record Told (left : ℤ) (first : Bool) (e : ℤ) (second : Bool) : Type 0 where
+pub record RangeTested (left : ℤ) (first : Bool) (e : ℤ) (second : Bool) : Type 0 where
   pub left-fits : SFits w64 left
   pub made-fits : first ≡ true → SFits w64 e
   pub tested : first ≡ true → second ≡ inRange e
   pub outside : first ≡ false → false ≡ inRange e
 
 module _ (left e : ℤ) (room : SFits w64 left) where
-  told-above : (t : Bool) → t ≡ leZ e highest → under e ≤ 2 ^ 63 → Told left t e (leZ lowest e)
+  told-above : (t : Bool) → t ≡ leZ e highest → under e ≤ 2 ^ 63 → RangeTested left t e (leZ lowest e)
   unfolding inRange
   told-above t is low = record {
     left-fits = room;
@@ -71,7 +71,7 @@ module _ (left e : ℤ) (room : SFits w64 left) where
     outside = λ h. sym (ap (λ b. leZ lowest e && b) (sym is ∙ h) ∙ and-false (leZ lowest e));
   }
 
-  told-below : (t : Bool) → t ≡ leZ lowest e → over e < 2 ^ 63 → Told left t e (leZ e highest)
+  told-below : (t : Bool) → t ≡ leZ lowest e → over e < 2 ^ 63 → RangeTested left t e (leZ e highest)
   unfolding inRange
   told-below t is high = record {
     left-fits = room;
@@ -83,14 +83,14 @@ module _ (left e : ℤ) (room : SFits w64 left) where
 -- a sum and a difference
 module _ (x y : ℤ) (fx : SFits w64 x) (fy : SFits w64 y) where
   module _ (positive : ltZ (pos 0) y ≡ true) where
-    pub sum-above : Told (highest -ℤ y) (leZ x (highest -ℤ y)) (x +ℤ y) (leZ lowest (x +ℤ y))
+    pub sum-above : RangeTested (highest -ℤ y) (leZ x (highest -ℤ y)) (x +ℤ y) (leZ lowest (x +ℤ y))
     sum-above =
         let l = ltZ-true (pos 0) y positive in
         told-above (highest -ℤ y) (x +ℤ y)
         (fits (highest -ℤ y) (omega (arith, over-less highest y)) (omega (arith, under-less highest y, parts y fy .0)))
         _ (most-less x y highest) (omega (arith, under-sum x y, parts x fx .1))
 
-    pub difference-above : Told (lowest +ℤ y) (leZ (lowest +ℤ y) x) (x -ℤ y) (leZ (x -ℤ y) highest)
+    pub difference-above : RangeTested (lowest +ℤ y) (leZ (lowest +ℤ y) x) (x -ℤ y) (leZ (x -ℤ y) highest)
     difference-above =
         let l = ltZ-true (pos 0) y positive in
         told-below (lowest +ℤ y) (x -ℤ y)
@@ -98,14 +98,14 @@ module _ (x y : ℤ) (fx : SFits w64 x) (fy : SFits w64 y) where
         _ (least-more x y lowest) (omega (arith, over-less x y, parts x fx .0))
 
   module _ (rest : ltZ (pos 0) y ≡ false) where
-    pub sum-below : Told (lowest -ℤ y) (leZ (lowest -ℤ y) x) (x +ℤ y) (leZ (x +ℤ y) highest)
+    pub sum-below : RangeTested (lowest -ℤ y) (leZ (lowest -ℤ y) x) (x +ℤ y) (leZ (x +ℤ y) highest)
     sum-below =
         let l = ltZ-false (pos 0) y rest in
         told-below (lowest -ℤ y) (x +ℤ y)
         (fits (lowest -ℤ y) (omega (arith, over-less lowest y, parts y fy .1)) (omega (arith, under-less lowest y)))
         _ (least-less x y lowest) (omega (arith, over-sum x y, parts x fx .0))
 
-    pub difference-below : Told (highest +ℤ y) (leZ x (highest +ℤ y)) (x -ℤ y) (leZ lowest (x -ℤ y))
+    pub difference-below : RangeTested (highest +ℤ y) (leZ x (highest +ℤ y)) (x -ℤ y) (leZ lowest (x -ℤ y))
     difference-below =
         let l = ltZ-false (pos 0) y rest in
         told-above (highest +ℤ y) (x -ℤ y)

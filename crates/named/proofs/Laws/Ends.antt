@@ -20,11 +20,11 @@ use Rattle.tape.specs.Steps.{AllSound}
 use Rattle.machine.specs.Machine.{undoAll, start}
 use Rattle.machine.specs.Exponents.{startExponents, exponentsAt, residueOf}
 use Rattle.machine.proofs.Laws.Steps.{residues-start, undo-do}
-use Rattle.machine.proofs.Laws.Ranges.{Goes, goes-end}
+use Rattle.machine.proofs.Laws.Ranges.{LeadsTo, goes-end}
 use Rattle.machine.proofs.Laws.Orders.{registers-residues}
 use Rattle.machine.proofs.Laws.Congruences.{Congruent, congruent-less, residue-is}
 use Rattle.named.specs.Generators.{Raises, UndoneRaises}
-use Rattle.named.proofs.Laws.Sequences.{Adds, before, multiple, multiple-zero, multiple-one, multiple-next, before-sum, Reaching, cameFrom}
+use Rattle.named.proofs.Laws.Sequences.{Adds, minusSelected, multiple, multiple-zero, multiple-one, multiple-next, minus-selected-sum, Reaching, cameFrom}
 
 -- (0, k, 0, 0) modulo r
 abbrev pub EndsAt : ℕ → ℕ → List ℤ → Type 0
@@ -58,10 +58,10 @@ module _ (r : ℕ) (u v : ℕ → ℤ) (p : Adds u) (q : Adds v) where
   ]
 
 before-congruent : (r n : ℕ) (u v : ℕ → ℤ) → ((i : ℕ) → i ≤ suc n → Congruent r (u i) (v i)) → (i : ℕ) (bs : List Bool) (e f : ℤ)
-    → i + length bs ≤ suc n → Congruent r e f → Congruent r (before u i bs e) (before v i bs f)
+    → i + length bs ≤ suc n → Congruent r e f → Congruent r (minusSelected u i bs e) (minusSelected v i bs f)
 before-congruent r n u v c i [] e f h a = a
 before-congruent r n u v c i (true ∷ bs) e f h a =
-    congruent-less r (before u (suc i) bs e) (before v (suc i) bs f) (u (suc i)) (v (suc i))
+    congruent-less r (minusSelected u (suc i) bs e) (minusSelected v (suc i) bs f) (u (suc i)) (v (suc i))
     (before-congruent r n u v c (suc i) bs e f (omega arith) a) (c (suc i) (omega arith))
 before-congruent r n u v c i (false ∷ bs) e f h a = before-congruent r n u v c (suc i) bs e f (omega arith) a
 
@@ -74,14 +74,14 @@ came-ends r k {n = n} q ss ts e f h cs ct ls lt ce cf =
     let u : ℕ → ℤ = q .term in
     let terms : (i : ℕ) → i ≤ suc n → Congruent r (u i) (multiple k i) =
     terms-congruent r u (multiple k) (q .sequence .next) (multiple-next k) n (rw (q .last) cs) (rw (q .past) ct) in
-    let none : (bs : List Bool) (x : ℤ) → length bs ≤ n → Congruent r x (pos (k * fibsum bs)) → Congruent r (before u 1 bs x) (pos 0) =
-    λ bs x l c. rw (before-sum k 1 bs) at (before-congruent r n u (multiple k) terms 1 bs x (pos (k * fibsum bs)) (omega arith) c) in
-    ends-at r k (u 0) (u 1) (before u 1 ss e) (before u 1 ts f) h
+    let none : (bs : List Bool) (x : ℤ) → length bs ≤ n → Congruent r x (pos (k * fibsum bs)) → Congruent r (minusSelected u 1 bs x) (pos 0) =
+    λ bs x l c. rw (minus-selected-sum k 1 bs) at (before-congruent r n u (multiple k) terms 1 bs x (pos (k * fibsum bs)) (omega arith) c) in
+    ends-at r k (u 0) (u 1) (minusSelected u 1 ss e) (minusSelected u 1 ts f) h
     (rw (multiple-zero k) at (terms 0 (omega arith))) (rw (multiple-one k) at (terms 1 (omega arith)))
     (none ss e ls ce) (none ts f lt cf)
 
 -- where a program ends that goes there
-pub end-residues : (r k : ℕ) {c : ℕ} {xs : List Step} {z : List ℤ} → Goes c xs startExponents z → EndsAt r k z → EndsAt r k (exponentsAt xs (length xs))
+pub end-residues : (r k : ℕ) {c : ℕ} {xs : List Step} {z : List ℤ} → LeadsTo c xs startExponents z → EndsAt r k z → EndsAt r k (exponentsAt xs (length xs))
 end-residues r k goes e = ap (map (residueOf r)) (goes-end goes) ∙ e
 
 -- ---- the power

@@ -16,16 +16,16 @@ use Rattle.tape.specs.declared.Step.{Step}
 use Rattle.tape.specs.declared.Step.the-variants.{Mul, Swp}
 use Rattle.machine.specs.Exponents.{shift, startExponents}
 use Rattle.machine.proofs.Laws.Integers.{Within, within-natural, within-more}
-use Rattle.machine.proofs.Laws.Ranges.{AllWithin, four-within, Goes, goes-none, goes-step, goes-append}
+use Rattle.machine.proofs.Laws.Ranges.{AllWithin, four-within, LeadsTo, goes-none, goes-step, goes-append}
 use Rattle.named.specs.Generators.{select, lowest, higher, ascend, chain, downSteps, descend}
 use Rattle.named.proofs.Laws.Lengths.{length-higher, ones-lowest}
-use Rattle.named.proofs.Laws.Sequences.{Sequence, before, before-lowest, before-none, before-within, multiple, multiple-zero, multiple-one, multiples, before-sum}
+use Rattle.named.proofs.Laws.Sequences.{Sequence, minusSelected, minus-selected-lowest, minus-selected-none, minus-selected-within, multiple, multiple-zero, multiple-one, multiples, minus-selected-sum}
 
 -- ---- going up
 
 -- a step for a place that is set takes a to b in the exponents f a; where the place is not set, b is there already
 selected : {l : ℕ} (s : Bool) (x : Step) {xs : List Step} {v : List ℤ} (f : ℤ → List ℤ) (a b : ℤ) → AllWithin l (f a) → shift x (f a) ≡ f b
-    → Goes l xs (f b) v → Goes l (select s x xs) (f (cond s a b)) v
+    → LeadsTo l xs (f b) v → LeadsTo l (select s x xs) (f (cond s a b)) v
 selected true x f a b r e g = goes-step r e g
 selected false x f a b r e g = g
 
@@ -36,8 +36,8 @@ either-within false a b va vb = vb
 -- a chain step to w and its selected multiplications
 chained : {l : ℕ} (s t : Bool) {xs : List Step} {v : List ℤ} (c d w a b : ℤ) → c +ℤ d ≡ w
     → Within l c → Within l d → Within l w → Within l a → Within l b → Within l (a -ℤ w) → Within l (b -ℤ w)
-    → Goes l xs (d ∷ w ∷ a ∷ b ∷ []) v
-    → Goes l (Mul 0 1 ∷ Swp 0 1 ∷ select s (Mul 2 1) (select t (Mul 3 1) xs)) (c ∷ d ∷ cond s (a -ℤ w) a ∷ cond t (b -ℤ w) b ∷ []) v
+    → LeadsTo l xs (d ∷ w ∷ a ∷ b ∷ []) v
+    → LeadsTo l (Mul 0 1 ∷ Swp 0 1 ∷ select s (Mul 2 1) (select t (Mul 3 1) xs)) (c ∷ d ∷ cond s (a -ℤ w) a ∷ cond t (b -ℤ w) b ∷ []) v
 unfolding shift
 chained s t c d w a b next vc vd vw va vb va′ vb′ g =
     let x : ℤ = cond s (a -ℤ w) a in
@@ -61,14 +61,14 @@ module _ (b m : ℕ) where
     term-reached : (i : ℕ) → i ≤ suc n → Within (reach b m) (u i)
     term-reached i h = reached (q .small i h)
 
-    selected-reached : (x : ℤ) → Within b x → (i : ℕ) (bs : List Bool) → i + length bs ≤ suc n → ones bs ≤ suc m → Within (reach b m) (before u i bs x)
+    selected-reached : (x : ℤ) → Within b x → (i : ℕ) (bs : List Bool) → i + length bs ≤ suc n → ones bs ≤ suc m → Within (reach b m) (minusSelected u i bs x)
     selected-reached x w i bs h few =
         let fewer : suc (ones bs) ≤ 2 + m = omega arith in
-        within-more (omega (arith, mul-le-mul-left b fewer)) (before-within b n u q i bs x h w)
+        within-more (omega (arith, mul-le-mul-left b fewer)) (minus-selected-within b n u q i bs x h w)
 
     -- to e and f, from what was there before the terms that the forms select
     pub ascend-from : (ss ts : List Bool) (i : ℕ) → length ts ≤ length ss → i + length ss ≡ n → ones ss ≤ m → ones ts ≤ m
-        → Goes (reach b m) (ascend ss ts) (u i ∷ u (suc i) ∷ before u (suc i) ss e ∷ before u (suc i) ts f ∷ []) (u n ∷ u (suc n) ∷ e ∷ f ∷ [])
+        → LeadsTo (reach b m) (ascend ss ts) (u i ∷ u (suc i) ∷ minusSelected u (suc i) ss e ∷ minusSelected u (suc i) ts f ∷ []) (u n ∷ u (suc n) ∷ e ∷ f ∷ [])
     unfolding ascend ones
     ascend-from [] [] i h l few few′ =
         let here : i ≡ n = omega arith in
@@ -78,8 +78,8 @@ module _ (b m : ℕ) where
         let j : ℕ = suc (suc i) in
         let short : length (higher ts) ≤ length ss = length-higher (length ss) ts h in
         let few″ : ones (higher ts) ≤ m = omega (arith, ones-lowest ts) in
-        rw (before-lowest u (suc i) ts f)
-        (chained s (lowest ts) (u i) (u (suc i)) (u j) (before u j ss e) (before u j (higher ts) f) (q .next i)
+        rw (minus-selected-lowest u (suc i) ts f)
+        (chained s (lowest ts) (u i) (u (suc i)) (u j) (minusSelected u j ss e) (minusSelected u j (higher ts) f) (q .next i)
         (term-reached i (omega arith)) (term-reached (suc i) (omega arith)) (term-reached j (omega arith))
         (selected-reached e we j ss (omega arith) (omega arith)) (selected-reached f wf j (higher ts) (omega arith) (omega arith))
         (selected-reached e we (suc i) (true ∷ ss) (omega arith) (omega arith)) (selected-reached f wf (suc i) (true ∷ higher ts) (omega arith) (omega arith))
@@ -89,25 +89,25 @@ module _ (b m : ℕ) where
 
   module _ (n k : ℕ) (most : k * fib (suc n) ≤ b) (e f : ℤ) (we : Within b e) (wf : Within b f) where
     ascend-multiples : (ss ts : List Bool) → length ss ≡ n → length ts ≤ n → ones ss ≤ m → ones ts ≤ m
-        → Goes (reach b m) (ascend ss ts) (pos 0 ∷ pos k ∷ before (multiple k) 1 ss e ∷ before (multiple k) 1 ts f ∷ [])
+        → LeadsTo (reach b m) (ascend ss ts) (pos 0 ∷ pos k ∷ minusSelected (multiple k) 1 ss e ∷ minusSelected (multiple k) 1 ts f ∷ [])
         (multiple k n ∷ multiple k (suc n) ∷ e ∷ f ∷ [])
     ascend-multiples ss ts ls lt few few′ =
         rw (multiple-zero k, multiple-one k) at
         (ascend-from n (multiple k) (multiples b n k most) e f we wf ss ts 0 (omega arith) (omega arith) few few′)
 
-    pub chain-multiples : Goes (reach b m) (chain n) (pos 0 ∷ pos k ∷ e ∷ f ∷ []) (multiple k n ∷ multiple k (suc n) ∷ e ∷ f ∷ [])
+    pub chain-multiples : LeadsTo (reach b m) (chain n) (pos 0 ∷ pos k ∷ e ∷ f ∷ []) (multiple k n ∷ multiple k (suc n) ∷ e ∷ f ∷ [])
     unfolding ones
     chain-multiples =
-        rw (before-none (multiple k) 1 n e) at
+        rw (minus-selected-none (multiple k) 1 n e) at
         (ascend-multiples (pad n []) [] (pad-length n [] (omega arith)) (omega arith) (omega (arith, ones-pad n [])) (omega arith))
 
   -- from (0, 1, 0, 0) to the sums of two forms
   pub ascend-sums : (n : ℕ) (ss ts : List Bool) → length ss ≡ n → length ts ≤ n → ones ss ≤ m → ones ts ≤ m
       → 1 * fib (suc n) ≤ b → fibsum ss ≤ b → fibsum ts ≤ b
-      → Goes (reach b m) (ascend ss ts) startExponents (multiple 1 n ∷ multiple 1 (suc n) ∷ pos (fibsum ss) ∷ pos (fibsum ts) ∷ [])
+      → LeadsTo (reach b m) (ascend ss ts) startExponents (multiple 1 n ∷ multiple 1 (suc n) ∷ pos (fibsum ss) ∷ pos (fibsum ts) ∷ [])
   ascend-sums n ss ts ls lt few few′ most hs ht =
-      let none : (bs : List Bool) → before (multiple 1) 1 bs (pos (fibsum bs)) ≡ pos 0 =
-      λ bs. ap (λ (x : ℕ). before (multiple 1) 1 bs (pos x)) (omega arith) ∙ before-sum 1 1 bs in
+      let none : (bs : List Bool) → minusSelected (multiple 1) 1 bs (pos (fibsum bs)) ≡ pos 0 =
+      λ bs. ap (λ (x : ℕ). minusSelected (multiple 1) 1 bs (pos x)) (omega arith) ∙ minus-selected-sum 1 1 bs in
       rw (none ss, none ts) at
       (ascend-multiples n 1 most (pos (fibsum ss)) (pos (fibsum ts)) (within-natural (fibsum ss) hs) (within-natural (fibsum ts) ht) ss ts ls lt few few′)
 
@@ -118,7 +118,7 @@ all-naturals l c d e f h =
     four-within (within-natural c (omega arith)) (within-natural d (omega arith)) (within-natural e (omega arith)) (within-natural f (omega arith))
 
 downward : (l : ℕ) (b : Bool) (u v : ℕ) → 2 * (u + (v + cond b 1 0)) < l
-    → Goes l (downSteps b) (pos 1 ∷ pos u ∷ pos v ∷ pos 0 ∷ []) (pos 1 ∷ pos (v + cond b 1 0) ∷ pos (u + (v + cond b 1 0)) ∷ pos 0 ∷ [])
+    → LeadsTo l (downSteps b) (pos 1 ∷ pos u ∷ pos v ∷ pos 0 ∷ []) (pos 1 ∷ pos (v + cond b 1 0) ∷ pos (u + (v + cond b 1 0)) ∷ pos 0 ∷ [])
 unfolding shift
 downward l true u v h =
     goes-step (all-naturals l 1 u v 0 (omega arith)) refl
@@ -140,7 +140,7 @@ place-high true u v = omega (arith, fib-next 0, fib-one, fib-zero)
 place-high false u v = omega arith
 
 pub descend-sums : (l : ℕ) (bs : List Bool) → 2 * fibsum bs < l
-    → Goes l (descend bs) (pos 1 ∷ pos 0 ∷ pos 0 ∷ pos 0 ∷ []) (pos 1 ∷ pos (fibsumFrom 0 bs) ∷ pos (fibsum bs) ∷ pos 0 ∷ [])
+    → LeadsTo l (descend bs) (pos 1 ∷ pos 0 ∷ pos 0 ∷ pos 0 ∷ []) (pos 1 ∷ pos (fibsumFrom 0 bs) ∷ pos (fibsum bs) ∷ pos 0 ∷ [])
 unfolding descend fibsumFrom
 descend-sums l [] h = goes-none (all-naturals l 1 0 0 0 (omega arith))
 descend-sums l (b ∷ bs) h =

@@ -21,7 +21,7 @@ use Rattle.tape.specs.Steps.{AllSound}
 use Rattle.machine.specs.Machine.{inverted}
 use Rattle.machine.specs.Exponents.{shift, startExponents, exponentsAt}
 use Rattle.machine.proofs.Laws.Integers.{Within, within-natural}
-use Rattle.machine.proofs.Laws.Ranges.{four-within, Goes, goes-step, goes-append, goes-back, goes-stays}
+use Rattle.machine.proofs.Laws.Ranges.{four-within, LeadsTo, goes-step, goes-append, goes-back, goes-stays}
 use Rattle.machine.proofs.Laws.Congruences.{Congruent, congruent-same, congruent-naturals}
 use Rattle.named.specs.declared.Figure.{Figure}
 use Rattle.named.specs.declared.Figure.the-variants.{Two, Four, Six}
@@ -52,7 +52,7 @@ module _ (r k : ℕ) (good : badExponent k r ≡ false) where
         → length Ss ≡ n → length Ts ≤ n → ones Ss ≤ m → ones Ts ≤ m → Within b e → Within b f
         → Congruent r s (multiple k n) → Congruent r t (multiple k (suc n)) → Congruent r e (pos (k * fibsum Ss)) → Congruent r f (pos (k * fibsum Ts))
         → (r < numberLimit → length (drawn figure ss ts Ss Ts) ≤ maxSteps)
-        → ((z : List ℤ) → Goes (reach b m) (inverted (ascend Ss Ts)) (s ∷ t ∷ e ∷ f ∷ []) z → Goes (reach b m) (drawn figure ss ts Ss Ts) startExponents z)
+        → ((z : List ℤ) → LeadsTo (reach b m) (inverted (ascend Ss Ts)) (s ∷ t ∷ e ∷ f ∷ []) z → LeadsTo (reach b m) (drawn figure ss ts Ss Ts) startExponents z)
         → IsProgram r k (drawn figure ss ts Ss Ts)
     drawn-program figure ss ts Ss Ts {n} q e f lS lT few few′ we wf cs ct ce cf short opening =
         let xs : List Step = drawn figure ss ts Ss Ts in
@@ -78,7 +78,7 @@ module _ (r k : ℕ) (good : badExponent k r ≡ false) where
     lone-program : (figure : Figure) (ss Ks : List Bool) {s t : ℤ} (q : Reaching b (length Ks) s t) → k * fibsum Ks % r ≡ 1 → ones Ks ≤ m → 1 ≤ b
         → Congruent r s (multiple k (length Ks)) → Congruent r t (multiple k (suc (length Ks)))
         → (r < numberLimit → length (drawn figure ss [] Ks []) ≤ maxSteps)
-        → ((z : List ℤ) → Goes (reach b m) (inverted (ascend Ks [])) (s ∷ t ∷ pos 1 ∷ pos 0 ∷ []) z → Goes (reach b m) (drawn figure ss [] Ks []) startExponents z)
+        → ((z : List ℤ) → LeadsTo (reach b m) (inverted (ascend Ks [])) (s ∷ t ∷ pos 1 ∷ pos 0 ∷ []) z → LeadsTo (reach b m) (drawn figure ss [] Ks []) startExponents z)
         → IsProgram r k (drawn figure ss [] Ks [])
     unfolding fibsumFrom ones
     lone-program figure ss Ks q inv few some cs ct short opening =

@@ -26,30 +26,30 @@ pub record Sequence (b n : ℕ) (u : ℕ → ℤ) : Type 0 where
 -- ---- the terms that a form selects
 
 -- what was there before the terms selected by a form whose first bit is place i were added, to e
-abbrev pub before : (ℕ → ℤ) → ℕ → List Bool → ℤ → ℤ
-before u i [] e = e
-before u i (b ∷ bs) e = cond b (before u (suc i) bs e -ℤ u (suc i)) (before u (suc i) bs e)
+abbrev pub minusSelected : (ℕ → ℤ) → ℕ → List Bool → ℤ → ℤ
+minusSelected u i [] e = e
+minusSelected u i (b ∷ bs) e = cond b (minusSelected u (suc i) bs e -ℤ u (suc i)) (minusSelected u (suc i) bs e)
 
-pub before-lowest : (u : ℕ → ℤ) (i : ℕ) (ts : List Bool) (f : ℤ)
-    → before u i ts f ≡ cond (lowest ts) (before u (suc i) (higher ts) f -ℤ u (suc i)) (before u (suc i) (higher ts) f)
-before-lowest u i [] f = refl
-before-lowest u i (t ∷ ts) f = refl
+pub minus-selected-lowest : (u : ℕ → ℤ) (i : ℕ) (ts : List Bool) (f : ℤ)
+    → minusSelected u i ts f ≡ cond (lowest ts) (minusSelected u (suc i) (higher ts) f -ℤ u (suc i)) (minusSelected u (suc i) (higher ts) f)
+minus-selected-lowest u i [] f = refl
+minus-selected-lowest u i (t ∷ ts) f = refl
 
 -- a form with no place set selects none
-pub before-none : (u : ℕ → ℤ) (i n : ℕ) (e : ℤ) → before u i (pad n []) e ≡ e
+pub minus-selected-none : (u : ℕ → ℤ) (i n : ℕ) (e : ℤ) → minusSelected u i (pad n []) e ≡ e
 unfolding pad
-before-none u i zero e = refl
-before-none u i (suc n) e = before-none u (suc i) n e
+minus-selected-none u i zero e = refl
+minus-selected-none u i (suc n) e = minus-selected-none u (suc i) n e
 
 -- at most b for each place that is set
-pub before-within : (b n : ℕ) (u : ℕ → ℤ) → Sequence b n u → (i : ℕ) (bs : List Bool) (e : ℤ) → i + length bs ≤ suc n → Within b e
-    → Within (b * suc (ones bs)) (before u i bs e)
+pub minus-selected-within : (b n : ℕ) (u : ℕ → ℤ) → Sequence b n u → (i : ℕ) (bs : List Bool) (e : ℤ) → i + length bs ≤ suc n → Within b e
+    → Within (b * suc (ones bs)) (minusSelected u i bs e)
 unfolding ones
-before-within b n u q i [] e h w = within-more (omega arith) w
-before-within b n u q i (true ∷ bs) e h w =
+minus-selected-within b n u q i [] e h w = within-more (omega arith) w
+minus-selected-within b n u q i (true ∷ bs) e h w =
     within-more (omega arith)
-    (within-less (before u (suc i) bs e) (u (suc i)) (before-within b n u q (suc i) bs e (omega arith) w) (q .small (suc i) (omega arith)))
-before-within b n u q i (false ∷ bs) e h w = within-more (omega arith) (before-within b n u q (suc i) bs e (omega arith) w)
+    (within-less (minusSelected u (suc i) bs e) (u (suc i)) (minus-selected-within b n u q (suc i) bs e (omega arith) w) (q .small (suc i) (omega arith)))
+minus-selected-within b n u q i (false ∷ bs) e h w = within-more (omega arith) (minus-selected-within b n u q (suc i) bs e (omega arith) w)
 
 -- ---- multiples of the Fibonacci numbers
 
@@ -72,17 +72,17 @@ multiples b n k most = record {
 }
 
 before-parts : (k i : ℕ) (bs : List Bool) (e : ℤ)
-    → over (before (multiple k) i bs e) + k * fibsumFrom i bs + under e ≡ over e + under (before (multiple k) i bs e)
+    → over (minusSelected (multiple k) i bs e) + k * fibsumFrom i bs + under e ≡ over e + under (minusSelected (multiple k) i bs e)
 unfolding fibsumFrom
 before-parts k i [] e = omega arith
 before-parts k i (true ∷ bs) e =
-    let a : ℤ = before (multiple k) (suc i) bs e in
+    let a : ℤ = minusSelected (multiple k) (suc i) bs e in
     omega (arith, before-parts k (suc i) bs e, over-less a (multiple k (suc i)), under-less a (multiple k (suc i)))
 before-parts k i (false ∷ bs) e = omega (arith, before-parts k (suc i) bs e)
 
 -- the selected multiples sum to the multiple of the form's sum
-pub before-sum : (k i : ℕ) (bs : List Bool) → before (multiple k) i bs (pos (k * fibsumFrom i bs)) ≡ pos 0
-before-sum k i bs = same (before (multiple k) i bs (pos (k * fibsumFrom i bs))) (pos 0) (omega (arith, before-parts k i bs (pos (k * fibsumFrom i bs))))
+pub minus-selected-sum : (k i : ℕ) (bs : List Bool) → minusSelected (multiple k) i bs (pos (k * fibsumFrom i bs)) ≡ pos 0
+minus-selected-sum k i bs = same (minusSelected (multiple k) i bs (pos (k * fibsumFrom i bs))) (pos 0) (omega (arith, before-parts k i bs (pos (k * fibsumFrom i bs))))
 
 -- ---- a sequence that comes to s and t at n and n + 1
 
@@ -94,7 +94,7 @@ pub record Reaching (b n : ℕ) (s t : ℤ) : Type 0 where
 
 -- where it comes from, with the terms that two forms select taken away from e and f
 abbrev pub cameFrom : {b n : ℕ} {s t : ℤ} → Reaching b n s t → List Bool → List Bool → ℤ → ℤ → List ℤ
-cameFrom q ss ts e f = q .term 0 ∷ q .term 1 ∷ before (q .term) 1 ss e ∷ before (q .term) 1 ts f ∷ []
+cameFrom q ss ts e f = q .term 0 ∷ q .term 1 ∷ minusSelected (q .term) 1 ss e ∷ minusSelected (q .term) 1 ts f ∷ []
 
 -- the multiples of k
 pub reaching-multiples : (b n k : ℕ) {s t : ℕ} → k * fib (suc n) ≤ b → s ≡ k * fib n → t ≡ k * fib (suc n) → Reaching b n (pos s) (pos t)

@@ -12,13 +12,13 @@ use Rattle.tool.specs.declared.Call.{Call}
 use Rattle.tool.specs.declared.Call.the-variants.{NoWord, NoVerb, WrongCount, Unread, Known}
 use Rattle.tool.specs.Verbs.{maxParameters, largest32, limitIn, limitOf}
 use Rattle.tool.specs.Calls.{Asked, known}
-use Rattle.tool.specs.Rows.{Within, InRange, askedFor}
+use Rattle.tool.specs.Rows.{AllAtMost, InRange, askedFor}
 use Rattle.scripting.specs.declared.Act.{Act}
 use Rattle.scripting.specs.declared.Act.the-variants.{Reply, Edit, BuildTape, PlacesInRoom, ListInRoom}
 use Rattle.scripting.specs.declared.Marks.{Marks}
 use Rattle.scripting.specs.Script.{State, Done, atHand, prints, inScript, buildBy, placesIn, listIn, placesLine, listLine, isPlaces, isListing, replied, byVerb, commanded}
 use Rattle.scripting.specs.States.{stateIn}
-use Rattle.scripting.specs.Acts.{actBy, actOf, countOf}
+use Rattle.scripting.specs.Inner.Acts.{actBy, actOf, countOf}
 
 -- what is done, by what was asked, the parameters and the room
 abbrev pub byAct : ℕ → Act → Asked → List ℕ → ℕ → State → Done
@@ -80,8 +80,8 @@ count-few (Unread row index) words values r = omega arith
 
 -- they are in the range of what is done with them
 abbrev pub ActWithin : Act → List ℕ → Type 0
-ActWithin (Edit verb) v = Within (limitIn verb) v
-ActWithin (BuildTape own) v = Within largest32 v
+ActWithin (Edit verb) v = AllAtMost (limitIn verb) v
+ActWithin (BuildTape own) v = AllAtMost largest32 v
 ActWithin Reply v = 0 ≤ 0
 ActWithin (PlacesInRoom own) v = 0 ≤ 0
 ActWithin ListInRoom v = 0 ≤ 0
@@ -91,7 +91,7 @@ looks-within true true act v h = h
 looks-within true false act v h = omega arith
 looks-within false roomed act v h = omega arith
 
-verb-within : (verb : Verb) (roomed : Bool) (own : ℕ) (v : List ℕ) → Within (limitOf verb) v → ActWithin (actBy verb roomed own) v
+verb-within : (verb : Verb) (roomed : Bool) (own : ℕ) (v : List ℕ) → AllAtMost (limitOf verb) v → ActWithin (actBy verb roomed own) v
 verb-within (InScript verb) roomed own v h = h
 verb-within Build roomed own v h = h
 verb-within (OnNumbers verb) roomed own v h = looks-within (isPlaces verb) roomed (PlacesInRoom own) v (omega arith)

@@ -5,7 +5,7 @@ use Prim.Native.Nat.{ℕ, zero, suc, min}
 use native.Mathlib.Nat.{min-eq-left}
 use native.Mathlib.Omega.{arith}
 use lib.ListN.{length, getD, length-map}
-use Rattle.tool.specs.Rows.{Within}
+use Rattle.tool.specs.Rows.{AllAtMost}
 use Rattle.scripting.specs.States.{heldTo}
 
 module _ (limit : ℕ) where
@@ -19,7 +19,7 @@ module _ (limit : ℕ) where
   held-at (n ∷ values) zero = refl
   held-at (n ∷ values) (suc i) = held-at values i
 
-  pub held-within : (values : List ℕ) → Within limit values → heldTo limit values ≡ values
+  pub held-within : (values : List ℕ) → AllAtMost limit values → heldTo limit values ≡ values
   unfolding heldTo
   held-within [] within = refl
   held-within (n ∷ values) within = rw (min-eq-left (within zero), held-within values (λ i. within (suc i)))

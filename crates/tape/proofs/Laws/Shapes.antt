@@ -12,7 +12,7 @@ use Rattle.tape.specs.declared.Step.{Step}
 use Rattle.tape.specs.declared.Step.the-variants.{Mul, Div, Swp}
 use Rattle.tape.specs.declared.Decoded.the-variants.{Action}
 use Rattle.tape.specs.Steps.{Sound}
-use Rattle.tape.specs.Words.{kindOf, payloadOf, word, kindsOf, decoded, stepWord, encoded}
+use Rattle.tape.specs.Words.{kindOf, payloadOf, packedWord, kindsOf, decoded, stepWord, encoded}
 use Rattle.tape.specs.Layout.{sortOf, stepOf}
 use Rattle.tape.proofs.Laws.Payloads.{action-good, swap-good}
 use Rattle.tape.proofs.Laws.Words.{decoded-lawful, step-sound, word-again}
@@ -59,7 +59,7 @@ pub record Shape (w : ℕ) : Type 0 where
   pub first : 5 ≤ kindOf w
   pub taken : kindOf w < 5 + kindsOf (payloadOf w % 4) (payloadOf w / 4)
 
-of-word : (t s kind w : ℕ) → t < 4 → s < 4 → 5 ≤ kind → kind < 5 + kindsOf t s → word kind (t + 4 * s) ≡ w → Shape w
+of-word : (t s kind w : ℕ) → t < 4 → s < 4 → 5 ≤ kind → kind < 5 + kindsOf t s → packedWord kind (t + 4 * s) ≡ w → Shape w
 of-word t s kind w target source first taken e =
     let p : payloadOf w ≡ t + 4 * s = omega (arith, e) in
     let k : kindOf w ≡ kind = omega (arith, e) in

@@ -11,7 +11,7 @@ use Rattle.tape.specs.declared.Step.the-variants.{Mul, Div, Swp}
 use Rattle.tape.specs.declared.Decoded.{Decoded}
 use Rattle.tape.specs.declared.Decoded.the-variants.{Heading, P, R, K, Action, End, Bad}
 use Rattle.tape.specs.Steps.{Distinct, Sound}
-use Rattle.tape.specs.Words.{numberLimit, variantLimit, kindOf, payloadOf, word, headingIn, actionIn, swapIn, decoded, stepWord, encoded}
+use Rattle.tape.specs.Words.{numberLimit, variantLimit, kindOf, payloadOf, packedWord, headingIn, actionIn, swapIn, decoded, stepWord, encoded}
 use Rattle.tape.specs.Layout.{sortOf, valueOf, stepOf}
 use Rattle.refusal.proofs.Laws.Tests.{both}
 use Rattle.tape.proofs.Laws.Payloads.{heading-good, action-good, swap-good}
@@ -29,10 +29,10 @@ Lawful Bad = Unit {0}
 -- ---- from a meaning to its word and back
 
 module _ (kind payload : ℕ) (fits : payload < numberLimit) where
-  pub word-kind : kindOf (word kind payload) ≡ kind
+  pub word-kind : kindOf (packedWord kind payload) ≡ kind
   word-kind = omega arith
 
-  pub word-payload : payloadOf (word kind payload) ≡ payload
+  pub word-payload : payloadOf (packedWord kind payload) ≡ payload
   word-payload = omega arith
 
 -- the payload of two registers has them in its bits
@@ -99,7 +99,7 @@ module _ (w : ℕ) where
       record { lawful = omega arith; back = λ h. omega arith })
       means-nothing
 
-  means-action : (step : ℕ → ℕ → Step) (kind : ℕ) → ((t s : ℕ) → stepWord (step t s) ≡ word kind (t + 4 * s)) → ((t s : ℕ) → Distinct t s → Sound (step t s))
+  means-action : (step : ℕ → ℕ → Step) (kind : ℕ) → ((t s : ℕ) → stepWord (step t s) ≡ packedWord kind (t + 4 * s)) → ((t s : ℕ) → Distinct t s → Sound (step t s))
       → kindOf w ≡ kind → Means w (actionIn step (payloadOf w))
   unfolding actionIn encoded
   means-action step kind its-word sound k =

@@ -15,7 +15,7 @@ returns c =
     sym (List·getD-eq-default (heldTo largest32 values) 0 (omega (arith, held-length largest32 values, c .if1 .taken)))
 
 returns-2 : tie.Need-returns-2
-returns-2 c = c .word .ensures ∙ sym (held-at largest32 (c .before .before .before .before .args .values .now) (c .before .before .before .before .args .place))
+returns-2 c = c .held-word .ensures ∙ sym (held-at largest32 (c .before .before .before .before .args .values .now) (c .before .before .before .before .args .place))
 
 pub parameter-spec : {M : Type 1} → statement M
 parameter-spec =

@@ -13,8 +13,8 @@ use Rattle.text.specs.declared.Parsed.the-variants.{Number, NoNumber}
 use Rattle.encoding.proofs.Laws.Tapes.{drop-next}
 use Rattle.tool.specs.declared.Row.{Row}
 use Rattle.tool.specs.Verbs.{rowNamed, isHidden, limitOf, parameterIn}
-use Rattle.tool.specs.Calls.{Numbers, all, stopped, before, numbersFrom, noWord, noVerb, wrongCount, unread, withNumbers, askedOf, askedBy}
-use Rattle.tool.specs.Rows.{Within}
+use Rattle.tool.specs.Calls.{Numbers, all, stopped, prependParsed, numbersFrom, noWord, noVerb, wrongCount, unread, withNumbers, askedOf, askedBy}
+use Rattle.tool.specs.Rows.{AllAtMost}
 
 -- ---- what is asked
 
@@ -53,10 +53,10 @@ module _ (inScript : Bool) (words : List (List ℕ)) (some : 0 < length words) w
 
 -- ---- the parameters
 
-pub within-none : (most : ℕ) → Within most []
+pub within-none : (most : ℕ) → AllAtMost most []
 within-none most i = omega arith
 
-within-last : (most n : ℕ) → n ≤ most → (values : List ℕ) → Within most values → Within most (values ++ n ∷ [])
+within-last : (most n : ℕ) → n ≤ most → (values : List ℕ) → AllAtMost most values → AllAtMost most (values ++ n ∷ [])
 within-last most n h [] w zero = h
 within-last most n h [] w (suc i) = omega arith
 within-last most n h (m ∷ values) w zero = w zero
@@ -71,7 +71,7 @@ none-front : (numbers : Numbers) → numbers ≡ inFront [] numbers
 none-front (all values) = refl
 none-front (stopped place) = refl
 
-one-more : (values : List ℕ) (n place : ℕ) (numbers : Numbers) → inFront values (before (Number n) place numbers) ≡ inFront (values ++ n ∷ []) numbers
+one-more : (values : List ℕ) (n place : ℕ) (numbers : Numbers) → inFront values (prependParsed (Number n) place numbers) ≡ inFront (values ++ n ∷ []) numbers
 one-more values n place (all more) = ap all (sym (append-assoc values (n ∷ []) more))
 one-more values n place (stopped other) = refl
 
@@ -79,13 +79,13 @@ module _ (row : Row) (words : List (List ℕ)) where
   -- the numbers from the first word after the verb on are those read so far, in front of those from the word at i + 1 on
   abbrev pub Sofar : ℕ → List ℕ → Type 0
   Sofar i values =
-      (numbersFrom row 0 (drop 1 words) ≡ inFront (take i values) (numbersFrom row i (drop (i + 1) words))) × Within (limitOf (row .verb)) (take i values)
+      (numbersFrom row 0 (drop 1 words) ≡ inFront (take i values) (numbersFrom row i (drop (i + 1) words))) × AllAtMost (limitOf (row .verb)) (take i values)
 
   pub at-first : (values : List ℕ) → Sofar 0 values
   at-first values = (none-front _, within-none (limitOf (row .verb)))
 
   from-here : (i : ℕ) → i + 1 < length words
-      → numbersFrom row i (drop (i + 1) words) ≡ before (parameterIn row i (getD words (i + 1) [])) i (numbersFrom row (i + 1) (drop (i + 1 + 1) words))
+      → numbersFrom row i (drop (i + 1) words) ≡ prependParsed (parameterIn row i (getD words (i + 1) [])) i (numbersFrom row (i + 1) (drop (i + 1 + 1) words))
   unfolding numbersFrom
   from-here i h = ap (numbersFrom row i) (drop-next words (i + 1) (i + 1 + 1) [] refl h)
 
@@ -96,7 +96,7 @@ module _ (row : Row) (words : List (List ℕ)) where
         let rest = numbersFrom row (i + 1) (drop (i + 1 + 1) words) in
         let longer : take (i + 1) (set values i n) ≡ take i values ++ n ∷ [] = rw (add-one i) (take-suc-set values i n room) in (
           sofar .0
-              ∙ ap (inFront (take i values)) (from-here i h ∙ ap (λ (p : Parsed). before p i rest) e)
+              ∙ ap (inFront (take i values)) (from-here i h ∙ ap (λ (p : Parsed). prependParsed p i rest) e)
               ∙ one-more (take i values) n i rest
               ∙ ap (λ (l : List ℕ). inFront l rest) (sym longer),
           rw longer (within-last (limitOf (row .verb)) n small (take i values) (sofar .1)),
@@ -105,7 +105,7 @@ module _ (row : Row) (words : List (List ℕ)) where
     pub no-number : i + 1 < length words → parameterIn row i (getD words (i + 1) []) ≡ NoNumber → numbersFrom row 0 (drop 1 words) ≡ stopped i
     no-number h e =
         sofar .0
-        ∙ ap (inFront (take i values)) (from-here i h ∙ ap (λ (p : Parsed). before p i (numbersFrom row (i + 1) (drop (i + 1 + 1) words))) e)
+        ∙ ap (inFront (take i values)) (from-here i h ∙ ap (λ (p : Parsed). prependParsed p i (numbersFrom row (i + 1) (drop (i + 1 + 1) words))) e)
 
     pub no-more : length words ≤ i + 1 → numbersFrom row 0 (drop 1 words) ≡ all (take i values)
     unfolding numbersFrom

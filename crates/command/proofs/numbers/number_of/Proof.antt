@@ -12,12 +12,12 @@ use Rattle.command.proofs.numbers.number_of.Tie as tie
 taken : (c : tie.After-bytes) → take (c .bytes .result) (c .bytes .last .1 .0) ≡ c .before .before .before .before .args .values .now
 taken c = wrote-taken (c .bytes .ensures) (omega arith)
 
-slice-aggregate-number : tie.Need-slice-aggregate-number
-slice-aggregate-number c = rw (taken (c .before .before .before)) (omega (arith, c .before .before .before .bytes .ensures .next-is))
+slice-aggregate-number-of-places : tie.Need-slice-aggregate-number-of-places
+slice-aggregate-number-of-places c = rw (taken (c .before .before .before)) (omega (arith, c .before .before .before .bytes .ensures .next-is))
 
 returns : tie.Need-returns
 unfolding numberReply
-returns c = rw (← taken (c .before .before .before .before .before .before .before), ← c .before .before .before .number .ensures) (c .before .before .answer .ensures)
+returns c = rw (← taken (c .before .before .before .before .before .before .before), ← c .before .before .before .number-of-places .ensures) (c .before .before .answer .ensures)
 
 pub number-of-spec : {M : Type 1} → statement M
 number-of-spec =
@@ -26,7 +26,7 @@ number-of-spec =
     (λ c. search needs)
     (λ c κs. search needs)
     (λ c. search needs)
-    slice-aggregate-number
+    slice-aggregate-number-of-places
     (λ c κs. search needs)
     (λ c κs. search needs)
     (λ c. search needs)

@@ -18,14 +18,14 @@ abbrev μ-loop : tie.MeasureT-loop
 loop-holds : tie.Need-loop-holds Inv-loop μ-loop
 loop-holds c = (omega arith, wrote-none _ 0)
 
-mul-word : tie.Need-mul-word Inv-loop μ-loop
-mul-word c = omega arith
+mul-narrow : tie.Need-mul-narrow Inv-loop μ-loop
+mul-narrow c = omega arith
 
-shared-slice-read-word : tie.Need-shared-slice-read-word Inv-loop μ-loop
-shared-slice-read-word c = omega arith
+shared-slice-read-narrow : tie.Need-shared-slice-read-narrow Inv-loop μ-loop
+shared-slice-read-narrow c = omega arith
 
-word-requires : tie.Need-word-requires Inv-loop μ-loop
-word-requires c κs = c .before .before .before .before .before .pre .1 (c .before .before .loop .i)
+narrow-requires : tie.Need-narrow-requires Inv-loop μ-loop
+narrow-requires c κs = c .before .before .before .before .before .pre .1 (c .before .before .loop .i)
 
 mul-row : tie.Need-mul-row Inv-loop μ-loop
 mul-row c = omega (arith, c .before .before .before .before .before .before .pre .0)
@@ -40,7 +40,7 @@ loop-less : tie.Need-loop-less Inv-loop μ-loop
 loop-less c = omega arith
 
 loop-again : tie.Need-loop-again Inv-loop μ-loop
-loop-again c = (omega arith, wrote-element (c .before .before .before .before .before .before .args .values .now) (c .before .before .before .loop .i) (omega arith) (c .word .ensures) refl (c .before .before .before .loop .inv .1))
+loop-again c = (omega arith, wrote-element (c .before .before .before .before .before .before .args .values .now) (c .before .before .before .loop .i) (omega arith) (c .narrow .ensures) refl (c .before .before .before .loop .inv .1))
 
 same-length : tie.Need-same-length Inv-loop μ-loop
 same-length c = wrote-length (c .before .loop .inv .1)
@@ -55,9 +55,9 @@ words-spec =
     Inv-loop
     μ-loop
     loop-holds
-    mul-word
-    shared-slice-read-word
-    word-requires
+    mul-narrow
+    shared-slice-read-narrow
+    narrow-requires
     mul-row
     slice-write-row
     add-i

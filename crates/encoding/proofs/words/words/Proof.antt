@@ -25,43 +25,43 @@ loop-holds c = (omega arith, refl, all-left _ _ _)
 mul-at : tie.Need-mul-at Inv-loop μ-loop
 mul-at c = omega arith
 
-shared-slice-read-word : tie.Need-shared-slice-read-word Inv-loop μ-loop
-shared-slice-read-word c = omega arith
+shared-slice-read-word-from-bytes : tie.Need-shared-slice-read-word-from-bytes Inv-loop μ-loop
+shared-slice-read-word-from-bytes c = omega arith
 
-add-word : tie.Need-add-word Inv-loop μ-loop
-add-word c = omega arith
+add-word-from-bytes : tie.Need-add-word-from-bytes Inv-loop μ-loop
+add-word-from-bytes c = omega arith
 
-shared-slice-read-word-2 : tie.Need-shared-slice-read-word-2 Inv-loop μ-loop
-shared-slice-read-word-2 c = omega arith
+shared-slice-read-word-from-bytes-2 : tie.Need-shared-slice-read-word-from-bytes-2 Inv-loop μ-loop
+shared-slice-read-word-from-bytes-2 c = omega arith
 
-add-word-2 : tie.Need-add-word-2 Inv-loop μ-loop
-add-word-2 c = omega arith
+add-word-from-bytes-2 : tie.Need-add-word-from-bytes-2 Inv-loop μ-loop
+add-word-from-bytes-2 c = omega arith
 
-shared-slice-read-word-3 : tie.Need-shared-slice-read-word-3 Inv-loop μ-loop
-shared-slice-read-word-3 c = omega arith
+shared-slice-read-word-from-bytes-3 : tie.Need-shared-slice-read-word-from-bytes-3 Inv-loop μ-loop
+shared-slice-read-word-from-bytes-3 c = omega arith
 
-add-word-3 : tie.Need-add-word-3 Inv-loop μ-loop
-add-word-3 c = omega arith
+add-word-from-bytes-3 : tie.Need-add-word-from-bytes-3 Inv-loop μ-loop
+add-word-from-bytes-3 c = omega arith
 
-shared-slice-read-word-4 : tie.Need-shared-slice-read-word-4 Inv-loop μ-loop
-shared-slice-read-word-4 c = omega arith
+shared-slice-read-word-from-bytes-4 : tie.Need-shared-slice-read-word-from-bytes-4 Inv-loop μ-loop
+shared-slice-read-word-from-bytes-4 c = omega arith
 
 mul-buffer : tie.Need-mul-buffer Inv-loop μ-loop
 mul-buffer c = omega arith
 
 -- the word of the next four bytes comes next
-coming : (c : tie.After-word Inv-loop μ-loop)
+coming : (c : tie.After-word-from-bytes Inv-loop μ-loop)
     → let l = c .before .before .before .before .before .before in
     let a = l .before .before .before .args in
-    RestToPut (a .buffer .now) 0 (tapeOf (a .bytes .now)) (l .loop .i) (l .loop .buffer) (c .word .result ∷ tapeOf (drop (4 * (l .loop .i + 1)) (a .bytes .now)))
+    RestToPut (a .buffer .now) 0 (tapeOf (a .bytes .now)) (l .loop .i) (l .loop .buffer) (c .word-from-bytes .result ∷ tapeOf (drop (4 * (l .loop .i + 1)) (a .bytes .now)))
 coming c =
     let l = c .before .before .before .before .before .before in
     let bytes = l .before .before .before .args .bytes .now in
     let next : 4 * l .loop .i + 4 ≡ 4 * (l .loop .i + 1) = omega arith in
-    rw (c .word .ensures, ← next, ← tape-next bytes (4 * l .loop .i) (omega arith)) (l .loop .inv .2)
+    rw (c .word-from-bytes .ensures, ← next, ← tape-next bytes (4 * l .loop .i) (omega arith)) (l .loop .inv .2)
 
 -- there is room for it
-room : (c : tie.After-word Inv-loop μ-loop) → let l = c .before .before .before .before .before .before in l .loop .i < length (l .loop .buffer)
+room : (c : tie.After-word-from-bytes Inv-loop μ-loop) → let l = c .before .before .before .before .before .before in l .loop .i < length (l .loop .buffer)
 room c =
     let l = c .before .before .before .before .before .before in
     omega (arith, l .before .before .before .pre, l .loop .inv .1)
@@ -80,7 +80,7 @@ loop-again c =
     let l = c .before .before .before .before .before .before in (
       omega arith,
       simp length-set (l .loop .inv .1),
-      left-next (c .word .result ∷ []) _ (coming c) (put-one _ _ _ (room c)),
+      left-next (c .word-from-bytes .result ∷ []) _ (coming c) (put-one _ _ _ (room c)),
     )
 
 done : (c : tie.After-loop Inv-loop μ-loop) → let a = c .before .before .before .before .args in
@@ -103,13 +103,13 @@ words-spec =
     μ-loop
     loop-holds
     mul-at
-    shared-slice-read-word
-    add-word
-    shared-slice-read-word-2
-    add-word-2
-    shared-slice-read-word-3
-    add-word-3
-    shared-slice-read-word-4
+    shared-slice-read-word-from-bytes
+    add-word-from-bytes
+    shared-slice-read-word-from-bytes-2
+    add-word-from-bytes-2
+    shared-slice-read-word-from-bytes-3
+    add-word-from-bytes-3
+    shared-slice-read-word-from-bytes-4
     (λ c κs. search needs)
     mul-buffer
     slice-write-buffer

@@ -5,7 +5,7 @@ use lib.IntN.{_+ℤ_, _-ℤ_}
 use lib.Signed.{leZ}
 use mir.Syntax.{w64}
 use mir.Val.{toZ, ofZ}
-use Rattle.machine.proofs.Laws.Sums.{Told, lowest, highest, from-bits, sum-above, sum-below}
+use Rattle.machine.proofs.Laws.Sums.{RangeTested, lowest, highest, from-bits, sum-above, sum-below}
 use Rattle.exponent_steps.proofs.whole.is_sum_in_range.Statement.{statement}
 use Rattle.exponent_steps.proofs.whole.is_sum_in_range.Tie as tie
 
@@ -16,10 +16,10 @@ X c = from-bits (c .args .x) (c .fits .x .sfits)
 Y : (c : tie.Start) → toZ w64 (ofZ w64 (c .args .y)) ≡ c .args .y
 Y c = from-bits (c .args .y) (c .fits .y .sfits)
 
-above : (c : tie.Then1) → let x = c .before .args .x in let y = c .before .args .y in Told (highest -ℤ y) (leZ x (highest -ℤ y)) (x +ℤ y) (leZ lowest (x +ℤ y))
+above : (c : tie.Then1) → let x = c .before .args .x in let y = c .before .args .y in RangeTested (highest -ℤ y) (leZ x (highest -ℤ y)) (x +ℤ y) (leZ lowest (x +ℤ y))
 above c = let s = c .before in sum-above _ _ (s .fits .x) (s .fits .y) (rw (Y s) at (c .if1 .taken))
 
-below : (c : tie.Else1) → let x = c .before .args .x in let y = c .before .args .y in Told (lowest -ℤ y) (leZ (lowest -ℤ y) x) (x +ℤ y) (leZ (x +ℤ y) highest)
+below : (c : tie.Else1) → let x = c .before .args .x in let y = c .before .args .y in RangeTested (lowest -ℤ y) (leZ (lowest -ℤ y) x) (x +ℤ y) (leZ (x +ℤ y) highest)
 below c = let s = c .before in sum-below _ _ (s .fits .x) (s .fits .y) (rw (Y s) at (c .if1 .left))
 
 sub-if2 : tie.Need-sub-if2
