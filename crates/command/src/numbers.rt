@@ -50,7 +50,7 @@ pub(crate) fn on_numbers(verb: NumberVerb, own: u32, values: &[u64], text: &mut 
         NumberVerb::PowMod => {
             number(
                 text,
-                modular::power(small(values, 0), small(values, 1), small(values, 2)) as u64,
+                montgomery::power(small(values, 0), small(values, 1), small(values, 2)) as u64,
             )
         }
     }

@@ -1,6 +1,6 @@
-// Arithmetic modulo m on 32-bit numbers, for every m: products, powers, primes and inverses.
+// Arithmetic modulo m on 32-bit numbers, for every m: products, primes and inverses.
 ghost use mathlib.Core.Path.{_≡_};
-ghost use Prim.Native.Nat.{_*_, _^_};
+ghost use Prim.Native.Nat.{_*_};
 ghost use Rattle.refusal.specs.Outcomes.{numberOutcomeOf};
 ghost use Rattle.modular.specs.Residues.{remainder};
 ghost use Rattle.modular.specs.Primes.{isPrime};
@@ -16,26 +16,6 @@ pub fn product(x: u32, y: u32, m: u32) -> u32
         return 0;
     }
     ((x as u64) * (y as u64) % (m as u64)) as u32
-}
-
-// The power modulo m, by repeated squaring; modulo 0 it is 0.
-pub fn power(base: u32, exponent: u32, m: u32) -> u32
-    ensures { λ r. ⌜ r ≡ remainder (base ^ exponent) m ⌝ }
-{
-    if m == 0 {
-        return 0;
-    }
-    let mut result = 1 % m;
-    let mut square = base % m;
-    let mut rest = exponent;
-    while rest > 0 {
-        if rest % 2 == 1 {
-            result = product(result, square, m);
-        }
-        square = product(square, square, m);
-        rest = rest / 2;
-    }
-    result
 }
 
 // From here on the table of small divisors takes less time than the divisions it stands for.

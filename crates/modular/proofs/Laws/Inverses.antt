@@ -2,7 +2,7 @@
 -- is not refused has one, and the inverse is such an exponent itself, whose inverse is k.
 use mathlib.Core.Path.{_≡_, sym, _∙_, ap, ap₂, subst}
 use mathlib.Core.Logic.{⊎-elim}
-use mathlib.Core.Bool.{Bool, true, false, _&&_, _||_}
+use mathlib.Core.Bool.{true, false, _&&_, _||_}
 use Prim.Native.Nat.{ℕ, _*_, _-_, _%_, _≤_, _<_, _∣_}
 use native.Mathlib.Nat.{dvd-mod-iff, dvd-mul-right-of-dvd, dvd-of-mod-eq-zero, eq-one-of-dvd-one, eq-zero-or-pos, le-of-dvd, mod-eq-of-lt, mod-eq-zero-of-dvd, mod-one, mul-one, one-dvd, one-mul, pos-of-dvd-of-pos, zero-mod, zero-mul}
 use native.Mathlib.Omega.{arith}
@@ -37,15 +37,18 @@ inverse-is m x y v =
     other : (z : ℕ) → y < z → z ≤ m - 1 → eqb (x * z % m) 1 ≡ true → Inverse m x z
     other z above high e = record { low = omega arith; high = omega (arith, v .high); one = eqb-true (x * z % m) 1 e }
 
+pub inverse-most : (m x : ℕ) → inverse m x ≤ m - 1
+unfolding inverse
+inverse-most m x = greatest-at-most (λ (y : ℕ). eqb (x * y % m) 1) (m - 1)
+
 -- what the search finds is an inverse
 pub inverse-found : (m x : ℕ) → 1 ≤ inverse m x → Inverse m x (inverse m x)
 unfolding inverse
 inverse-found m x some =
-    let f : ℕ → Bool = λ (y : ℕ). eqb (x * y % m) 1 in
     record {
       low = some;
-      high = omega (arith, greatest-at-most f (m - 1));
-      one = eqb-true (x * inverse m x % m) 1 (greatest-passes f (m - 1) some);
+      high = omega (arith, inverse-most m x);
+      one = eqb-true (x * inverse m x % m) 1 (greatest-passes (λ (y : ℕ). eqb (x * y % m) 1) (m - 1) some);
     }
 
 pub inverse-coprime : {m x y : ℕ} → Inverse m x y → Coprime x m
@@ -61,8 +64,7 @@ inverse-none m x shared =
 
 -- modulo 0 and 1 there is none
 pub inverse-small : (m x : ℕ) → m < 2 → inverse m x ≡ 0
-unfolding inverse
-inverse-small m x small = omega (arith, greatest-at-most (λ (y : ℕ). eqb (x * y % m) 1) (m - 1))
+inverse-small m x small = omega (arith, inverse-most m x)
 
 -- nor is there one of 0
 pub inverse-zero : (m : ℕ) → inverse m 0 ≡ 0

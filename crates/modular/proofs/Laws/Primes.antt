@@ -36,6 +36,14 @@ test-prime p pr =
     (greatest-is (λ (d : ℕ). divides d p) (p - 1) 1 (omega arith) (omega (arith, pr .least)) (eq-eqb (p % 1) 0 (mod-one p))
     (λ d low high e. pr .only d low (omega (arith, pr .least)) (dvd-of-mod-eq-zero d (eqb-true (p % d) 0 e)))))
 
+-- from 3 on a prime is odd
+pub prime-odd : (p : ℕ) → Prime p → 3 ≤ p → p % 2 ≡ 1
+prime-odd p pr three =
+    elim (ℕ-discrete (p % 2) 0) [
+      | yes even ↦ absurd (pr .only 2 (omega arith) (omega arith) (dvd-of-mod-eq-zero 2 even))
+      | no odd ↦ omega arith
+    ]
+
 pub not-prime : (p : ℕ) → ¬ (Prime p) → isPrime p ≡ false
 not-prime p no-prime = test-false (isPrime p) (λ e. no-prime (prime-test p e))
 

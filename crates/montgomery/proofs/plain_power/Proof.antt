@@ -1,12 +1,12 @@
--- `power` meets its contract: the loop's invariant is what repeated squaring keeps, and the measure is what is left of the exponent.
+-- `plain_power` meets its contract: the loop's invariant is what repeated squaring keeps, and the measure is what is left of the exponent.
 use mathlib.Core.Path.{sym}
 use mathlib.Core.Logic.{⊎-elim}
 use native.Mathlib.Omega.{arith}
 use borrow.Author.Needs.{needs}
 use Rattle.modular.proofs.Laws.Residues.{remainder-zero}
 use Rattle.modular.proofs.Laws.Squaring.{Squared, squared-start, squared-even, squared-odd, squared-end}
-use Rattle.modular.proofs.power.Statement.{statement}
-use Rattle.modular.proofs.power.Tie as tie
+use Rattle.montgomery.proofs.plain_power.Statement.{statement}
+use Rattle.montgomery.proofs.plain_power.Tie as tie
 
 abbrev Inv-loop : tie.InvT-loop
 Inv-loop base exponent m result₀ square₀ rest₀ result square rest = Squared base exponent m result square rest
@@ -34,8 +34,8 @@ loop-again c =
 returns-2 : tie.Need-returns-2 Inv-loop μ-loop
 returns-2 c = squared-end (c .before .loop .inv) (omega arith)
 
-pub power-spec : {M : Type 1} → statement M
-power-spec =
+pub plain-power-spec : {M : Type 1} → statement M
+plain-power-spec =
     tie.close
     (tie.spec
     Inv-loop

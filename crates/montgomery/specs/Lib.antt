@@ -1,0 +1,2 @@
+-- Montgomery's form. A contract of a service cites none of it.
+pub mod Inner
