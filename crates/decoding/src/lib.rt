@@ -11,6 +11,7 @@ use payloads::heading_in;
 use payloads::multiplication_in;
 use payloads::swap_in;
 pub use steps::is_step;
+pub use steps::operation_of;
 use steps::step_in;
 use tape::Decoded;
 use tape::NUMBER_LIMIT;

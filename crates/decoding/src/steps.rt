@@ -1,12 +1,15 @@
 // The words of steps, told by arithmetic.
 ghost use mathlib.Core.Path.{_≡_};
+ghost use Prim.Native.Nat.{_-_};
 ghost use lib.Dec.{eqb};
 ghost use Rattle.tape.specs.declared.Decoded.the-variants.{Action};
 ghost use Rattle.tape.specs.Words.{decoded, kindsOf};
 ghost use Rattle.tape.specs.Layout.{sortOf};
+ghost use Rattle.tape.specs.Inner.Operations.{rawStep, stepFor};
 use crate::payloads::REGISTER_PAIRS;
 use crate::payloads::REGISTERS;
 use tape::NUMBER_LIMIT;
+use tape::Operation;
 use tape::Step;
 
 // Whether a word is a step's. Its kinds are told apart by arithmetic: a branch for each is mispredicted at most
@@ -52,4 +55,26 @@ pub(crate) fn step_in(word: u32) -> Step
         6 => Step::Div(target, source),
         _ => Step::Swp(target, source),
     }
+}
+
+// The step that a word has in its digits. A run asks it of the words of an accepted tape, where it is their meaning, and tells it by
+// arithmetic alone.
+pub fn operation_of(word: u32) -> Operation
+    ensures { λ op. ⌜ stepFor op ≡ rawStep word ⌝ }
+{
+    Operation {
+        kind: step_number(word / NUMBER_LIMIT),
+        target: word % REGISTERS,
+        source: word / REGISTERS % REGISTERS,
+    }
+}
+
+// The kinds from 5 on, counted from 0.
+fn step_number(kind: u32) -> u32
+    ensures { λ n. ⌜ n ≡ kind - 5 ⌝ }
+{
+    if kind < 5 {
+        return 0;
+    }
+    kind - 5
 }

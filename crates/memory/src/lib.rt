@@ -9,7 +9,6 @@ ghost use Rattle.sequencer.specs.Services.{registersOutcomeOf};
 use machine::ExponentsAnswer;
 use machine::Registers;
 use refusal::NumberAnswer;
-use register_steps::registers_of;
 use sequencer::RegistersAnswer;
 
 // The number of a service whose answer is stored nowhere.
@@ -75,5 +74,10 @@ pub fn store_exponents(answer: ExponentsAnswer, row: &mut [i64; 4]) -> u32
 pub fn registers_in(row: [u32; 4]) -> Registers
     ensures { λ r. ⌜ valuesOf r ≡ row ⌝ }
 {
-    registers_of(&row)
+    Registers {
+        c: row[0],
+        d: row[1],
+        e: row[2],
+        f: row[3],
+    }
 }

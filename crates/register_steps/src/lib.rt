@@ -1,117 +1,125 @@
-// Steps on registers modulo p, which are carried with their inverses.
+// Steps on registers modulo an odd prime p. The registers stand in Montgomery's form, so that a product takes no division, and beside
+// the forms of their inverses, so that a division is a product. They lie in a row because a register's number is then its place.
+mod row;
+
 ghost use mathlib.Core.Path.{_≡_};
-ghost use lib.ListN.{set};
-ghost use Rattle.modular.specs.Residues.{times};
-ghost use Rattle.machine.specs.Machine.{valuesOf, reg, inverseStep};
-ghost use Rattle.machine.specs.Inner.Carried.{firstFour, inverses, applyWith};
+ghost use mathlib.Core.List.{map};
+ghost use Prim.Native.Nat.{_<_};
+ghost use lib.ListN.{length};
+ghost use Rattle.tape.specs.Inner.Operations.{rawSteps, stepFor};
+ghost use Rattle.montgomery.specs.Inner.Forms.{formTimes, enter, leave, formInverse};
+ghost use Rattle.machine.specs.Machine.{valuesOf, inverseStep};
+ghost use Rattle.machine.specs.Inner.Carried.{firstFour, applyWith, doAllWith, inversesWith, directedSteps};
+ghost use Rattle.register_steps.specs.Inner.Ways.{directedStep};
+use decoding::operation_of;
 use machine::Registers;
-use modular::inverse_or_zero;
-use modular::product;
-use tape::Step;
+use montgomery::Modulus;
+use montgomery::enter;
+use montgomery::invert;
+use montgomery::leave;
+use montgomery::multiply;
+use row::chosen;
+use row::exchange;
+use row::multiply_register;
+use row::register;
+use tape::Operation;
 
-// What the four registers hold, by their numbers.
-pub fn values_of(registers: Registers) -> [u32; 4]
-    ensures { λ r. ⌜ r ≡ valuesOf registers ⌝ }
-{
-    [registers.c, registers.d, registers.e, registers.f]
-}
-
-// The registers that hold the first four of some values; 0 stands for one that is missing.
-pub fn registers_of(values: &[u32]) -> Registers
-    ensures { λ r. ⌜ valuesOf r ≡ firstFour (now (values .entry)) ⌝ }
-{
-    Registers {
-        c: register(values, 0),
-        d: register(values, 1),
-        e: register(values, 2),
-        f: register(values, 3),
-    }
-}
-
-// The inverses of the registers; 0 where there is none.
-pub fn inverses(registers: Registers, p: u32) -> [u32; 4]
-    ensures { λ r. ⌜ r ≡ inverses p (valuesOf registers) ⌝ }
+// The forms of the registers.
+pub fn forms_of(m: Modulus, registers: Registers) -> [u32; 4]
+    ensures { λ r. ⌜ r ≡ map (enter m) (valuesOf registers) ⌝ }
 {
     [
-        inverse_or_zero(registers.c, p),
-        inverse_or_zero(registers.d, p),
-        inverse_or_zero(registers.e, p),
-        inverse_or_zero(registers.f, p),
+        enter(m, registers.c),
+        enter(m, registers.d),
+        enter(m, registers.e),
+        enter(m, registers.f),
     ]
 }
 
-// A step done on values whose inverses stand beside them, so that a division is a product, and on the inverses, so that they remain
-// the inverses. The values lie in a row because a register's number is then its place.
-pub fn apply_with(values: &mut [u32], inverses: &mut [u32], p: u32, step: Step)
-    ensures { λ _. ⌜ now (values .exit) ≡ applyWith p step (now (values .entry)) (now (inverses .entry)) ⌝ }
-    ensures { λ _. ⌜ now (inverses .exit) ≡ applyWith p step (now (inverses .entry)) (now (values .entry)) ⌝ }
+// The registers of the first four of some forms; 0 stands for one that is missing.
+pub fn registers_of(m: Modulus, forms: &[u32]) -> Registers
+    ensures { λ r. ⌜ valuesOf r ≡ map (leave m) (firstFour (now (forms .entry))) ⌝ }
 {
-    match step {
-        Step::Mul(t, s) => {
-            let x = register(values, s);
-            let y = register(inverses, s);
-            multiply(values, t, x, p);
-            multiply(inverses, t, y, p)
-        }
-        Step::Div(t, s) => {
-            let x = register(values, s);
-            let y = register(inverses, s);
-            multiply(values, t, y, p);
-            multiply(inverses, t, x, p)
-        }
-        Step::Swp(t, s) => {
-            exchange(values, t, s);
-            exchange(inverses, t, s)
-        }
+    Registers {
+        c: leave(m, register(forms, 0)),
+        d: leave(m, register(forms, 1)),
+        e: leave(m, register(forms, 2)),
+        f: leave(m, register(forms, 3)),
     }
+}
+
+// The inverses of the first four of some forms: one inverse, of their product, and nine products.
+pub fn inverses(m: Modulus, forms: &[u32]) -> [u32; 4]
+    ensures { λ r. ⌜ r ≡ inversesWith (formTimes m) (formInverse m) (now (forms .entry)) ⌝ }
+{
+    let a = register(forms, 0);
+    let b = register(forms, 1);
+    let c = register(forms, 2);
+    let d = register(forms, 3);
+    let ab = multiply(m, a, b);
+    let abc = multiply(m, ab, c);
+    let all = invert(m, multiply(m, abc, d));
+    let three = multiply(m, all, d);
+    let two = multiply(m, three, c);
+    [
+        multiply(m, two, b),
+        multiply(m, two, a),
+        multiply(m, three, ab),
+        multiply(m, all, abc),
+    ]
+}
+
+// The steps that some words have in their digits, done from the first to the last, or undone from the last to the first. There is one loop for both, so that
+// the compiler has one place where a step is done and puts it there in full.
+pub fn do_steps(words: &[u32], undone: bool, m: Modulus, values: &mut [u32], inverses: &mut [u32])
+    ensures { λ _. ⌜ now (values .exit) ≡ doAllWith (formTimes m) (directedSteps undone (rawSteps (now (words .entry)))) (now (values .entry)) (now (inverses .entry)) ⌝ }
+    ensures { λ _. ⌜ now (inverses .exit) ≡ doAllWith (formTimes m) (directedSteps undone (rawSteps (now (words .entry)))) (now (inverses .entry)) (now (values .entry)) ⌝ }
+{
+    let mut i: usize = 0;
+    while i < words.len() {
+        apply_with(values, inverses, m, directed(words, i, undone));
+        i += 1;
+    }
+}
+
+// The step that comes after i others.
+fn directed(words: &[u32], i: usize, undone: bool) -> Operation
+    requires { ⌜ i < length (now words) ⌝ }
+    ensures { λ op. ⌜ stepFor op ≡ directedStep undone (now (words .entry)) i ⌝ }
+{
+    if undone {
+        return inverse_operation(operation_of(words[words.len() - 1 - i]));
+    }
+    operation_of(words[i])
+}
+
+// A step on values beside their inverses, and on the inverses beside the values, so that they remain the inverses. Whether a step
+// multiplies or divides only chooses between two factors that are both at hand: a branch would be mispredicted at every other step.
+fn apply_with(values: &mut [u32], inverses: &mut [u32], m: Modulus, op: Operation)
+    ensures { λ _. ⌜ now (values .exit) ≡ applyWith (formTimes m) (stepFor op) (now (values .entry)) (now (inverses .entry)) ⌝ }
+    ensures { λ _. ⌜ now (inverses .exit) ≡ applyWith (formTimes m) (stepFor op) (now (inverses .entry)) (now (values .entry)) ⌝ }
+{
+    if 1 < op.kind {
+        exchange(values, op.target, op.source);
+        return exchange(inverses, op.target, op.source);
+    }
+    let divides = op.kind == 1;
+    let x = register(values, op.source);
+    let y = register(inverses, op.source);
+    multiply_register(values, op.target, chosen(divides, y, x), m);
+    multiply_register(inverses, op.target, chosen(divides, x, y), m)
 }
 
 // Undone, mul is div, div is mul, swp is swp.
-pub fn inverse_step(step: Step) -> Step
-    ensures { λ r. ⌜ r ≡ inverseStep step ⌝ }
+fn inverse_operation(op: Operation) -> Operation
+    ensures { λ r. ⌜ stepFor r ≡ inverseStep (stepFor op) ⌝ }
 {
-    match step {
-        Step::Mul(t, s) => Step::Div(t, s),
-        Step::Div(t, s) => Step::Mul(t, s),
-        Step::Swp(t, s) => Step::Swp(t, s),
+    if 1 < op.kind {
+        return op;
     }
-}
-
-// The register of a number; past the last there is none, and 0 stands for it.
-fn register(values: &[u32], i: u32) -> u32
-    ensures { λ x. ⌜ x ≡ reg (now (values .entry)) i ⌝ }
-{
-    let at = i as usize;
-    if at < values.len() {
-        return values[at];
+    Operation {
+        kind: 1 - op.kind,
+        target: op.target,
+        source: op.source,
     }
-    0
-}
-
-// One register changed; past the last there is none to change.
-fn set_register(values: &mut [u32], i: u32, x: u32)
-    ensures { λ _. ⌜ now (values .exit) ≡ set (now (values .entry)) i x ⌝ }
-{
-    let at = i as usize;
-    if at < values.len() {
-        values[at] = x;
-    }
-}
-
-// One register multiplied.
-fn multiply(values: &mut [u32], t: u32, y: u32, p: u32)
-    ensures { λ _. ⌜ now (values .exit) ≡ set (now (values .entry)) t (times p (reg (now (values .entry)) t) y) ⌝ }
-{
-    let x = product(register(values, t), y, p);
-    set_register(values, t, x)
-}
-
-// Two registers exchanged.
-fn exchange(values: &mut [u32], t: u32, s: u32)
-    ensures { λ _. ⌜ now (values .exit) ≡ set (set (now (values .entry)) t (reg (now (values .entry)) s)) s (reg (now (values .entry)) t) ⌝ }
-{
-    let x = register(values, t);
-    let y = register(values, s);
-    set_register(values, t, y);
-    set_register(values, s, x)
 }

@@ -4,7 +4,7 @@ ghost use Prim.Native.Nat.{_≤_};
 ghost use Rattle.machine.specs.Machine.{valuesOf};
 ghost use Rattle.sequencer.specs.Services.{badRegister, badRegisters, badBase};
 use machine::Registers;
-use modular::power;
+use montgomery::power;
 use tape::Header;
 
 // Refusal 9: a register or base is 0 or at least p.

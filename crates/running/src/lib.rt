@@ -1,19 +1,25 @@
 // Load, run, and both in one.
 mod conditions;
-mod positions;
 
 ghost use mathlib.Core.Path.{_≡_};
 ghost use Rattle.refusal.specs.Outcomes.{answered};
-ghost use Rattle.machine.specs.Machine.{valuesOf};
+ghost use Rattle.tape.specs.Layout.{stepsIn};
+ghost use Rattle.machine.specs.Machine.{valuesOf, run};
 ghost use Rattle.program.specs.Services.{acceptOutcome};
 ghost use Rattle.sequencer.specs.Services.{registersOutcomeOf, loadOutcome, runOutcome, forwardOutcome};
+ghost use Rattle.sequencer.specs.Inner.Runs.{between, Runnable};
 use conditions::is_bad_base;
 use conditions::is_bad_register;
 use conditions::is_some_bad;
 use machine::Registers;
+use montgomery::modulus_of;
+use parts::part;
 use parts::steps;
-use positions::run_steps;
 use refusal::Refusal;
+use register_steps::do_steps;
+use register_steps::forms_of;
+use register_steps::inverses;
+use register_steps::registers_of;
 use sequencer::RegistersAnswer;
 use tape::Header;
 use tape::HeaderAnswer;
@@ -105,4 +111,33 @@ fn forward_accepted(tape: &[u32], header: Header, base: u32) -> RegistersAnswer
             header.steps,
         ),
     }
+}
+
+// From one position to another, through the words of a tape's steps: forward if the second is larger, backward if smaller. Each step is
+// done by its meaning, and nothing is skipped.
+fn run_steps(words: &[u32], p: u32, registers: Registers, from: u32, to: u32) -> Registers
+    requires { ⌜ Runnable (now words) p (valuesOf registers) from to ⌝ }
+    ensures { λ r. ⌜ valuesOf r ≡ run p (stepsIn (now (words .entry))) from to (valuesOf registers) ⌝ }
+{
+    let m = modulus_of(p);
+    let mut values = forms_of(m, registers);
+    let mut beside = inverses(m, &values);
+    do_steps(
+        between(words, from, to),
+        to < from,
+        m,
+        &mut values,
+        &mut beside,
+    );
+    registers_of(m, &values)
+}
+
+// The words of the steps between two positions, of which either may be the larger.
+fn between<'a>(words: &'a [u32], i: u32, j: u32) -> &'a [u32]
+    ensures { λ r. ⌜ now r ≡ between (now (words .entry)) i j ⌝ }
+{
+    if j < i {
+        return part(words, j, i);
+    }
+    part(words, i, j)
 }

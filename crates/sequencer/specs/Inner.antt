@@ -1,2 +1,2 @@
 -- Definitions that only contracts of inner functions cite: nothing that a reader has to judge.
-pub mod Stepping
+pub mod Runs

@@ -9,6 +9,13 @@ pub enum Step {
     Swp(u32, u32),
 }
 
+// A step by the number of what it does, with its registers: 0 multiplies, 1 divides, 2 and above exchange.
+pub struct Operation {
+    pub kind: u32,
+    pub target: u32,
+    pub source: u32,
+}
+
 // What a word means: the heading with its variant, p, r, k, a step, the end with the count of steps, or nothing.
 pub enum Decoded {
     Heading(u32),

@@ -10,7 +10,7 @@ use lib.ListN.{length, drop}
 use Rattle.tape.specs.Layout.{stepsIn}
 use Rattle.tape.proofs.Laws.Rows.{steps-nth}
 use Rattle.machine.proofs.Laws.Traces.{RestOfTrace, all-left, none-left, leaves, goes-on}
-use Rattle.sequencer.proofs.Laws.Positions.{count-in}
+use Rattle.tape.proofs.Laws.Rows.{count-in}
 use Rattle.inspecting.proofs.shift_all.Statement.{statement}
 use Rattle.inspecting.proofs.shift_all.Tie as tie
 

@@ -2,17 +2,17 @@
 -- from i to k, with no cases.
 use mathlib.Core.Path.{_≡_, refl, sym, _∙_, ap}
 use mathlib.Core.Bool.{Bool, true, false, cond}
-use mathlib.Core.List.{List, [], _∷_, _++_}
-use Prim.Native.Nat.{ℕ, suc, _+_, _≤_, _<_}
+use mathlib.Core.List.{List, _++_}
+use Prim.Native.Nat.{ℕ, _≤_}
 use native.Mathlib.Omega.{arith}
 use lib.Dec.{leb}
-use lib.ListN.{length, getD, take, drop, take-append-drop}
-use lib.Seq.{slice, take-take, take-length, take-suc, drop-cons}
+use lib.ListN.{length, take, drop, take-append-drop}
+use lib.Seq.{slice, take-take, take-length}
 use borrow.Author.Tests.{leb-true, leb-false}
 use Rattle.modular.specs.Primes.{Prime}
 use Rattle.tape.specs.declared.Step.{Step}
 use Rattle.tape.specs.Steps.{AllSound}
-use Rattle.machine.specs.Machine.{apply, inverseStep, doAll, undoAll, run, Residues}
+use Rattle.machine.specs.Machine.{doAll, undoAll, run, Residues}
 use Rattle.machine.proofs.Laws.Steps.{sound-append-left, sound-append-right, doAll-append, undoAll-append, residues-doAll, residues-undoAll, undo-do, do-undo}
 
 pub sound-take : (n : ℕ) (xs : List Step) → AllSound xs → AllSound (take n xs)
@@ -22,25 +22,6 @@ sound-take n xs a = sound-append-left (take n xs) (drop n xs) (rw take-append-dr
 take-slice : (i j : ℕ) (xs : List Step) → i ≤ j → take j xs ≡ take i xs ++ slice i j xs
 take-slice i j xs h =
     sym (take-append-drop i (take j xs)) ∙ ap (λ (l : List Step). l ++ slice i j xs) (take-take i j xs h)
-
--- ---- one step of a run
-
-module _ (p : ℕ) (xs : List Step) (x : Step) (v : List ℕ) (i : ℕ) (inside : i < length xs) where
-  -- done, the first of the steps that are left goes first
-  pub do-next : doAll p (drop i xs) v ≡ doAll p (drop (i + 1) xs) (apply p (getD xs i x) v)
-  unfolding doAll
-  do-next =
-      let next : suc i ≡ i + 1 = omega arith in
-      ap (λ (l : List Step). doAll p l v) (drop-cons xs i x inside)
-      ∙ ap (λ (n : ℕ). doAll p (drop n xs) (apply p (getD xs i x) v)) next
-
-  -- undone, the last of them
-  pub undo-next : undoAll p (take (i + 1) xs) v ≡ undoAll p (take i xs) (apply p (inverseStep (getD xs i x)) v)
-  unfolding undoAll
-  undo-next =
-      let next : i + 1 ≡ suc i = omega arith in
-      ap (λ (l : List Step). undoAll p l v) (ap (λ (n : ℕ). take n xs) next ∙ take-suc xs i x inside)
-      ∙ undoAll-append p (take i xs) (getD xs i x ∷ []) v
 
 -- ---- runs
 

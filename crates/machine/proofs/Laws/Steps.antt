@@ -2,7 +2,7 @@
 -- the product.
 use mathlib.Core.Path.{_≡_, refl, sym, _∙_, ap}
 use mathlib.Core.List.{List, [], _∷_, _++_, append-nil, append-assoc}
-use Prim.Native.Nat.{ℕ, zero, suc, _<_}
+use Prim.Native.Nat.{ℕ, zero, suc, _-_, _<_}
 use native.Mathlib.Omega.{arith}
 use native.Mathlib.Decide.{ℕ-discrete}
 use lib.ListN.{length, set, length-set}
@@ -14,6 +14,7 @@ use Rattle.modular.proofs.Laws.Group.{residue-one, residue-times, residue-inver
 use Rattle.tape.specs.declared.Step.{Step}
 use Rattle.tape.specs.declared.Step.the-variants.{Mul, Div, Swp}
 use Rattle.tape.specs.Steps.{Distinct, Sound, AllSound}
+use Rattle.tape.specs.Inner.Operations.{stepBy}
 use Rattle.machine.proofs.Laws.Lists.{changed-back, exchange-twice}
 use Rattle.machine.specs.Machine.{reg, apply, inverseStep, doAll, undoAll, inverted, Residues, start}
 
@@ -67,6 +68,18 @@ pub undoAll-append : (p : ℕ) (xs ys : List Step) (v : List ℕ) → undoAll p 
 unfolding undoAll
 undoAll-append p [] ys v = refl
 undoAll-append p (x ∷ xs) ys v = ap (apply p (inverseStep x)) (undoAll-append p xs ys v)
+
+pub inverse-by : (n t s : ℕ) → n < 2 → stepBy (1 - n) t s ≡ inverseStep (stepBy n t s)
+unfolding stepBy inverseStep
+inverse-by zero t s less = refl
+inverse-by (suc zero) t s less = refl
+inverse-by (suc (suc n)) t s less = absurd (omega arith)
+
+-- undone is done with the opposite steps in reverse order
+pub do-inverted : (p : ℕ) (xs : List Step) (v : List ℕ) → doAll p (inverted xs) v ≡ undoAll p xs v
+unfolding inverted doAll undoAll
+do-inverted p [] v = refl
+do-inverted p (x ∷ xs) v = doAll-append p (inverted xs) (inverseStep x ∷ []) v ∙ ap (apply p (inverseStep x)) (do-inverted p xs v)
 
 -- ---- four residues
 

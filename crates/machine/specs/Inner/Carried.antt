@@ -1,14 +1,13 @@
--- Registers carried with their inverses, so that a division has its inverse at hand. `with-inverses` and `carried-step` of
--- proofs/Laws/Carried say what this has to do with `apply`.
-use mathlib.Core.Path.{_≡_}
+-- Registers carried with their inverses, so that a division has its inverse at hand. The product is a parameter: it is the one modulo p,
+-- or that of the forms in which the registers stand. proofs/Laws/Carried says what this has to do with `apply` and `doAll`.
+use mathlib.Core.Bool.{Bool, cond}
 use mathlib.Core.List.{List, [], _∷_, map}
 use Prim.Native.Nat.{ℕ}
 use lib.ListN.{set}
-use Rattle.modular.specs.Residues.{times}
 use Rattle.modular.specs.Inverses.{inverse}
 use Rattle.tape.specs.declared.Step.{Step}
 use Rattle.tape.specs.declared.Step.the-variants.{Mul, Div, Swp}
-use Rattle.machine.specs.Machine.{reg, apply, Residues}
+use Rattle.machine.specs.Machine.{reg, inverted}
 
 -- the first four of some values
 abbrev pub firstFour : List ℕ → List ℕ
@@ -18,13 +17,27 @@ firstFour v = reg v 0 ∷ reg v 1 ∷ reg v 2 ∷ reg v 3 ∷ []
 abbrev pub inverses : ℕ → List ℕ → List ℕ
 inverses p v = map (inverse p) v
 
--- a step on registers v beside w: as `apply` has it, but a division multiplies by w's source
-unfoldable pub applyWith : ℕ → Step → List ℕ → List ℕ → List ℕ
-applyWith p (Mul t s) v w = apply p (Mul t s) v
-applyWith p (Div t s) v w = set v t (times p (reg v t) (reg w s))
-applyWith p (Swp t s) v w = apply p (Swp t s) v
+-- a step on registers v beside w: a division multiplies by w's source
+unfoldable pub applyWith : (ℕ → ℕ → ℕ) → Step → List ℕ → List ℕ → List ℕ
+applyWith product (Mul t s) v w = set v t (product (reg v t) (reg v s))
+applyWith product (Div t s) v w = set v t (product (reg v t) (reg w s))
+applyWith product (Swp t s) v w = set (set v t (reg v s)) s (reg v t)
 
--- four residues v, and beside them their inverses w
-pub record Carried (p : ℕ) (v w : List ℕ) : Type 0 where
-  pub residues : Residues p v
-  pub inverses-are : w ≡ inverses p v
+-- the steps of a list, each on v beside w and on w beside v
+unfoldable pub doAllWith : (ℕ → ℕ → ℕ) → List Step → List ℕ → List ℕ → List ℕ
+doAllWith product [] v w = v
+doAllWith product (x ∷ xs) v w = doAllWith product xs (applyWith product x v w) (applyWith product x w v)
+
+-- steps in their order, or inverted from the last
+abbrev pub directedSteps : Bool → List Step → List Step
+directedSteps undone xs = cond undone (inverted xs) xs
+
+-- the inverses of four registers, by the inverse of their product and products
+unfoldable pub inversesWith : (ℕ → ℕ → ℕ) → (ℕ → ℕ) → List ℕ → List ℕ
+inversesWith product invert v =
+    let ab : ℕ = product (reg v 0) (reg v 1) in
+    let abc : ℕ = product ab (reg v 2) in
+    let all : ℕ = invert (product abc (reg v 3)) in
+    let three : ℕ = product all (reg v 3) in
+    let two : ℕ = product three (reg v 2) in
+    product two (reg v 1) ∷ product two (reg v 0) ∷ product three ab ∷ product all abc ∷ []

@@ -4,12 +4,12 @@
 use mathlib.Core.Path.{_≡_, sym, ap, _∙_}
 use mathlib.Core.Bool.{false, not}
 use mathlib.Core.List.{List}
-use Prim.Native.Nat.{ℕ}
+use Prim.Native.Nat.{ℕ, _%_}
 use native.Mathlib.Omega.{arith}
 use Rattle.refusal.specs.Outcomes.{answered, passes, answers}
 use Rattle.modular.specs.Primes.{Prime}
 use Rattle.modular.specs.Inverses.{badExponent}
-use Rattle.modular.proofs.Laws.Primes.{prime-test}
+use Rattle.modular.proofs.Laws.Primes.{prime-test, prime-odd}
 use Rattle.tape.specs.declared.Step.{Step}
 use Rattle.tape.specs.Layout.{headerOf, stepsOf, headerFor}
 use Rattle.tape.proofs.Laws.Reading.{ReadAs, length-good}
@@ -57,6 +57,9 @@ module _ (p r k variant : ℕ)
 
 pub accepted-prime : (tape : List ℕ) → Accepted tape → Prime (headerOf tape .modulus)
 accepted-prime tape a = prime-test _ (good-modulus _ (a .modulus) .prime)
+
+pub accepted-odd : (tape : List ℕ) → Accepted tape → headerOf tape .modulus % 2 ≡ 1
+accepted-odd tape a = prime-odd _ (accepted-prime tape a) (good-modulus _ (a .modulus) .low)
 
 pub accepted-program : (tape : List ℕ) → AcceptedNamed tape → IsProgram (headerOf tape .order) (headerOf tape .exponent) (stepsOf tape)
 accepted-program tape a =

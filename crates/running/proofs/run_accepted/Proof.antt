@@ -6,11 +6,11 @@ use native.Mathlib.Omega.{arith}
 use borrow.Author.Needs.{needs}
 use lib.ListN.{length}
 use Rattle.refusal.specs.Outcomes.{answered}
-use Rattle.tape.specs.Layout.{stepsIn}
+use Rattle.tape.specs.Layout.{stepsIn, allSteps}
 use Rattle.machine.specs.Machine.{valuesOf, run}
 use Rattle.refusal.specs.Outcomes.{gives, passes, answers}
 use Rattle.sequencer.specs.Services.{positionRules}
-use Rattle.sequencer.proofs.Laws.Cases.{modulus-prime, words-are, past-from, past-goal, both-inside, run-rules}
+use Rattle.sequencer.proofs.Laws.Cases.{modulus-prime, modulus-odd, words-steps, words-are, past-from, past-goal, both-inside, run-rules}
 use Rattle.sequencer.proofs.Laws.Answers.{residues-registers}
 use Rattle.running.proofs.run_accepted.Statement.{statement}
 use Rattle.running.proofs.run_accepted.Tie as tie
@@ -43,9 +43,11 @@ run-steps-requires c κs =
     let accept = tested .before .before .before .pre in
     let long = ap length (c .steps .ensures) ∙ words-are _ _ accept in
     record {
+      are-steps = ap allSteps (c .steps .ensures) ∙ words-steps _ _ accept;
       from-inside = omega arith;
       goal-inside = omega arith;
       prime = modulus-prime _ _ accept;
+      odd = modulus-odd _ _ accept;
       residues = residues-registers _ _ _ _ _ (sym (tested .before .is-some-bad .ensures) ∙ tested .if1 .left);
     }
 

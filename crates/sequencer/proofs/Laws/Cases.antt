@@ -11,14 +11,14 @@ use Rattle.refusal.specs.Outcomes.{Outcome, refused, answered, outcome, refusal
 use Rattle.refusal.proofs.Laws.Tests.{neither}
 use Rattle.modular.specs.Primes.{Prime}
 use Rattle.tape.specs.declared.Header.{Header}
-use Rattle.tape.specs.Layout.{headerOf, stepIndex, stepWords, stepWordsOf, part, stepsOf}
+use Rattle.tape.specs.Layout.{headerOf, stepIndex, stepWords, stepWordsOf, part, stepsOf, allSteps}
 use Rattle.tape.proofs.Laws.Rows.{words-count, part-inside}
-use Rattle.tape.proofs.Laws.Layout.{laid-out-long}
+use Rattle.tape.proofs.Laws.Layout.{laid-out-long, laid-out-rules}
 use Rattle.machine.specs.Machine.{run, start}
 use Rattle.machine.specs.Exponents.{exponentsAt}
 use Rattle.program.specs.Services.{acceptOutcome}
 use Rattle.program.proofs.Laws.Checking.{accepted, header-is, steps-are}
-use Rattle.program.proofs.Laws.Accepting.{accepted-prime}
+use Rattle.program.proofs.Laws.Accepting.{accepted-prime, accepted-odd}
 use Rattle.program.proofs.Laws.Door.{tape-accepted}
 use Rattle.sequencer.specs.Services.{badRegister, badRegisters, allowed, badBase, badCut, baseRules, positionRules, traceRules, cutRules, loadOutcome, runOutcome, traceOutcome, cutOutcome, cutPart}
 
@@ -100,7 +100,13 @@ module _ (tape : List ℕ) (h : Header) (e : acceptOutcome tape ≡ answered h) 
   pub modulus-prime : Prime (h .modulus)
   modulus-prime = rw (header-is tape h e) (accepted-prime tape (accepted (headerOf tape) tape e))
 
-  -- the step words are as many as the header says
+  pub modulus-odd : h .modulus % 2 ≡ 1
+  modulus-odd = rw (header-is tape h e) (accepted-odd tape (accepted (headerOf tape) tape e))
+
+  -- its step words are steps, as many as the header says
+  pub words-steps : allSteps (stepWordsOf tape) ≡ true
+  words-steps = laid-out-rules tape (accepted (headerOf tape) tape e .laid) .steps
+
   pub words-are : length (stepWordsOf tape) ≡ h .steps
   words-are = words-count tape ∙ sym (steps-are tape h e)
 

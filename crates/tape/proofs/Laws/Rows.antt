@@ -6,7 +6,7 @@ use mathlib.Core.List.{List, [], _∷_, map}
 use Prim.Native.Nat.{ℕ, zero, suc, _+_, _-_, _≤_, _<_}
 use native.Mathlib.Omega.{arith}
 use lib.Dec.{leb, eqb}
-use lib.ListN.{length, getD, take, drop, length-take, length-drop, drop-of-length-le, List·getD-eq-default, List·getD-map}
+use lib.ListN.{length, getD, take, drop, length-map, length-take, length-drop, drop-of-length-le, List·getD-eq-default, List·getD-map}
 use lib.Seq.{slice, drop-cons, take-nil, drop-nil}
 use borrow.Author.Tests.{le-leb, lt-leb, eqb-true}
 use Rattle.tape.specs.declared.Step.{Step}
@@ -15,6 +15,8 @@ use Rattle.tape.specs.Steps.{AllSound}
 use Rattle.tape.specs.Words.{decoded, stepWord, encoded}
 use Rattle.tape.specs.Layout.{headerWords, otherWords, part, stepCount, stepIndex, stepWordsOf, sortOf, stepOf, meansAt, stepsIn, allSteps}
 use Rattle.refusal.proofs.Laws.Tests.{both}
+use Rattle.tape.specs.Inner.Operations.{rawSteps}
+use Rattle.tape.proofs.Laws.Shapes.{raw-means}
 use Rattle.tape.proofs.Laws.Words.{decoded-step, decoded-lawful, decoded-zero, step-sound, word-again}
 
 -- ---- from words to steps and back
@@ -29,6 +31,14 @@ steps-words [] e = refl
 steps-words (w ∷ words) e =
     let t = both (eqb (sortOf (decoded w)) 5) (allSteps words) e in
     rw (word-again w (eqb-true (sortOf (decoded w)) 5 (t .0)) (λ z. omega arith), steps-words words (t .1))
+
+-- the steps that the words have in their digits
+pub raw-steps : (words : List ℕ) → allSteps words ≡ true → rawSteps words ≡ stepsIn words
+unfolding allSteps
+raw-steps [] e = refl
+raw-steps (w ∷ words) e =
+    let t = both (eqb (sortOf (decoded w)) 5) (allSteps words) e in
+    rw (raw-means w (eqb-true (sortOf (decoded w)) 5 (t .0)), raw-steps words (t .1))
 
 -- ---- from steps to words and back
 
@@ -59,6 +69,9 @@ unfolding allSteps
 steps-end words i past = ap allSteps (drop-of-length-le words past)
 
 -- ---- the step at a place
+
+pub count-in : (words : List ℕ) → length (stepsIn words) ≡ length words
+count-in words = length-map words _
 
 pub steps-nth : (words : List ℕ) (i : ℕ) → getD (stepsIn words) i (stepOf (decoded 0)) ≡ stepOf (decoded (getD words i 0))
 steps-nth words i = List·getD-map (λ (w : ℕ). stepOf (decoded w)) words i 0

@@ -1,9 +1,9 @@
 -- The words of steps by arithmetic: a payload of two registers, and a kind from 5 on of as many as take them. Such a word means a step,
 -- and a word that means a step is one.
-use mathlib.Core.Path.{_≡_, sym, ap}
+use mathlib.Core.Path.{_≡_, refl, sym, _∙_, ap, ap₂}
 use mathlib.Core.Logic.{⊎-elim}
-use Prim.Native.Nat.{ℕ, _+_, _*_, _/_, _%_, _≤_, _<_}
-use native.Mathlib.Nat.{eq-or-lt-of-le}
+use Prim.Native.Nat.{ℕ, zero, suc, _+_, _-_, _*_, _/_, _%_, _≤_, _<_}
+use native.Mathlib.Nat.{add-mul-mod-self-right, dvd-mul-right, eq-or-lt-of-le, mod-eq-of-lt, mod-mod-of-dvd}
 use native.Mathlib.Omega.{arith}
 use lib.Dec.{ltb}
 use borrow.Author.Tests.{ltb-true, ltb-false, lt-ltb, le-ltb}
@@ -14,6 +14,7 @@ use Rattle.tape.specs.declared.Decoded.the-variants.{Action}
 use Rattle.tape.specs.Steps.{Sound}
 use Rattle.tape.specs.Words.{kindOf, payloadOf, packedWord, kindsOf, decoded, stepWord, encoded}
 use Rattle.tape.specs.Layout.{sortOf, stepOf}
+use Rattle.tape.specs.Inner.Operations.{stepBy, rawStep}
 use Rattle.tape.proofs.Laws.Payloads.{action-good, swap-good}
 use Rattle.tape.proofs.Laws.Words.{decoded-lawful, step-sound, word-again}
 
@@ -83,6 +84,12 @@ pub kind-7 : (kind : ℕ) → 5 ≤ kind → (kind ≡ 5 → ⊥) → (kind ≡ 
 kind-7 kind first not-5 not-6 =
     ⊎-elim (λ e. absurd (not-5 (sym e))) (λ h. ⊎-elim (λ e. absurd (not-6 (sym e))) (λ k. k) (eq-or-lt-of-le h)) (eq-or-lt-of-le first)
 
+pub exchanges : (n t s : ℕ) → 1 < n → stepBy n t s ≡ Swp t s
+unfolding stepBy
+exchanges zero t s more = absurd (omega arith)
+exchanges (suc zero) t s more = absurd (omega arith)
+exchanges (suc (suc n)) t s more = refl
+
 module _ (w : ℕ) (shape : Shape w) where
   differ : payloadOf w % 4 ≡ payloadOf w / 4 → ⊥
   differ e = omega (arith, kinds-none (payloadOf w % 4) (payloadOf w / 4) e, shape .taken, shape .first)
@@ -107,8 +114,36 @@ module _ (w : ℕ) (shape : Shape w) where
       let k : kindOf w ≡ 7 = omega (arith, kinds-most (payloadOf w % 4) (payloadOf w / 4), shape .taken) in
       rw k (swap-good (payloadOf w) (shape .pair) (order last))
 
+  -- its kind from 5 on is the number of what it does
+  means-operation : stepBy (kindOf w - 5) (payloadOf w % 4) (payloadOf w / 4) ≡ stepOf (decoded w)
+  unfolding stepBy
+  means-operation =
+      ⊎-elim (λ e. by-number 0 (omega arith) (means-5 (sym e)))
+      (λ h.
+      ⊎-elim (λ e. by-number 1 (omega arith) (means-6 (sym e)))
+      (λ last. exchanges (kindOf w - 5) _ _ (omega arith) ∙ sym (ap stepOf (means-7 last)))
+      (eq-or-lt-of-le h))
+      (eq-or-lt-of-le (shape .first))
+    where
+      by-number : (n : ℕ) → kindOf w - 5 ≡ n → decoded w ≡ Action (stepBy n (payloadOf w % 4) (payloadOf w / 4))
+          → stepBy (kindOf w - 5) (payloadOf w % 4) (payloadOf w / 4) ≡ stepOf (decoded w)
+      by-number n number means = ap (λ (k : ℕ). stepBy k (payloadOf w % 4) (payloadOf w / 4)) number ∙ sym (ap stepOf means)
+
   pub shape-sort : sortOf (decoded w) ≡ 5
   shape-sort =
       ⊎-elim (λ e. ap sortOf (means-5 (sym e)))
       (λ h. ⊎-elim (λ e. ap sortOf (means-6 (sym e))) (λ last. ap sortOf (means-7 last)) (eq-or-lt-of-le h))
       (eq-or-lt-of-le (shape .first))
+
+-- a step's word has nothing but its kind and its registers
+pub raw-means : (w : ℕ) → sortOf (decoded w) ≡ 5 → rawStep w ≡ stepOf (decoded w)
+unfolding rawStep
+raw-means w e =
+    let shape = step-shape w e in
+    let whole : w ≡ kindOf w * 268435456 + payloadOf w = omega arith in
+    let target : w % 4 ≡ payloadOf w % 4 = sym (mod-mod-of-dvd 4 w (dvd-mul-right 4 67108864)) in
+    let quarter : w / 4 ≡ payloadOf w / 4 + kindOf w * 16777216 * 4 = omega (arith, whole) in
+    let small : payloadOf w / 4 < 4 = omega (arith, shape .pair) in
+    let source : w / 4 % 4 ≡ payloadOf w / 4 =
+    ap (λ (n : ℕ). n % 4) quarter ∙ add-mul-mod-self-right (payloadOf w / 4) (kindOf w * 16777216) 4 ∙ mod-eq-of-lt small in
+    ap₂ (stepBy (kindOf w - 5)) target source ∙ means-operation w shape

@@ -1,0 +1,15 @@
+-- `row::multiply_register` meets its contract: what it reads is the register that it sets.
+use borrow.Author.Needs.{needs}
+use Rattle.register_steps.proofs.row.multiply_register.Statement.{statement}
+use Rattle.register_steps.proofs.row.multiply_register.Tie as tie
+
+returns : tie.Need-returns
+returns c =
+    let after = c .before .before in
+    let product = after .before .before in
+    cc (product .before .register .ensures, product .multiply .ensures, after .set-register .ensures)
+
+pub multiply-register-spec : {M : Type 1} → statement M
+multiply-register-spec =
+    tie.close
+    (tie.spec (λ c κs. search needs) (λ c κs. search needs) (λ c κs. search needs) (λ c. search needs) returns)
