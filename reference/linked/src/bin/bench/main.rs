@@ -1,0 +1,46 @@
+//! The time of a call of the proved library and of this implementation, in one run.
+//!
+//!     bench [ROUNDS]
+//!
+//! A round goes over all that is measured: a batch of calls of the one side, then of the other, over the
+//! same inputs, which differ from call to call. A batch goes over all inputs, as often as it takes to
+//! last a quarter of a millisecond or more. Told is the least time per call over all rounds, since what
+//! else runs on the machine only adds to it; how many times the other's time the proved one is; and how
+//! many times the least the median over the rounds is.
+
+mod board;
+mod inputs;
+mod overview;
+mod services;
+mod timing;
+
+use board::Board;
+use inputs::{LARGE, SMALL};
+use std::num::NonZeroUsize;
+
+/// They take less than a minute.
+const ROUNDS: usize = 400;
+
+fn main() {
+    let rounds = rounds();
+    let (small, large) = (SMALL.inputs(), LARGE.inputs());
+    let mut board = Board::new(&small, &large);
+    for _ in 0..rounds {
+        board.round();
+    }
+    overview::print(&board, rounds, &small, &large);
+}
+
+fn rounds() -> usize {
+    let words: Vec<String> = std::env::args().skip(1).collect();
+    let told = match words.as_slice() {
+        [] => return ROUNDS,
+        [text] => text.parse().map_or(0, NonZeroUsize::get),
+        _ => 0,
+    };
+    if told == 0 {
+        eprintln!("usage: bench [ROUNDS]");
+        std::process::exit(2);
+    }
+    told
+}

@@ -1,0 +1,257 @@
+//! The services: a line of the list and a function each.
+
+use crate::inputs::{Inputs, Variant, EVERY, MOST_PLACES, MOST_WORDS, NAMED, NONE};
+use crate::timing::Pair;
+use linked::proved;
+use reference as services;
+use reference::drawing::tapes::steps;
+use std::hint::black_box;
+
+const MOST_LISTING: usize = 6137;
+
+/// What is measured, with a row for each of its variants.
+pub struct Service {
+    pub name: &'static str,
+    pub variants: &'static [Variant],
+    /// What the two sides have different algorithms for.
+    pub differences: &'static str,
+    pub pair: fn(&Inputs, u32) -> Pair<'_>,
+}
+
+const fn service(
+    name: &'static str,
+    variants: &'static [Variant],
+    differences: &'static str,
+    pair: fn(&Inputs, u32) -> Pair<'_>,
+) -> Service {
+    Service {
+        name,
+        variants,
+        differences,
+        pair,
+    }
+}
+
+const PROGRAM: &str = "primes, forms, inverse";
+const RUN: &str = "primes, forms, inverse, product";
+
+/// The rows of the table, in their order.
+pub static SERVICES: &[Service] = &[
+    service("build", NAMED, PROGRAM, build),
+    service("check", EVERY, PROGRAM, check),
+    service("load", NAMED, PROGRAM, load),
+    service("run forward", EVERY, RUN, run_forward),
+    service("run backward", EVERY, RUN, run_backward),
+    service("trace", EVERY, PROGRAM, trace),
+    service("cut", NAMED, PROGRAM, cut),
+    service("listing", NAMED, PROGRAM, listing),
+    service("inverse", NONE, "inverse", inverse),
+    service("places", NONE, "forms", places),
+    service("number", NONE, "weights", number),
+    service("G", NONE, "G", hofstadter),
+    service("fibonacci", NONE, "weights", fibonacci),
+];
+
+fn build(inputs: &Inputs, variant: u32) -> Pair<'_> {
+    let Inputs { p, r, .. } = *black_box(inputs);
+    let (mut row, mut other) = ([0; MOST_WORDS], [0; MOST_WORDS]);
+    let mut count = 0;
+    Pair::new(
+        move |i| {
+            let k = black_box(inputs.exponents[i]);
+            black_box(proved::build(p, r, k, variant, &mut row, &mut count));
+            black_box(&row);
+        },
+        move |i| {
+            let k = black_box(inputs.exponents[i]);
+            let _ = black_box(services::build(p, r, k, variant, &mut other));
+            black_box(&other);
+        },
+    )
+}
+
+fn check(inputs: &Inputs, variant: u32) -> Pair<'_> {
+    Pair::new(
+        move |i| {
+            black_box(proved::check(black_box(inputs.tape(variant, i))));
+        },
+        move |i| {
+            let _ = black_box(services::check(black_box(inputs.tape(variant, i))));
+        },
+    )
+}
+
+fn load(inputs: &Inputs, variant: u32) -> Pair<'_> {
+    let mut registers = [0; 4];
+    Pair::new(
+        move |i| {
+            let tape = black_box(inputs.tape(variant, i));
+            black_box(proved::load(tape, inputs.bases[i], &mut registers));
+            black_box(&registers);
+        },
+        move |i| {
+            let tape = black_box(inputs.tape(variant, i));
+            let _ = black_box(services::load(tape, inputs.bases[i]));
+        },
+    )
+}
+
+fn run_forward(inputs: &Inputs, variant: u32) -> Pair<'_> {
+    run(inputs, variant, true)
+}
+
+fn run_backward(inputs: &Inputs, variant: u32) -> Pair<'_> {
+    run(inputs, variant, false)
+}
+
+/// End to end, from (1, a, 1, 1) forward, from any registers backward.
+fn run(inputs: &Inputs, variant: u32, forward: bool) -> Pair<'_> {
+    let start = move |i: usize| {
+        if forward {
+            [1, inputs.bases[i], 1, 1]
+        } else {
+            inputs.registers[i]
+        }
+    };
+    let way = move |tape: &[u32]| {
+        if forward {
+            (0, steps(tape))
+        } else {
+            (steps(tape), 0)
+        }
+    };
+    Pair::new(
+        move |i| {
+            let tape = black_box(inputs.tape(variant, i));
+            let (from, to) = way(tape);
+            let mut registers = black_box(start(i));
+            black_box(proved::run(tape, &mut registers, from, to));
+            black_box(&registers);
+        },
+        move |i| {
+            let tape = black_box(inputs.tape(variant, i));
+            let (from, to) = way(tape);
+            let _ = black_box(services::run(tape, black_box(start(i)), from, to));
+        },
+    )
+}
+
+/// At the last position.
+fn trace(inputs: &Inputs, variant: u32) -> Pair<'_> {
+    let mut exponents = [0; 4];
+    Pair::new(
+        move |i| {
+            let tape = black_box(inputs.tape(variant, i));
+            black_box(proved::trace(tape, steps(tape), &mut exponents));
+            black_box(&exponents);
+        },
+        move |i| {
+            let tape = black_box(inputs.tape(variant, i));
+            let _ = black_box(services::trace(tape, steps(tape)));
+        },
+    )
+}
+
+/// The whole program's steps.
+fn cut(inputs: &Inputs, variant: u32) -> Pair<'_> {
+    let (mut start, mut count) = (0, 0);
+    Pair::new(
+        move |i| {
+            let tape = black_box(inputs.tape(variant, i));
+            black_box(proved::cut(tape, 0, steps(tape), &mut start, &mut count));
+            black_box((start, count));
+        },
+        move |i| {
+            let tape = black_box(inputs.tape(variant, i));
+            let _ = black_box(services::cut(tape, 0, steps(tape)));
+        },
+    )
+}
+
+fn listing(inputs: &Inputs, variant: u32) -> Pair<'_> {
+    let mut lines = [0; MOST_LISTING];
+    let mut written = 0;
+    Pair::new(
+        move |i| {
+            black_box(proved::listing(
+                black_box(inputs.bytes(variant, i)),
+                &mut lines,
+                &mut written,
+            ));
+            black_box(&lines);
+        },
+        move |i| {
+            black_box(services::listing(black_box(inputs.bytes(variant, i))));
+        },
+    )
+}
+
+fn inverse(inputs: &Inputs, _: u32) -> Pair<'_> {
+    let r = inputs.r;
+    let mut found = 0;
+    Pair::new(
+        move |i| {
+            let k = black_box(inputs.exponents[i]);
+            black_box(proved::inverse(k, black_box(r), &mut found));
+            black_box(found);
+        },
+        move |i| {
+            let k = black_box(inputs.exponents[i]);
+            let _ = black_box(services::inverse(k, black_box(r)));
+        },
+    )
+}
+
+fn places(inputs: &Inputs, _: u32) -> Pair<'_> {
+    let (mut row, mut other) = ([0; MOST_PLACES], [0; MOST_PLACES]);
+    let mut count = 0;
+    Pair::new(
+        move |i| {
+            let n = black_box(inputs.numbers[i]);
+            black_box(proved::places(n, &mut row, &mut count));
+            black_box(&row);
+        },
+        move |i| {
+            let n = black_box(inputs.numbers[i]);
+            let _ = black_box(services::write_places(n, &mut other));
+            black_box(&other);
+        },
+    )
+}
+
+fn number(inputs: &Inputs, _: u32) -> Pair<'_> {
+    let mut n = 0;
+    Pair::new(
+        move |i| {
+            black_box(proved::number(black_box(&inputs.lists[i]), &mut n));
+            black_box(n);
+        },
+        move |i| {
+            let _ = black_box(services::number(black_box(&inputs.lists[i])));
+        },
+    )
+}
+
+fn hofstadter(inputs: &Inputs, _: u32) -> Pair<'_> {
+    Pair::new(
+        move |i| {
+            black_box(proved::hofstadter(black_box(inputs.numbers[i])));
+        },
+        move |i| {
+            black_box(services::hofstadter(black_box(inputs.numbers[i])));
+        },
+    )
+}
+
+fn fibonacci(_: &Inputs, _: u32) -> Pair<'_> {
+    let mut value = 0;
+    Pair::new(
+        move |i| {
+            black_box(proved::fibonacci(black_box(i as u32), &mut value));
+            black_box(value);
+        },
+        move |i| {
+            let _ = black_box(services::fibonacci(black_box(i as u32)));
+        },
+    )
+}
