@@ -7,12 +7,11 @@ page=docs/PERFORMANCE.md
 [ -n "$FIBEXP_ARCHIVE" ] || rt staticlib capi || exit
 said=$(mktemp) || exit 2
 trap 'rm -f "$said"' EXIT
-cpu() { awk -F '\t*: ' -v name="$1" '$1 == name { print $2; exit }' /proc/cpuinfo; }
 {
     sed '/^## Measured$/,$d' "$page"
     echo "## Measured"
     echo
-    echo "$(date -u +%Y-%m-%d), at commit $(git rev-parse --short HEAD). Processor: $(cpu 'model name'), family $(cpu 'cpu family'), model $(cpu model), stepping $(cpu stepping), $(nproc) cores. Proved side: $(rt version). Other side: $(rustc --version), opt-level 3, lto. Load before the run: $(cut -d ' ' -f 1 /proc/loadavg)."
+    echo "$(date -u +%Y-%m-%d), at commit $(git rev-parse --short HEAD). Proved side: $(rt version). Other side: $(rustc --version), opt-level 3, lto. Load before the run: $(cut -d ' ' -f 1 /proc/loadavg)."
     echo
     cargo run --quiet --release --manifest-path reference/linked/Cargo.toml --bin bench -- "$@" || exit
 } >"$said" || exit 2

@@ -1,4 +1,4 @@
-//! The time of a call of the proved library and of this implementation, in one run.
+//! The time of a call of the proved library and of this implementation, in one run on one core.
 //!
 //!     bench [ROUNDS]
 //!
@@ -11,6 +11,7 @@
 mod board;
 mod inputs;
 mod overview;
+mod pin;
 mod services;
 mod timing;
 
@@ -23,11 +24,13 @@ const ROUNDS: usize = 400;
 
 fn main() {
     let rounds = rounds();
+    let core = pin::stay();
     let (small, large) = (SMALL.inputs(), LARGE.inputs());
     let mut board = Board::new(&small, &large);
     for _ in 0..rounds {
         board.round();
     }
+    println!("Processor: {}. {}\n", pin::processor(), told(core));
     overview::print(&board, rounds, &small, &large);
 }
 
@@ -43,4 +46,11 @@ fn rounds() -> usize {
         std::process::exit(2);
     }
     told
+}
+
+fn told(core: Option<usize>) -> String {
+    match core {
+        Some(core) => format!("The run stayed on core {core}."),
+        None => "The run wasn't kept on one core.".to_string(),
+    }
 }
