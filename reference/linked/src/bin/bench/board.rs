@@ -1,11 +1,13 @@
-//! All that is measured.
+//! All that is measured, each once, whichever tables tell of it.
 
 use crate::inputs::{Inputs, Variant, EVERY, NONE};
+use crate::latency::{by_montgomery, by_remainder, Chains};
 use crate::services::{Service, SERVICES};
 use crate::timing::Pair;
 
 pub struct Board<'a> {
     entries: Vec<Entry<'a>>,
+    chains: Vec<Limits>,
 }
 
 struct Entry<'a> {
@@ -15,7 +17,13 @@ struct Entry<'a> {
     pair: Pair<'a>,
 }
 
-/// Each service with each of its variants, in the table's order.
+/// The chains of products at one p.
+pub struct Limits {
+    pub montgomery: Chains,
+    pub remainder: Chains,
+}
+
+/// Each service with each of its variants, in the tables' order.
 pub fn rows() -> impl Iterator<Item = (&'static Service, &'static Variant)> {
     let variants = EVERY.iter().chain(NONE);
     variants.flat_map(|variant| {
@@ -25,26 +33,46 @@ pub fn rows() -> impl Iterator<Item = (&'static Service, &'static Variant)> {
 }
 
 impl<'a> Board<'a> {
-    pub fn new(small: &'a Inputs, large: &'a Inputs) -> Board<'a> {
+    /// The worked example's p and the largest have every service, the others those that grow.
+    pub fn new(small: &'a Inputs, growing: &'a [Inputs; 4]) -> Board<'a> {
+        let [.., large] = growing;
         let mut entries = Vec::new();
         for (service, variant) in rows() {
-            for inputs in [small, large] {
-                entries.push(Entry::new(service, variant, inputs));
+            for inputs in std::iter::once(small).chain(growing) {
+                if service.grows || inputs.p == small.p || inputs.p == large.p {
+                    entries.push(Entry::new(service, variant, inputs));
+                }
             }
         }
-        Board { entries }
+        let limits = |inputs: &Inputs| Limits {
+            montgomery: by_montgomery(inputs),
+            remainder: by_remainder(inputs),
+        };
+        Board {
+            entries,
+            chains: growing.iter().map(limits).collect(),
+        }
     }
 
     pub fn round(&mut self) {
         for entry in &mut self.entries {
             entry.pair.round();
         }
+        for limits in &mut self.chains {
+            limits.montgomery.round();
+            limits.remainder.round();
+        }
     }
 
     pub fn pair(&self, service: &str, variant: &Variant, p: u32) -> &Pair<'a> {
         let is_it = |e: &&Entry| e.service == service && e.variant == variant.name && e.p == p;
         let found = self.entries.iter().find(is_it);
-        &found.expect("the table tells what is measured").pair
+        &found.expect("the tables tell of what is measured").pair
+    }
+
+    /// Of each p that grows, in their order.
+    pub fn limits(&self) -> &[Limits] {
+        &self.chains
     }
 }
 

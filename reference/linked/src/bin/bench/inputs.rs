@@ -14,7 +14,9 @@ pub const MOST_PLACES: usize = 46;
 const MOST_STEPS: u32 = 507;
 const SEED: u64 = 359_179;
 
-/// The kind of a tape's last word.
+/// Kinds of tape words.
+const MUL: u32 = 5;
+const DIV: u32 = 6;
 const END: u32 = 15;
 
 /// Programs of a kind; their number in a header, and its name.
@@ -53,8 +55,8 @@ pub const SMALL: Size = Size {
     r: 179,
     most: 358,
 };
-/// The largest prime below 2^28.
-pub const LARGE: Size = full(268_435_399);
+/// The largest primes below 2^8, 2^16, 2^24 and 2^28.
+pub const GROWING: [Size; 4] = [full(251), full(65_521), full(16_777_213), full(268_435_399)];
 
 /// A prime with the largest order it has, and numbers of 64 bits.
 const fn full(p: u32) -> Size {
@@ -120,8 +122,23 @@ impl Inputs {
     }
 
     pub fn mean_steps(&self, variant: &Variant) -> f64 {
+        self.mean(variant, steps)
+    }
+
+    /// Of the steps that aren't swaps.
+    pub fn mean_products(&self, variant: &Variant) -> f64 {
+        let kinds = [MUL, DIV];
+        self.mean(variant, |tape| {
+            let products = tape
+                .iter()
+                .filter(|&word| kinds.contains(&(word / PAYLOADS)));
+            products.count() as u32
+        })
+    }
+
+    fn mean(&self, variant: &Variant, count: impl Fn(&[u32]) -> u32) -> f64 {
         let tapes = &self.tapes[variant.number as usize];
-        let total: u32 = tapes.iter().map(|tape| steps(tape)).sum();
+        let total: u32 = tapes.iter().map(|tape| count(tape)).sum();
         total as f64 / INPUTS as f64
     }
 }

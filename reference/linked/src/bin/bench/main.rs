@@ -9,14 +9,16 @@
 //! many times the least the median over the rounds is.
 
 mod board;
+mod growth;
 mod inputs;
+mod latency;
 mod overview;
 mod pin;
 mod services;
 mod timing;
 
 use board::Board;
-use inputs::{LARGE, SMALL};
+use inputs::{Inputs, Size, GROWING, SMALL};
 use std::num::NonZeroUsize;
 
 /// They take less than a minute.
@@ -25,13 +27,17 @@ const ROUNDS: usize = 400;
 fn main() {
     let rounds = rounds();
     let core = pin::stay();
-    let (small, large) = (SMALL.inputs(), LARGE.inputs());
-    let mut board = Board::new(&small, &large);
+    let small = SMALL.inputs();
+    let growing: [Inputs; 4] = GROWING.each_ref().map(Size::inputs);
+    let mut board = Board::new(&small, &growing);
     for _ in 0..rounds {
         board.round();
     }
     println!("Processor: {}. {}\n", pin::processor(), told(core));
-    overview::print(&board, rounds, &small, &large);
+    let [.., large] = &growing;
+    overview::print(&board, rounds, &small, large);
+    println!();
+    growth::print(&board, &growing);
 }
 
 fn rounds() -> usize {

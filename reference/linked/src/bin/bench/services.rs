@@ -13,6 +13,8 @@ const MOST_LISTING: usize = 6137;
 pub struct Service {
     pub name: &'static str,
     pub variants: &'static [Variant],
+    /// Whether it is measured at every size.
+    pub grows: bool,
     /// What the two sides have different algorithms for.
     pub differences: &'static str,
     pub pair: fn(&Inputs, u32) -> Pair<'_>,
@@ -21,12 +23,14 @@ pub struct Service {
 const fn service(
     name: &'static str,
     variants: &'static [Variant],
+    grows: bool,
     differences: &'static str,
     pair: fn(&Inputs, u32) -> Pair<'_>,
 ) -> Service {
     Service {
         name,
         variants,
+        grows,
         differences,
         pair,
     }
@@ -35,21 +39,24 @@ const fn service(
 const PROGRAM: &str = "primes, forms, inverse";
 const RUN: &str = "primes, forms, inverse, product";
 
-/// The rows of the table, in their order.
+pub const CHECK: &str = "check";
+pub const RUNS: [&str; 2] = ["run forward", "run backward"];
+
+/// The rows of the tables, in their order.
 pub static SERVICES: &[Service] = &[
-    service("build", NAMED, PROGRAM, build),
-    service("check", EVERY, PROGRAM, check),
-    service("load", NAMED, PROGRAM, load),
-    service("run forward", EVERY, RUN, run_forward),
-    service("run backward", EVERY, RUN, run_backward),
-    service("trace", EVERY, PROGRAM, trace),
-    service("cut", NAMED, PROGRAM, cut),
-    service("listing", NAMED, PROGRAM, listing),
-    service("inverse", NONE, "inverse", inverse),
-    service("places", NONE, "forms", places),
-    service("number", NONE, "weights", number),
-    service("G", NONE, "G", hofstadter),
-    service("fibonacci", NONE, "weights", fibonacci),
+    service("build", NAMED, true, PROGRAM, build),
+    service(CHECK, EVERY, true, PROGRAM, check),
+    service("load", NAMED, false, PROGRAM, load),
+    service(RUNS[0], EVERY, true, RUN, run_forward),
+    service(RUNS[1], EVERY, true, RUN, run_backward),
+    service("trace", EVERY, true, PROGRAM, trace),
+    service("cut", NAMED, false, PROGRAM, cut),
+    service("listing", NAMED, false, PROGRAM, listing),
+    service("inverse", NONE, false, "inverse", inverse),
+    service("places", NONE, false, "forms", places),
+    service("number", NONE, false, "weights", number),
+    service("G", NONE, false, "G", hofstadter),
+    service("fibonacci", NONE, false, "weights", fibonacci),
 ];
 
 fn build(inputs: &Inputs, variant: u32) -> Pair<'_> {

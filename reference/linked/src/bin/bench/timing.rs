@@ -28,7 +28,7 @@ impl<'a> Pair<'a> {
     }
 }
 
-/// One of the two: a batch goes so many times over so many inputs.
+/// One of the two, or a chain of products: a batch goes so many times over so many inputs.
 pub struct Side<'a> {
     go: Box<dyn FnMut(usize) + 'a>,
     inputs: usize,
