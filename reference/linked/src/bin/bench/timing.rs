@@ -5,7 +5,7 @@ use std::time::{Duration, Instant};
 
 const SHORTEST_BATCH: Duration = Duration::from_micros(250);
 /// As many batches in a row last that long before the count of their passes is settled: a first one is
-/// slow, since the processor has still to learn its branches.
+/// slower than those after it.
 const TRIALS: usize = 3;
 
 /// Two ways of doing the same for each input.
