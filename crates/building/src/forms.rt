@@ -9,11 +9,11 @@ ghost use Rattle.named.specs.Named.{dualForms, hybridForms};
 ghost use Rattle.named.specs.Parameters.{badVariant};
 ghost use Rattle.program.specs.Inner.Forms.{Invertible, BitsOf, rowsOf, RowsFromTable};
 use fibonacci::BitString;
+use golden::fibonacci_or_zero;
 use modular::product;
 use named::Figure;
 use program::FormRows;
 use zeckendorf::bit_string;
-use zeckendorf::fibonacci_or_zero;
 
 // The forms of a named program, from r, k and the inverse of k.
 pub(crate) fn forms(variant: u32, r: u32, k: u32, inverse: u32) -> FormRows
@@ -69,7 +69,7 @@ fn dual_forms(r: u32, k: u32, inverse: u32) -> FormRows
     requires { ⌜ Invertible r k inverse ⌝ }
     ensures { λ rows. ⌜ rows ≡ rowsOf (dualForms r k) ⌝ }
 {
-    let h = zeckendorf::height(r);
+    let h = golden::height(r);
     let low = fibonacci_or_zero(h) as u32;
     let high = fibonacci_or_zero(h + 1) as u32;
     let s = residue(k, low, r);
@@ -106,7 +106,7 @@ fn hybrid_forms(r: u32, k: u32, inverse: u32) -> FormRows
     requires { ⌜ Invertible r k inverse ⌝ }
     ensures { λ rows. ⌜ rows ≡ rowsOf (hybridForms r k) ⌝ }
 {
-    let h = zeckendorf::height(r);
+    let h = golden::height(r);
     let l = h + 1 - h % 2;
     let v = bit_string(k as u64 * fibonacci_or_zero(l + 1));
     let inverses = bit_string(inverse as u64);

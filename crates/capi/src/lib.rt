@@ -31,7 +31,7 @@ pub extern "C" fn fibexp_fibonacci(index: u32, value: &mut u64) -> u32
     ensures { λ number. ⌜ number ≡ refusalNumber (fibonacciOutcome index) ⌝ }
     ensures { λ _. ⌜ now (value .exit) ≡ after (fibonacciOutcome index) (now (value .entry)) ⌝ }
 {
-    store_u64(zeckendorf::fibonacci(index), value)
+    store_u64(golden::fibonacci(index), value)
 }
 
 // Number to list: 5.
@@ -58,7 +58,7 @@ pub extern "C" fn fibexp_number(places: &[u8], n: &mut u64) -> u32
 pub extern "C" fn fibexp_hofstadter(n: u64) -> u64
     ensures { λ r. ⌜ r ≡ G n ⌝ }
 {
-    zeckendorf::hofstadter(n)
+    golden::hofstadter(n)
 }
 
 // Document 01's h, which refuses nothing either: the least positive number with r < phi^h.
@@ -66,7 +66,7 @@ pub extern "C" fn fibexp_hofstadter(n: u64) -> u64
 pub extern "C" fn fibexp_height(r: u32) -> u32
     ensures { λ h. ⌜ h ≡ height r ⌝ }
 {
-    zeckendorf::height(r)
+    golden::height(r)
 }
 
 // The inverse of k modulo r: 2, 3.

@@ -30,16 +30,16 @@ pub(crate) fn on_numbers(verb: NumberVerb, own: u32, values: &[u64], text: &mut 
 {
     match verb {
         NumberVerb::Decode => meaning(text, decoding::decode(small(values, 0))),
-        NumberVerb::Fibonacci => answer(text, own, zeckendorf::fibonacci(small(values, 0))),
+        NumberVerb::Fibonacci => answer(text, own, golden::fibonacci(small(values, 0))),
         NumberVerb::Places => places(large(values, 0), text),
         NumberVerb::NumberOf => number_of(own, values, text),
-        NumberVerb::Hofstadter => number(text, zeckendorf::hofstadter(large(values, 0))),
+        NumberVerb::Hofstadter => number(text, golden::hofstadter(large(values, 0))),
         NumberVerb::Inverse => answer(
             text,
             own,
             modular::inverse(small(values, 0), small(values, 1)),
         ),
-        NumberVerb::Height => number(text, zeckendorf::height(small(values, 0)) as u64),
+        NumberVerb::Height => number(text, golden::height(small(values, 0)) as u64),
         NumberVerb::Prime => number(text, bit(modular::is_prime(small(values, 0)))),
         NumberVerb::MulMod => {
             number(

@@ -2,6 +2,7 @@
 pub mod Fibonacci
 pub mod Weights
 pub mod Hofstadter
+pub mod Quotients
 pub mod Forms
 pub mod Zeckendorf
 pub mod Places

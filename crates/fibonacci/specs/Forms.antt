@@ -70,14 +70,10 @@ unfoldable pub ones : List Bool → ℕ
 ones [] = 0
 ones (b ∷ bs) = cond b 1 0 + ones bs
 
--- the sum of a list of places, of which place i weighs w i
-unfoldable pub weighed : (ℕ → ℕ) → List ℕ → ℕ
-weighed w [] = 0
-weighed w (i ∷ l) = w i + weighed w l
-
 -- the number that a list of places stands for
-abbrev pub weight : List ℕ → ℕ
-weight l = weighed (λ (i : ℕ). fib (suc i)) l
+unfoldable pub weight : List ℕ → ℕ
+weight [] = 0
+weight (i ∷ l) = fib (suc i) + weight l
 
 -- A list is the places of a Zeckendorf form: from 1 to m, each below the place before it and not its neighbour.
 abbrev pub Places : ℕ → List ℕ → Type 0

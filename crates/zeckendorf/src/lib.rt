@@ -1,4 +1,4 @@
-// Fibonacci numbers, Zeckendorf forms, Hofstadter's G and h.
+// Zeckendorf forms, and lists of places both ways.
 mod list;
 mod weights;
 
@@ -6,40 +6,15 @@ ghost use mathlib.Core.Path.{_≡_};
 ghost use lib.ListN.{length};
 ghost use Rattle.refusal.specs.Outcomes.{numberOutcomeOf};
 ghost use Rattle.fibonacci.specs.Forms.{zeckendorf};
-ghost use Rattle.fibonacci.specs.Hofstadter.{G};
-ghost use Rattle.fibonacci.specs.Height.{height};
-ghost use Rattle.fibonacci.specs.Services.{fibonacciOrZero, fibonacciOutcome, placesOf, formRow, bitRow, placesOutcome, placesBuffer, numberOutcome};
+ghost use Rattle.fibonacci.specs.Services.{placesOf, formRow, bitRow, placesOutcome, placesBuffer, numberOutcome};
 use fibonacci::BitString;
 use fibonacci::Form;
 use list::are_places;
 use list::total;
 use refusal::NumberAnswer;
 use refusal::Refusal;
-use weights::PLACE_ZERO;
-use weights::ascend_to;
-use weights::fib_at;
 use weights::highest;
 use weights::lower;
-
-// A Fibonacci number by its index.
-pub fn fibonacci(index: u32) -> NumberAnswer
-    ensures { λ answer. ⌜ numberOutcomeOf answer ≡ fibonacciOutcome index ⌝ }
-{
-    if 93 < index {
-        return NumberAnswer::Refused(Refusal::Index);
-    }
-    NumberAnswer::Answered(fib_at(index as usize))
-}
-
-// F_index, and 0 where it does not fit.
-pub fn fibonacci_or_zero(index: u32) -> u64
-    ensures { λ r. ⌜ r ≡ fibonacciOrZero index ⌝ }
-{
-    if 93 < index {
-        return 0;
-    }
-    fib_at(index as usize)
-}
 
 // The Zeckendorf form of n: from the highest place down, each place taken whose weight is left.
 pub fn zeckendorf(n: u64) -> Form
@@ -108,38 +83,4 @@ pub fn number_of_places(list: &[u8]) -> NumberAnswer
         return total(list);
     }
     NumberAnswer::Refused(Refusal::Index)
-}
-
-// Hofstadter's G, by Lemma 3: each place of the form moved down by one, so that place i weighs F_i.
-pub fn hofstadter(n: u64) -> u64
-    ensures { λ r. ⌜ r ≡ G n ⌝ }
-{
-    let form = zeckendorf(n);
-    let places = form.places;
-    let mut sum: u64 = 0;
-    let mut at = PLACE_ZERO;
-    let mut i = form.count;
-    while i > 0 {
-        i -= 1;
-        at = ascend_to(at, places[i] as usize);
-        sum += at.below;
-    }
-    sum
-}
-
-// Document 01's h: the least positive h with r < phi^h, found by going up the Lucas numbers.
-pub fn height(r: u32) -> u32
-    ensures { λ h. ⌜ h ≡ height r ⌝ }
-{
-    let wanted = r as u64;
-    let mut before: u64 = 2;
-    let mut lucas: u64 = 1;
-    let mut h: u32 = 1;
-    while lucas + (h % 2) as u64 <= wanted {
-        let next = before + lucas;
-        before = lucas;
-        lucas = next;
-        h += 1;
-    }
-    h
 }

@@ -4,8 +4,7 @@ ghost use mathlib.Core.Bool.{true};
 ghost use Rattle.refusal.specs.Outcomes.{numberOutcomeOf};
 ghost use Rattle.fibonacci.specs.Forms.{arePlaces};
 ghost use Rattle.fibonacci.specs.Services.{lastPlace, totalOutcome};
-use crate::weights::PLACE_ZERO;
-use crate::weights::ascend_to;
+use golden::fibonacci_or_zero;
 use refusal::NumberAnswer;
 use refusal::Refusal;
 
@@ -35,15 +34,14 @@ pub(crate) fn total(list: &[u8]) -> NumberAnswer
     ensures { λ answer. ⌜ numberOutcomeOf answer ≡ totalOutcome (now (list .entry)) ⌝ }
 {
     let mut sum: u64 = 0;
-    let mut at = PLACE_ZERO;
     let mut i = list.len();
     while i > 0 {
         i -= 1;
-        at = ascend_to(at, list[i] as usize);
-        if 0xFFFF_FFFF_FFFF_FFFF - sum < at.weight {
+        let weight = fibonacci_or_zero(list[i] as u32 + 1);
+        if 0xFFFF_FFFF_FFFF_FFFF - sum < weight {
             return NumberAnswer::Refused(Refusal::Range);
         }
-        sum += at.weight;
+        sum += weight;
     }
     NumberAnswer::Answered(sum)
 }

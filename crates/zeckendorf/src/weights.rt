@@ -7,37 +7,11 @@ ghost use Rattle.fibonacci.specs.Inner.Weights.{IsWeight};
 use fibonacci::Weight;
 
 // Below place 1.
-pub(crate) const PLACE_ZERO: Weight = Weight {
+const PLACE_ZERO: Weight = Weight {
     place: 0,
     weight: 1,
     below: 0,
 };
-
-// F_i.
-pub(crate) fn fib_at(i: usize) -> u64
-    requires { ⌜ i < 94 ⌝ }
-    ensures { λ r. ⌜ r ≡ fib i ⌝ }
-{
-    if i == 0 {
-        return 0;
-    }
-    ascend_to(PLACE_ZERO, i - 1).weight
-}
-
-// Up to a place.
-pub(crate) fn ascend_to(from: Weight, place: usize) -> Weight
-    requires { ⌜ IsWeight from ⌝ }
-    requires { ⌜ from .place ≤ place ⌝ }
-    requires { ⌜ place ≤ 92 ⌝ }
-    ensures { λ r. ⌜ IsWeight r ⌝ }
-    ensures { λ r. ⌜ r .place ≡ place ⌝ }
-{
-    let mut at = from;
-    while at.place < place {
-        at = above(at);
-    }
-    at
-}
 
 // The highest place whose weight is at most n; below place 1 where n is 0.
 pub(crate) fn highest(n: u64) -> Weight

@@ -1,10 +1,12 @@
 -- Laws of Fibonacci and Lucas numbers: the recurrence, Cassini's identity, growth. Each by induction in steps of one or two.
-use mathlib.Core.Path.{_≡_, refl}
+use mathlib.Core.Path.{_≡_, refl, _∙_}
 use mathlib.Core.Bool.{true, false, not}
 use Prim.Native.Nat.{ℕ, zero, suc, _+_, _*_, _-_, _%_, _≤_, _<_, _^_}
 use native.Mathlib.Nat.{add-zero, zero-add, add-suc, suc-add, le-refl, le-trans, add-sub-of-le}
 use native.Mathlib.Omega.{arith}
+use borrow.Author.Tests.{le-leb}
 use Rattle.fibonacci.specs.Fibonacci.{fib, lucas, odd}
+use Rattle.fibonacci.specs.Services.{fibonacciOrZero}
 
 pub fib-zero : fib 0 ≡ 0
 unfolding fib
@@ -121,3 +123,8 @@ fib-64 n h = omega arith
 pub fib-fits : (i : ℕ) → i ≤ 93 → fib i < 2 ^ 64
 unfolding fib
 fib-fits i h = let m : fib i ≤ fib 93 = fib-monotone h in omega arith
+
+-- so the service that answers 0 where an index is too high answers those
+pub fibonacci-below-94 : {f i : ℕ} → f ≡ fibonacciOrZero i → i ≤ 93 → f ≡ fib i
+unfolding fibonacciOrZero
+fibonacci-below-94 {i = i} e h = e ∙ rw (le-leb i 93 h)

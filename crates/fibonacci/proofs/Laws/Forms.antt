@@ -1,15 +1,14 @@
 -- Laws of bit strings: padding and a place set on top change sum and places as they should; the sum of a form with each
 -- place moved down by one is G of its sum, since each place more is a step of Lemma 2.
-use mathlib.Core.Path.{_≡_, refl, sym, ap, ap₂, _∙_}
+use mathlib.Core.Path.{_≡_, refl, sym, ap, _∙_}
 use mathlib.Core.Bool.{Bool, true, false, cond}
 use mathlib.Core.List.{List, [], _∷_, _++_, append-nil}
 use Prim.Native.Nat.{ℕ, zero, suc, _+_, _*_, _-_, _≤_, _<_}
-use native.Mathlib.Nat.{add-zero, zero-add, add-suc, suc-add, add-comm}
-use native.Mathlib.Numerals.{add-one}
+use native.Mathlib.Nat.{add-zero, zero-add, add-suc, suc-add}
 use native.Mathlib.Omega.{arith}
 use lib.ListN.{length, length-append}
 use Rattle.fibonacci.specs.Fibonacci.{fib}
-use Rattle.fibonacci.specs.Forms.{fibsumFrom, fibsum, Clear, Sparse, Topped, Zeckendorf, pad, topAt, placesFrom, places, ones, weighed, weight}
+use Rattle.fibonacci.specs.Forms.{fibsumFrom, fibsum, Clear, Sparse, Topped, Zeckendorf, pad, topAt, placesFrom, places, ones, weight}
 use Rattle.fibonacci.specs.Hofstadter.{G}
 use Rattle.fibonacci.proofs.Laws.Fibonacci.{fib-zero, fib-one, fib-next}
 use Rattle.fibonacci.proofs.Laws.Hofstadter.{Pair, pair-at, pair-zero, pair-up, pair-up-one, pair-G}
@@ -101,31 +100,24 @@ G-shift false bs = G-form (false ∷ bs) ∙ omega arith
 
 -- ---- a form and its list of places
 
-weighed-append : (w : ℕ → ℕ) (l m : List ℕ) → weighed w (l ++ m) ≡ weighed w l + weighed w m
-unfolding weighed
-weighed-append w [] m = sym (zero-add (weighed w m))
-weighed-append w (i ∷ l) m = omega (arith, weighed-append w l m)
+weight-append : (l m : List ℕ) → weight (l ++ m) ≡ weight l + weight m
+unfolding weight
+weight-append [] m = sym (zero-add (weight m))
+weight-append (i ∷ l) m = omega (arith, weight-append l m)
 
-weighed-one : (w : ℕ → ℕ) (b : Bool) (i : ℕ) → weighed w (cond b (i ∷ []) []) ≡ cond b (w i) 0
-unfolding weighed
-weighed-one w true i = omega arith
-weighed-one w false i = refl
+weight-one : (b : Bool) (i : ℕ) → weight (cond b (i ∷ []) []) ≡ cond b (fib (suc i)) 0
+unfolding weight
+weight-one true i = omega arith
+weight-one false i = refl
 
--- the form from place i on, with each place d further up in the list of places
-weighed-places-from : (w : ℕ → ℕ) (d i : ℕ) → ((k : ℕ) → w (k + d) ≡ fib (suc k)) → (bs : List Bool) → weighed w (placesFrom (i + d) bs) ≡ fibsumFrom i bs
-unfolding placesFrom fibsumFrom weighed
-weighed-places-from w d i e [] = refl
-weighed-places-from w d i e (b ∷ bs) =
-    weighed-append w (placesFrom (suc (i + d)) bs) (cond b ((i + d) ∷ []) [])
-    ∙ ap₂ _+_ (rw suc-add at (weighed-places-from w d (suc i) e bs)) (weighed-one w b (i + d) ∙ ap (λ (x : ℕ). cond b x 0) (e i))
-    ∙ add-comm (fibsumFrom (suc i) bs) (cond b (fib (suc i)) 0)
+weight-places-from : (i : ℕ) (bs : List Bool) → weight (placesFrom i bs) ≡ fibsumFrom i bs
+unfolding placesFrom fibsumFrom weight
+weight-places-from i [] = refl
+weight-places-from i (b ∷ bs) =
+    omega (arith, weight-append (placesFrom (suc i) bs) (cond b (i ∷ []) []), weight-places-from (suc i) bs, weight-one b i)
 
 pub weight-places : (bs : List Bool) → weight (places bs) ≡ fibsum bs
-weight-places bs = weighed-places-from (λ (i : ℕ). fib (suc i)) 0 1 (λ k. ap (λ (n : ℕ). fib (suc n)) (add-zero k)) bs
-
--- Lemma 3 for the list of places: place i weighs F_i
-pub G-places : (bs : List Bool) → weighed fib (places bs) ≡ G (fibsum bs)
-G-places bs = weighed-places-from fib 1 0 (λ k. ap fib (add-one k)) bs ∙ sym (G-form bs)
+weight-places bs = weight-places-from 1 bs
 
 pub ones-places : (i : ℕ) (bs : List Bool) → length (placesFrom i bs) ≡ ones bs
 unfolding placesFrom ones

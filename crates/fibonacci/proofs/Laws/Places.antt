@@ -15,7 +15,7 @@ use Rattle.refusal.specs.Outcomes.{answered}
 use Rattle.refusal.proofs.Laws.Tests.{both}
 use Rattle.refusal.proofs.Laws.Rules.{answer-is}
 use Rattle.fibonacci.specs.Fibonacci.{fib}
-use Rattle.fibonacci.specs.Forms.{Zeckendorf, topAt, greedy, zeckendorf, placesFrom, places, weighed, weight, Places, arePlaces}
+use Rattle.fibonacci.specs.Forms.{Zeckendorf, topAt, greedy, zeckendorf, placesFrom, places, weight, Places, arePlaces}
 use Rattle.fibonacci.specs.Services.{placesOf, placesOutcome}
 use Rattle.fibonacci.proofs.Laws.Fibonacci.{fib-next, fib-grows, fib-positive, fib-monotone, fib-exceeds, fib-64}
 use Rattle.fibonacci.proofs.Laws.Forms.{top-length, top-places, top-zeckendorf, weight-places}
@@ -69,7 +69,7 @@ places-wider (i ∷ l) h p = (p .0, omega arith, p .2)
 
 -- a list worth less than place m does not have it
 places-tighter : (m : ℕ) (l : List ℕ) → Places m l → weight l < fib (suc m) → Places (m - 1) l
-unfolding weighed
+unfolding weight
 places-tighter m [] p h = tt
 places-tighter m (i ∷ l) p h = elim (decLt i m) [
   | yes k ↦ (p .0, omega arith, p .2)

@@ -6,7 +6,6 @@ use mathlib.Core.List.{List, [], _∷_, map}
 use Prim.Native.Nat.{ℕ, zero, suc, _+_, _*_, _-_, _%_, _≤_, _<_, _^_}
 use native.Mathlib.Nat.{mod-lt}
 use native.Mathlib.Omega.{arith}
-use borrow.Author.Tests.{le-leb}
 use lib.ListN.{length, take, replicate, length-map}
 use Rattle.modular.specs.Residues.{remainder}
 use Rattle.modular.specs.Inverses.{inverse}
@@ -17,7 +16,7 @@ use Rattle.fibonacci.specs.Fibonacci.{fib, odd}
 use Rattle.fibonacci.specs.Forms.{pad, zeckendorf, ones}
 use Rattle.fibonacci.specs.Height.{height, oddHeight}
 use Rattle.fibonacci.specs.Services.{fibonacciOrZero, bit, bitRow, placesOf}
-use Rattle.fibonacci.proofs.Laws.Fibonacci.{fib-monotone, odd-one, odd-zero}
+use Rattle.fibonacci.proofs.Laws.Fibonacci.{fib-monotone, odd-one, odd-zero, fibonacci-below-94}
 use Rattle.fibonacci.proofs.Laws.Forms.{pad-length, ones-pad, ones-places}
 use Rattle.fibonacci.proofs.Laws.Zeckendorf.{zeckendorf-count-64}
 use Rattle.fibonacci.proofs.Laws.BitStrings.{take-bits}
@@ -116,13 +115,9 @@ module _ (f : Forms) (fits : FormsFit f) where
 
 -- ---- the numbers
 
-weight-is : {f i : ℕ} → f ≡ fibonacciOrZero i → i ≤ 93 → f ≡ fib i
-unfolding fibonacciOrZero
-weight-is {i = i} e h = e ∙ rw (le-leb i 93 h)
-
 pub weight-fits : {i f : ℕ} → i ≤ 42 → f ≡ fibonacciOrZero i → f < 2 ^ 32
 unfolding fib
-weight-fits {i} h e = omega (arith, weight-is e (omega arith), fib-monotone {m = i} {n = 42} h)
+weight-fits {i} h e = omega (arith, fibonacci-below-94 e (omega arith), fib-monotone {m = i} {n = 42} h)
 
 -- ℓ' as the code computes it
 odd-height : (r : ℕ) {h : ℕ} → h ≡ height r → h + 1 - h % 2 ≡ oddHeight r
@@ -148,14 +143,14 @@ module _ {r k K : ℕ} (b : Invertible r k K) where
   product-form {f = f} x z j e low same from w held =
       let some : 0 < r = omega (arith, exponent-below) in
       let n-is : remainder (x * f) r ≡ z * fib j % r =
-      remainder-is (x * f) r some ∙ ap₂ (λ (m n : ℕ). m * n % r) from (weight-is w low ∙ ap fib same) in
+      remainder-is (x * f) r some ∙ ap₂ (λ (m n : ℕ). m * n % r) from (fibonacci-below-94 w low ∙ ap fib same) in
       rw e
       (padded (z * fib j % r) (height r) (omega (arith, height-28 r (b .order)))
       (zeckendorf-height r (z * fib j % r) (mod-lt (z * fib j) some)) (rw n-is at held))
 
   -- variant 3
   multiple-is : {h f : ℕ} → h ≡ height r → f ≡ fibonacciOrZero (h + 1 - h % 2 + 1) → k * f ≡ k * fib (suc (oddHeight r))
-  multiple-is e w = ap (λ (x : ℕ). k * x) (weight-is w (omega (arith, height-small e)) ∙ ap fib (omega (arith, odd-height r e)))
+  multiple-is e w = ap (λ (x : ℕ). k * x) (fibonacci-below-94 w (omega (arith, height-small e)) ∙ ap fib (omega (arith, odd-height r e)))
 
   pub multiple-fits : {h f : ℕ} → h ≡ height r → f ≡ fibonacciOrZero (h + 1 - h % 2 + 1) → k * f < 2 ^ 64
   multiple-fits e w = rw (multiple-is e w) (omega (arith, multiple-64 r k (b .order) exponent-below))

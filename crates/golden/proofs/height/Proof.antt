@@ -4,8 +4,8 @@ use native.Mathlib.Omega.{arith}
 use borrow.Author.Needs.{needs}
 use Rattle.fibonacci.specs.Height.{height}
 use Rattle.fibonacci.proofs.Laws.Height.{Climbing, height-32, climbing-starts, climbing-goes-on, climbing-next, climbing-ends}
-use Rattle.zeckendorf.proofs.height.Statement.{statement}
-use Rattle.zeckendorf.proofs.height.Tie as tie
+use Rattle.golden.proofs.height.Statement.{statement}
+use Rattle.golden.proofs.height.Tie as tie
 
 abbrev Inv-loop : tie.InvT-loop
 Inv-loop r wanted before₀ lucas₀ h₀ before lucas h = Climbing r before lucas h
