@@ -1,5 +1,6 @@
 // Numbers of the golden ratio: Fibonacci numbers, Hofstadter's G and h.
 ghost use mathlib.Core.Path.{_≡_};
+ghost use Prim.Native.Nat.{_+_, _*_};
 ghost use Rattle.refusal.specs.Outcomes.{numberOutcomeOf};
 ghost use Rattle.fibonacci.specs.Hofstadter.{G};
 ghost use Rattle.fibonacci.specs.Height.{height};
@@ -13,6 +14,9 @@ const SHORT: u64 = 2971215073;
 const LONG: u64 = 4807526976;
 
 const HALF_LUCAS: u64 = 5374978561;
+
+// Two neighbouring Fibonacci numbers.
+struct Neighbours(u64, u64);
 
 // A Fibonacci number by its index.
 pub fn fibonacci(index: u32) -> NumberAnswer
@@ -55,106 +59,70 @@ pub fn height(r: u32) -> u32
     h
 }
 
-// F_index, and 0 where it does not fit. Of the arms the compiler makes a table in read-only memory; a constant array it would write out on
-// the stack at each use.
+// F_index, and 0 where it does not fit.
 pub fn fibonacci_or_zero(index: u32) -> u64
     ensures { λ r. ⌜ r ≡ fibonacciOrZero index ⌝ }
 {
-    match index {
-        0 => 0,
-        1 => 1,
-        2 => 1,
-        3 => 2,
-        4 => 3,
-        5 => 5,
-        6 => 8,
-        7 => 13,
-        8 => 21,
-        9 => 34,
-        10 => 55,
-        11 => 89,
-        12 => 144,
-        13 => 233,
-        14 => 377,
-        15 => 610,
-        16 => 987,
-        17 => 1597,
-        18 => 2584,
-        19 => 4181,
-        20 => 6765,
-        21 => 10946,
-        22 => 17711,
-        23 => 28657,
-        24 => 46368,
-        25 => 75025,
-        26 => 121393,
-        27 => 196418,
-        28 => 317811,
-        29 => 514229,
-        30 => 832040,
-        31 => 1346269,
-        32 => 2178309,
-        33 => 3524578,
-        34 => 5702887,
-        35 => 9227465,
-        36 => 14930352,
-        37 => 24157817,
-        38 => 39088169,
-        39 => 63245986,
-        40 => 102334155,
-        41 => 165580141,
-        42 => 267914296,
-        43 => 433494437,
-        44 => 701408733,
-        45 => 1134903170,
-        46 => 1836311903,
-        47 => 2971215073,
-        48 => 4807526976,
-        49 => 7778742049,
-        50 => 12586269025,
-        51 => 20365011074,
-        52 => 32951280099,
-        53 => 53316291173,
-        54 => 86267571272,
-        55 => 139583862445,
-        56 => 225851433717,
-        57 => 365435296162,
-        58 => 591286729879,
-        59 => 956722026041,
-        60 => 1548008755920,
-        61 => 2504730781961,
-        62 => 4052739537881,
-        63 => 6557470319842,
-        64 => 10610209857723,
-        65 => 17167680177565,
-        66 => 27777890035288,
-        67 => 44945570212853,
-        68 => 72723460248141,
-        69 => 117669030460994,
-        70 => 190392490709135,
-        71 => 308061521170129,
-        72 => 498454011879264,
-        73 => 806515533049393,
-        74 => 1304969544928657,
-        75 => 2111485077978050,
-        76 => 3416454622906707,
-        77 => 5527939700884757,
-        78 => 8944394323791464,
-        79 => 14472334024676221,
-        80 => 23416728348467685,
-        81 => 37889062373143906,
-        82 => 61305790721611591,
-        83 => 99194853094755497,
-        84 => 160500643816367088,
-        85 => 259695496911122585,
-        86 => 420196140727489673,
-        87 => 679891637638612258,
-        88 => 1100087778366101931,
-        89 => 1779979416004714189,
-        90 => 2880067194370816120,
-        91 => 4660046610375530309,
-        92 => 7540113804746346429,
-        93 => 12200160415121876738,
-        _ => 0,
+    let pair = pair_at(index / 2);
+    if index % 2 == 0 {
+        return pair.0;
+    }
+    pair.1
+}
+
+// An even index's Fibonacci number and the next, from half the index. Of the arms the compiler makes tables in read-only memory, and it puts
+// the look-up in the caller's place, since they are few enough; a constant array it would write out on the stack at each use.
+fn pair_at(half: u32) -> Neighbours
+    ensures { λ r. ⌜ (r .0 ≡ fibonacciOrZero (2 * half)) × (r .1 ≡ fibonacciOrZero (2 * half + 1)) ⌝ }
+{
+    match half {
+        0 => Neighbours(0, 1),
+        1 => Neighbours(1, 2),
+        2 => Neighbours(3, 5),
+        3 => Neighbours(8, 13),
+        4 => Neighbours(21, 34),
+        5 => Neighbours(55, 89),
+        6 => Neighbours(144, 233),
+        7 => Neighbours(377, 610),
+        8 => Neighbours(987, 1597),
+        9 => Neighbours(2584, 4181),
+        10 => Neighbours(6765, 10946),
+        11 => Neighbours(17711, 28657),
+        12 => Neighbours(46368, 75025),
+        13 => Neighbours(121393, 196418),
+        14 => Neighbours(317811, 514229),
+        15 => Neighbours(832040, 1346269),
+        16 => Neighbours(2178309, 3524578),
+        17 => Neighbours(5702887, 9227465),
+        18 => Neighbours(14930352, 24157817),
+        19 => Neighbours(39088169, 63245986),
+        20 => Neighbours(102334155, 165580141),
+        21 => Neighbours(267914296, 433494437),
+        22 => Neighbours(701408733, 1134903170),
+        23 => Neighbours(1836311903, 2971215073),
+        24 => Neighbours(4807526976, 7778742049),
+        25 => Neighbours(12586269025, 20365011074),
+        26 => Neighbours(32951280099, 53316291173),
+        27 => Neighbours(86267571272, 139583862445),
+        28 => Neighbours(225851433717, 365435296162),
+        29 => Neighbours(591286729879, 956722026041),
+        30 => Neighbours(1548008755920, 2504730781961),
+        31 => Neighbours(4052739537881, 6557470319842),
+        32 => Neighbours(10610209857723, 17167680177565),
+        33 => Neighbours(27777890035288, 44945570212853),
+        34 => Neighbours(72723460248141, 117669030460994),
+        35 => Neighbours(190392490709135, 308061521170129),
+        36 => Neighbours(498454011879264, 806515533049393),
+        37 => Neighbours(1304969544928657, 2111485077978050),
+        38 => Neighbours(3416454622906707, 5527939700884757),
+        39 => Neighbours(8944394323791464, 14472334024676221),
+        40 => Neighbours(23416728348467685, 37889062373143906),
+        41 => Neighbours(61305790721611591, 99194853094755497),
+        42 => Neighbours(160500643816367088, 259695496911122585),
+        43 => Neighbours(420196140727489673, 679891637638612258),
+        44 => Neighbours(1100087778366101931, 1779979416004714189),
+        45 => Neighbours(2880067194370816120, 4660046610375530309),
+        46 => Neighbours(7540113804746346429, 12200160415121876738),
+        _ => Neighbours(0, 0),
     }
 }

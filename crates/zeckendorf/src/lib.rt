@@ -13,7 +13,7 @@ use list::are_places;
 use list::total;
 use refusal::NumberAnswer;
 use refusal::Refusal;
-use weights::highest;
+use weights::high_enough;
 use weights::lower;
 
 // The Zeckendorf form of n: from the highest place down, each place taken whose weight is left.
@@ -24,7 +24,7 @@ pub fn zeckendorf(n: u64) -> Form
     let mut places = [0u8; 46];
     let mut count: usize = 0;
     let mut rest = n;
-    let mut at = highest(n);
+    let mut at = high_enough(n);
     while at.place > 0 {
         if at.weight <= rest {
             places[count] = at.place as u8;

@@ -1,27 +1,54 @@
--- The weights of a place's neighbours, by the recurrence: one place up the sum, one place down the difference.
-use mathlib.Core.Path.{_≡_, sym}
-use Prim.Native.Nat.{ℕ, zero, suc, _+_, _-_, _≤_, _<_, _^_}
-use native.Mathlib.Nat.{lt-of-not-le}
+-- A place with its weight and the weight below. A number of k bits is below the weight of place (36 k + 17) / 25 + 1, as antt computes: 36 / 25
+-- is about the logarithm of 2 to the base phi.
+use mathlib.Core.Path.{_≡_, refl}
+use mathlib.Core.Bool.{Bool, true, _&&_}
+use Prim.Native.Nat.{ℕ, zero, suc, _+_, _*_, _-_, _/_, _≤_, _<_, _^_}
+use native.Mathlib.Nat.{lt-of-lt-of-le}
 use native.Mathlib.Numerals.{add-one, sub-one}
 use native.Mathlib.Omega.{arith}
+use native.Mathlib.Decide.{ℕ-discrete}
+use lib.Dec.{leb}
+use lib.Count.{leadingZeros, leading-length}
+use borrow.Author.Tests.{leb-true}
+use Rattle.refusal.proofs.Laws.Tests.{both}
 use Rattle.fibonacci.specs.declared.Weight.{Weight}
 use Rattle.fibonacci.specs.Fibonacci.{fib}
+use Rattle.fibonacci.specs.Services.{fibonacciOrZero}
 use Rattle.fibonacci.specs.Inner.Weights.{IsWeight}
-use Rattle.fibonacci.proofs.Laws.Fibonacci.{fib-zero, fib-one, fib-next, fib-grows, fib-monotone, fib-fits, fib-64}
+use Rattle.fibonacci.proofs.Laws.Fibonacci.{fib-next, fib-grows, fibonacci-below-94}
 
-pub weighs-foot : IsWeight (record { place = 0; weight = 1; below = 0 })
-weighs-foot = record { weight-is = sym fib-one; below-is = sym fib-zero }
+-- the place for a number of k bits
+abbrev pub placeFor : ℕ → ℕ
+placeFor k = (36 * k + 17) / 25
 
--- the next weight
-pub weighs-next : {w : Weight} → IsWeight w → w .weight + w .below ≡ fib (suc (suc (w .place)))
-weighs-next {w} h = omega (arith, h .weight-is, h .below-is, fib-next (w .place))
+-- it is high enough for each k below n
+unfoldable highBelow : ℕ → Bool
+highBelow zero = true
+highBelow (suc k) = leb (2 ^ k) (fib (suc (suc (placeFor k)))) && highBelow k
 
-pub weighs-above : {w : Weight} → IsWeight w → IsWeight (record { place = w .place + 1; weight = w .weight + w .below; below = w .weight })
-weighs-above {w} h = rw (add-one (w .place)) (record { weight-is = weighs-next h; below-is = h .weight-is })
+high-below : (n k : ℕ) → highBelow n ≡ true → k < n → 2 ^ k ≤ fib (suc (suc (placeFor k)))
+unfolding highBelow
+high-below zero k e h = absurd (omega arith)
+high-below (suc n) k e h =
+    let tests = both (leb (2 ^ n) (fib (suc (suc (placeFor n))))) (highBelow n) e in
+    elim (ℕ-discrete k n) [
+      | yes same ↦ rw same (leb-true _ _ (tests .0))
+      | no other ↦ high-below n k (tests .1) (omega arith)
+    ]
 
--- it fits 64 bits below place 92
-pub above-fits : {w : Weight} → IsWeight w → w .place < 92 → w .weight + w .below < 2 ^ 64
-above-fits {w} h p = omega (arith, weighs-next h, fib-fits (suc (suc (w .place))) (omega arith))
+high-64 : highBelow 65 ≡ true
+unfolding highBelow fib
+high-64 = refl
+
+pub place-for : (n : ℕ) → n < 2 ^ 64 → n < fib (suc (suc (placeFor (64 - leadingZeros 64 n))))
+place-for n h =
+    let l = leading-length 64 n h in
+    let bits : 64 - leadingZeros 64 n ≡ l .0 = omega (arith, l .1) in
+    rw bits (lt-of-lt-of-le (l .2) (high-below 65 (l .0) high-64 (omega (arith, l .1))))
+
+pub weighs-at : {place weight below : ℕ} → place ≤ 92 → weight ≡ fibonacciOrZero (place + 1) → below ≡ fibonacciOrZero place
+    → IsWeight (record { place = place; weight = weight; below = below })
+weighs-at {place} high w b = record { weight-is = rw add-one at (fibonacci-below-94 w (omega arith)); below-is = fibonacci-below-94 b (omega arith) }
 
 pub below-at-most : {w : Weight} → IsWeight w → w .below ≤ w .weight
 below-at-most {w} h = omega (arith, h .weight-is, h .below-is, fib-grows (w .place))
@@ -33,8 +60,3 @@ lower-from (suc i) weight below w b p =
 
 pub weighs-lower : {w : Weight} → IsWeight w → 0 < w .place → IsWeight (record { place = w .place - 1; weight = w .below; below = w .weight - w .below })
 weighs-lower {w} h p = lower-from (w .place) (w .weight) (w .below) (h .weight-is) (h .below-is) p
-
--- a place whose weight above is at most a 64-bit number is below place 92
-pub place-below : (n i : ℕ) → n < 2 ^ 64 → fib (suc (suc i)) ≤ n → i < 92
-place-below n i h l =
-    lt-of-not-le (λ (high : 92 ≤ i). let more : fib 94 ≤ fib (suc (suc i)) = fib-monotone (omega arith) in omega (arith, fib-64 n h))

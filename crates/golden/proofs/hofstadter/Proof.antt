@@ -39,7 +39,7 @@ returns c =
 returns-2 : tie.Need-returns-2
 returns-2 c =
     let n = c .before .args .n in
-    sym (pair-G (quotient-is short long lucas refl refl (omega arith) _ (part n % long) n (divided n) (omega arith) (beyond n _ (omega arith))))
+    sym (pair-G (quotient-is short long lucas refl refl (omega arith) _ (part n % long) n (divided n) (omega arith) (beyond n _ (c .if1 .left))))
 
 pub hofstadter-spec : {M : Type 1} → statement M
 hofstadter-spec =

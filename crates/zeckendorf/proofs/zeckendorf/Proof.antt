@@ -16,7 +16,7 @@ abbrev μ-loop : tie.MeasureT-loop
 μ-loop n places₀ count₀ rest₀ at₀ places count rest at = at .place
 
 loop-holds : tie.Need-loop-holds Inv-loop μ-loop
-loop-holds c = (c .highest .ensures .0, taking-starts _ _ (omega arith) (c .highest .ensures .1 .0) (c .highest .ensures .1 .1))
+loop-holds c = (c .high-enough .ensures .0, taking-starts _ _ (omega arith) (c .high-enough .ensures .1 .0) (c .high-enough .ensures .1 .1))
 
 cast-places : tie.Need-cast-places Inv-loop μ-loop
 cast-places c = omega (arith, c .before .before .before .before .before .loop .inv .1 .place)
