@@ -50,11 +50,7 @@ placesOutcome n room = outcome ((Room given-if ltb room (length (placesOf n))) �
 unfoldable pub placesBuffer : ℕ → List ℕ → List ℕ
 placesBuffer n row = bufferAfter (placesOutcome n (length row)) (placesOf n) row
 
--- the number that a list stands for, where it fits 64 bits
-unfoldable pub totalOutcome : List ℕ → Outcome ℕ
-totalOutcome l = outcome ((Range given-if leb (2 ^ 64) (weight l)) ∷ []) (weight l)
-
--- list to number, of a Zeckendorf form of places 1 to 92
+-- list to number, of a Zeckendorf form of places 1 to 92, where it fits 64 bits
 unfoldable pub numberOutcome : List ℕ → Outcome ℕ
 numberOutcome l =
     outcome

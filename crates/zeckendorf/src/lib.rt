@@ -1,5 +1,4 @@
 // Zeckendorf forms, and lists of places both ways.
-mod list;
 mod weights;
 
 ghost use mathlib.Core.Path.{_≡_};
@@ -9,10 +8,10 @@ ghost use Rattle.fibonacci.specs.Forms.{zeckendorf};
 ghost use Rattle.fibonacci.specs.Services.{placesOf, formRow, bitRow, placesOutcome, placesBuffer, numberOutcome};
 use fibonacci::BitString;
 use fibonacci::Form;
-use list::are_places;
-use list::total;
+use golden::fibonacci_or_zero;
 use refusal::NumberAnswer;
 use refusal::Refusal;
+use std::num::wrapping_add_u64;
 use weights::high_enough;
 use weights::lower;
 
@@ -75,12 +74,31 @@ pub fn places(n: u64, buffer: &mut [u8]) -> NumberAnswer
     NumberAnswer::Answered(count as u64)
 }
 
-// List to number: the sum of the weights of its places.
+// List to number: the sum of the weights of its places, modulo 2^64. Where the whole sum exceeds 64 bits, that is below the weight of the
+// highest place.
 pub fn number_of_places(list: &[u8]) -> NumberAnswer
     ensures { λ answer. ⌜ numberOutcomeOf answer ≡ numberOutcome (now (list .entry)) ⌝ }
 {
-    if are_places(list) {
-        return total(list);
+    if list.len() == 0 {
+        return NumberAnswer::Answered(0);
     }
-    NumberAnswer::Refused(Refusal::Index)
+    let mut above: u32 = 94;
+    let mut sum: u64 = 0;
+    let mut i: usize = 0;
+    while i < list.len() {
+        let place = list[i] as u32;
+        if above < place + 2 {
+            return NumberAnswer::Refused(Refusal::Index);
+        }
+        sum = wrapping_add_u64(sum, fibonacci_or_zero(place + 1));
+        above = place;
+        i += 1;
+    }
+    if above == 0 {
+        return NumberAnswer::Refused(Refusal::Index);
+    }
+    if sum < fibonacci_or_zero(list[0] as u32 + 1) {
+        return NumberAnswer::Refused(Refusal::Range);
+    }
+    NumberAnswer::Answered(sum)
 }

@@ -15,7 +15,7 @@ use Rattle.fibonacci.specs.Fibonacci.{fib, lucas}
 use Rattle.fibonacci.specs.Forms.{pad, greedy, zeckendorf, placesFrom, weight, arePlaces}
 use Rattle.fibonacci.specs.Height.{reaches, firstFrom, height}
 use Rattle.fibonacci.specs.Hofstadter.{hofstadterTo, G}
-use Rattle.fibonacci.specs.Services.{fibonacciOutcome, totalOutcome, numberOutcome}
+use Rattle.fibonacci.specs.Services.{fibonacciOutcome, numberOutcome}
 use Rattle.tape.specs.Words.{headingIn, actionIn, swapIn, decoded}
 use Rattle.tape.specs.Layout.{isLength, isHeader, isFreeOrNamed, allSteps, isEnd, laidOut, part}
 use Rattle.encoding.specs.Encoding.{tapeOf, bytesOf, noTape, tapeIn}
@@ -87,5 +87,5 @@ examples =
     ∷ []
 
 pub examples-hold : AllHold examples
-unfolding reply askedBy numbersFrom parameterIn variantIn rowNamed indexIn names rows entries built tapeReply numberReply digitOf allDigits valueFrom numberFrom inBase isHexadecimal parseNumber sameWords onTape decimalWithin decimal whole line outcome tapeIn noTape tapeOf bytesOf isLength isHeader isFreeOrNamed allSteps isEnd laidOut part decoded headingIn actionIn swapIn checkRules buildOutcome badModulus badOrder badVariant isPrime greatest gcd badExponent inverse inverseOutcome remainder times badRegister badRegisters allowed badBase loadOutcome baseRules positionRules traceRules runOutcome forwardOutcome traceOutcome badCut cutRules cutOutcome afterAll numbersAll requestsOf run doAll apply staysInRange allInRange inRange shiftAll shift stepLines fib lucas pad greedy zeckendorf placesFrom weight arePlaces reaches firstFrom height hofstadterTo G fibonacciOutcome totalOutcome numberOutcome
+unfolding reply askedBy numbersFrom parameterIn variantIn rowNamed indexIn names rows entries built tapeReply numberReply digitOf allDigits valueFrom numberFrom inBase isHexadecimal parseNumber sameWords onTape decimalWithin decimal whole line outcome tapeIn noTape tapeOf bytesOf isLength isHeader isFreeOrNamed allSteps isEnd laidOut part decoded headingIn actionIn swapIn checkRules buildOutcome badModulus badOrder badVariant isPrime greatest gcd badExponent inverse inverseOutcome remainder times badRegister badRegisters allowed badBase loadOutcome baseRules positionRules traceRules runOutcome forwardOutcome traceOutcome badCut cutRules cutOutcome afterAll numbersAll requestsOf run doAll apply staysInRange allInRange inRange shiftAll shift stepLines fib lucas pad greedy zeckendorf placesFrom weight arePlaces reaches firstFrom height hofstadterTo G fibonacciOutcome numberOutcome
 examples-hold = (refl, (refl, (refl, (refl, (refl, (refl, (refl, (refl, (refl, (refl, (refl, (refl, (refl, (refl, (refl, (refl, (refl, (refl, (refl, (refl, (refl, (refl, tt))))))))))))))))))))))
