@@ -24,17 +24,10 @@ pub fn listing(bytes: &[u8], lines: &mut [u8]) -> Listed
     ensures { λ r. ⌜ r ≡ listingAnswer (now (bytes .entry)) (length (now (lines .entry))) ⌝ }
     ensures { λ _. ⌜ now (lines .exit) ≡ listingBuffer (now (bytes .entry)) (now (lines .entry)) ⌝ }
 {
-    let mut text = [0u8; MAX_WRITTEN];
-    let made = list_bytes(bytes, &mut text);
-    let count = made.written;
-    if lines.len() < count {
-        return Listed {
-            written: 0,
-            number: refusal::number(Refusal::Room),
-        };
+    if lines.len() < MAX_WRITTEN {
+        return list_short(bytes, lines);
     }
-    put(lines, 0, &text[..count]);
-    made
+    list_bytes(bytes, lines)
 }
 
 // Puts the listing of a tape, from the buffer's start: check's refusal on one line, else the tape's lines. What doesn't fit the buffer is
@@ -47,6 +40,25 @@ pub fn list_tape(tape: &[u32], buffer: &mut [u8]) -> Listed
         HeaderAnswer::Refused(e) => list_refusal(e, buffer),
         HeaderAnswer::Answered(header) => list_accepted(tape, header, buffer),
     }
+}
+
+// The listing into a buffer that can be too short for it. It is made in one that holds every listing, since a refusal leaves the lent
+// one as it was.
+fn list_short(bytes: &[u8], lines: &mut [u8]) -> Listed
+    ensures { λ r. ⌜ r ≡ listingAnswer (now (bytes .entry)) (length (now (lines .entry))) ⌝ }
+    ensures { λ _. ⌜ now (lines .exit) ≡ listingBuffer (now (bytes .entry)) (now (lines .entry)) ⌝ }
+{
+    let mut text = [0u8; MAX_WRITTEN];
+    let made = list_bytes(bytes, &mut text);
+    let count = made.written;
+    if lines.len() < count {
+        return Listed {
+            written: 0,
+            number: refusal::number(Refusal::Room),
+        };
+    }
+    put(lines, 0, &text[..count]);
+    made
 }
 
 // The listing of bytes, from the buffer's start.

@@ -1,14 +1,18 @@
 // The lines of a listing. Each function writes from `at` on and answers the index past what it wrote.
 ghost use mathlib.Core.List.{[], _∷_, _++_};
+ghost use Rattle.tape.specs.Steps.{Distinct, Sound};
 ghost use Rattle.tape.specs.Layout.{stepsIn};
-ghost use Rattle.text.specs.Text.{decimal, blank};
+ghost use Rattle.text.specs.Text.{decimal, blank, line};
 ghost use Rattle.text.specs.Rows.{Put};
 ghost use Rattle.named.specs.Named.{variantName};
-ghost use Rattle.listing.specs.Listing.{refusedLine, firstLine, namedLine, stepLine, stepLines};
+ghost use Rattle.listing.specs.Listing.{refusedLine, firstLine, stepLine, stepLines};
 use decoding::nth_step;
 use named::VARIANT_NAMES;
 use parsing::nth_word;
 use putting::put;
+use putting::put_byte;
+use putting::put_digit;
+use putting::put_number;
 use putting::put_number_then;
 use putting::put_then;
 use tape::Header;
@@ -25,12 +29,6 @@ const R: [u8; 2] = *b"r=";
 const K: [u8; 2] = *b"k=";
 
 const STEPS: [u8; 6] = *b"steps=";
-
-const MUL: [u8; 3] = *b"mul";
-
-const DIV: [u8; 3] = *b"div";
-
-const SWP: [u8; 3] = *b"swp";
 
 // The line of a refusal, with its number.
 pub fn refused_line(buffer: &mut [u8], at: usize, n: u32) -> usize
@@ -66,23 +64,66 @@ pub fn step_lines(buffer: &mut [u8], at: usize, words: &[u32]) -> usize
 
 // A step's line.
 fn step_line(buffer: &mut [u8], at: usize, n: u64, step: Step) -> usize
+    requires { ⌜ Sound step ⌝ }
     ensures { λ next. ⌜ Put (now (buffer .entry)) at (stepLine n step) next (now (buffer .exit)) ⌝ }
 {
+    let b = put_count(buffer, at, n);
+    let c = put_byte(buffer, b, BLANK);
     match step {
-        Step::Mul(target, source) => named_line(buffer, at, n, &MUL, target, source),
-        Step::Div(target, source) => named_line(buffer, at, n, &DIV, target, source),
-        Step::Swp(target, source) => named_line(buffer, at, n, &SWP, target, source),
+        Step::Mul(target, source) => named_pair(buffer, c, b'm', b'u', b'l', target, source),
+        Step::Div(target, source) => named_pair(buffer, c, b'd', b'i', b'v', target, source),
+        Step::Swp(target, source) => named_pair(buffer, c, b's', b'w', b'p', target, source),
     }
 }
 
-// A step's number, its name, target and source.
-fn named_line(buffer: &mut [u8], at: usize, n: u64, name: &[u8], target: u32, source: u32) -> usize
-    ensures { λ next. ⌜ Put (now (buffer .entry)) at (namedLine n (now (name .entry)) target source) next (now (buffer .exit)) ⌝ }
+// A step's number. A tape's are of up to three digits, which are put one by one: a row for them costs more than they do.
+fn put_count(buffer: &mut [u8], at: usize, n: u64) -> usize
+    ensures { λ next. ⌜ Put (now (buffer .entry)) at (decimal n) next (now (buffer .exit)) ⌝ }
 {
-    let b = put_number_then(buffer, at, n, BLANK);
-    let c = put_then(buffer, b, name, BLANK);
-    let d = put_number_then(buffer, c, target as u64, BLANK);
-    put_number_then(buffer, d, source as u64, NEWLINE)
+    if n < 10 {
+        return put_digit(buffer, at, n);
+    }
+    let tenth = n / 10;
+    if n < 100 {
+        let b = put_digit(buffer, at, tenth);
+        return put_digit(buffer, b, n);
+    }
+    if n < 1000 {
+        let b = put_digit(buffer, at, tenth / 10);
+        let c = put_digit(buffer, b, tenth);
+        return put_digit(buffer, c, n);
+    }
+    put_number(buffer, at, n)
+}
+
+// The rest of a step's line: the three letters of its name, target and source, which are one digit each.
+fn named_pair(
+    buffer: &mut [u8],
+    at: usize,
+    first: u8,
+    second: u8,
+    third: u8,
+    target: u32,
+    source: u32,
+) -> usize
+    requires { ⌜ Distinct target source ⌝ }
+    ensures { λ next. ⌜ Put (now (buffer .entry)) at (line ((first ∷ second ∷ third ∷ []) ∷ decimal target ∷ decimal source ∷ [])) next (now (buffer .exit)) ⌝ }
+{
+    let b = put_name(buffer, at, first, second, third);
+    let c = put_digit(buffer, b, target as u64);
+    let d = put_byte(buffer, c, BLANK);
+    let e = put_digit(buffer, d, source as u64);
+    put_byte(buffer, e, NEWLINE)
+}
+
+// The name of a step, and a blank, byte by byte: so few are no row.
+fn put_name(buffer: &mut [u8], at: usize, first: u8, second: u8, third: u8) -> usize
+    ensures { λ next. ⌜ Put (now (buffer .entry)) at (first ∷ second ∷ third ∷ blank ∷ []) next (now (buffer .exit)) ⌝ }
+{
+    let b = put_byte(buffer, at, first);
+    let c = put_byte(buffer, b, second);
+    let d = put_byte(buffer, c, third);
+    put_byte(buffer, d, BLANK)
 }
 
 // The name of a variant, and a blank.

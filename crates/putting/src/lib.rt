@@ -1,11 +1,14 @@
 // Texts and numbers, put into a lent buffer as far as it has room.
 ghost use mathlib.Core.Path.{_≡_};
 ghost use mathlib.Core.List.{[], _∷_, _++_};
+ghost use Prim.Native.Nat.{_%_};
 ghost use lib.IntN.{natAbs};
 ghost use Rattle.text.specs.Text.{decimal, whole};
 ghost use Rattle.text.specs.Rows.{Put};
 
 const MINUS: u8 = b'-';
+
+const ZERO: u8 = b'0';
 
 // Puts a text from `at` on, as much of it as fits, and answers the index past it.
 pub fn put(buffer: &mut [u8], at: usize, text: &[u8]) -> usize
@@ -42,6 +45,13 @@ pub fn put_number(buffer: &mut [u8], at: usize, n: u64) -> usize
     let mut digits = [0u8; 20];
     let count = io::decimal(n, &mut digits);
     put(buffer, at, &digits[..count])
+}
+
+// Puts the last digit of a number.
+pub fn put_digit(buffer: &mut [u8], at: usize, n: u64) -> usize
+    ensures { λ next. ⌜ Put (now (buffer .entry)) at (decimal (n % 10)) next (now (buffer .exit)) ⌝ }
+{
+    put_byte(buffer, at, ZERO + (n % 10) as u8)
 }
 
 // Puts a text and a byte behind it.

@@ -3,8 +3,10 @@ use mathlib.Core.List.{_++_}
 use Prim.Native.Nat.{_+_, _-_}
 use native.Mathlib.Omega.{arith}
 use borrow.Author.Needs.{needs}
-use lib.ListN.{length, drop}
+use lib.ListN.{length, getD, drop}
+use Rattle.tape.specs.Words.{decoded}
 use Rattle.tape.specs.Layout.{stepsIn}
+use Rattle.tape.proofs.Laws.Words.{decoded-lawful, step-sound}
 use Rattle.text.specs.Rows.{Put}
 use Rattle.text.proofs.Laws.Puts.{RestToPut, all-left, nothing-left, left-next, put-length}
 use Rattle.listing.specs.Listing.{stepLine, stepLines}
@@ -34,6 +36,12 @@ coming c =
     let l = c .before .before .before in
     rw (c .nth-step .ensures, ← lines-next (l .before .before .before .args .words .now) (l .loop .i) (c .before .before .loop-test .taken)) (l .loop .inv)
 
+step-line-requires : tie.Need-step-line-requires Inv-loop μ-loop
+step-line-requires c κs =
+    let l = c .before .before .before in
+    let word = getD (l .before .before .before .args .words .now) (l .loop .i) 0 in
+    rw (c .nth-step .ensures) (step-sound (decoded word) (decoded-lawful word))
+
 add-i : tie.Need-add-i Inv-loop μ-loop
 add-i c = omega arith
 
@@ -59,7 +67,7 @@ step-lines-spec =
     loop-holds
     add-step-line
     (λ c κs. search needs)
-    (λ c κs. search needs)
+    step-line-requires
     add-i
     (λ c. search needs)
     loop-again

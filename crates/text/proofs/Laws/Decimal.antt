@@ -1,6 +1,6 @@
 -- Decimal digits: fuel above the number doesn't matter, the fewest digits that hold a number are its decimal digits, and how many
 -- there are at most.
-use mathlib.Core.Path.{_≡_, sym, ap, _∙_}
+use mathlib.Core.Path.{_≡_, sym, ap, ap₂, _∙_}
 use mathlib.Core.Bool.{cond}
 use mathlib.Core.List.{List, [], _∷_, _++_}
 use Prim.Native.Nat.{ℕ, zero, suc, _+_, _-_, _*_, _/_, _%_, _^_, _≤_, _<_}
@@ -51,6 +51,22 @@ decimal-one n h = within-one n n h ∙ ap (λ (d : ℕ). (code "0" + d) ∷ []) 
 pub decimal-again : (n : ℕ) → 10 ≤ n → decimal n ≡ decimal (n / 10) ++ (code "0" + n % 10) ∷ []
 unfolding decimal
 decimal-again n h = within-more n n h ∙ ap (λ (l : List ℕ). l ++ last n) (within-enough n (suc (n / 10)) (n / 10) (omega arith) (omega arith))
+
+-- by single digits, where there are at most three
+pub last-digit : (n : ℕ) → decimal (n % 10) ≡ (code "0" + n % 10) ∷ []
+last-digit n = decimal-one (n % 10) (omega arith)
+
+pub one-digit : (n : ℕ) → n < 10 → decimal n ≡ decimal (n % 10)
+one-digit n h = ap decimal (sym (small n h))
+
+digits-then : (n : ℕ) (front : List ℕ) → 10 ≤ n → decimal (n / 10) ≡ front → decimal n ≡ front ++ decimal (n % 10)
+digits-then n front h e = decimal-again n h ∙ ap₂ _++_ e (sym (last-digit n))
+
+pub two-digits : (n : ℕ) → 10 ≤ n → n < 100 → decimal n ≡ decimal (n / 10 % 10) ++ decimal (n % 10)
+two-digits n low high = digits-then n _ low (one-digit (n / 10) (omega arith))
+
+pub three-digits : (n : ℕ) → 100 ≤ n → n < 1000 → decimal n ≡ decimal (n / 10 / 10 % 10) ++ decimal (n / 10 % 10) ++ decimal (n % 10)
+three-digits n low high = digits-then n _ (omega arith) (two-digits (n / 10) (omega arith) (omega arith))
 
 -- ---- the digits of `io`
 
