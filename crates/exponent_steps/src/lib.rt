@@ -2,6 +2,7 @@
 mod whole;
 
 ghost use mathlib.Core.Path.{_≡_};
+ghost use Rattle.tape.specs.declared.Step.the-variants.{Mul, Div, Swp};
 ghost use Rattle.machine.specs.Exponents.{exponentsOf, firstExponents, makesInRange, shiftInRange};
 use machine::Exponents;
 use tape::Step;
@@ -29,30 +30,48 @@ pub fn shift(exponents: &mut [i64], step: Step) -> bool
     ensures { λ _. ⌜ now (exponents .exit) ≡ shiftInRange step (now (exponents .entry)) ⌝ }
 {
     match step {
-        Step::Mul(t, s) => {
-            let x = exponent(exponents, t);
-            let y = exponent(exponents, s);
-            if !is_sum_in_range(x, y) {
-                return false;
-            }
-            set_exponent(exponents, t, x + y);
-            true
-        }
-        Step::Div(t, s) => {
-            let x = exponent(exponents, t);
-            let y = exponent(exponents, s);
-            if !is_difference_in_range(x, y) {
-                return false;
-            }
-            set_exponent(exponents, t, x - y);
-            true
-        }
-        Step::Swp(t, s) => {
-            let x = exponent(exponents, t);
-            let y = exponent(exponents, s);
-            set_exponent(exponents, t, y);
-            set_exponent(exponents, s, x);
-            true
-        }
+        Step::Mul(target, source) => add(exponents, target, source),
+        Step::Div(target, source) => subtract(exponents, target, source),
+        Step::Swp(target, source) => exchange(exponents, target, source),
     }
+}
+
+// A mul. Who knows the kind of a step goes by it and makes no `Step`, which costs as much as the step.
+pub fn add(exponents: &mut [i64], target: u32, source: u32) -> bool
+    ensures { λ inside. ⌜ inside ≡ makesInRange (Mul target source) (now (exponents .entry)) ⌝ }
+    ensures { λ _. ⌜ now (exponents .exit) ≡ shiftInRange (Mul target source) (now (exponents .entry)) ⌝ }
+{
+    let x = exponent(exponents, target);
+    let y = exponent(exponents, source);
+    if !is_sum_in_range(x, y) {
+        return false;
+    }
+    set_exponent(exponents, target, x + y);
+    true
+}
+
+// A div.
+pub fn subtract(exponents: &mut [i64], target: u32, source: u32) -> bool
+    ensures { λ inside. ⌜ inside ≡ makesInRange (Div target source) (now (exponents .entry)) ⌝ }
+    ensures { λ _. ⌜ now (exponents .exit) ≡ shiftInRange (Div target source) (now (exponents .entry)) ⌝ }
+{
+    let x = exponent(exponents, target);
+    let y = exponent(exponents, source);
+    if !is_difference_in_range(x, y) {
+        return false;
+    }
+    set_exponent(exponents, target, x - y);
+    true
+}
+
+// A swp, which makes no number.
+pub fn exchange(exponents: &mut [i64], target: u32, source: u32) -> bool
+    ensures { λ inside. ⌜ inside ≡ makesInRange (Swp target source) (now (exponents .entry)) ⌝ }
+    ensures { λ _. ⌜ now (exponents .exit) ≡ shiftInRange (Swp target source) (now (exponents .entry)) ⌝ }
+{
+    let x = exponent(exponents, target);
+    let y = exponent(exponents, source);
+    set_exponent(exponents, target, y);
+    set_exponent(exponents, source, x);
+    true
 }

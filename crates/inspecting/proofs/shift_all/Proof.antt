@@ -9,8 +9,8 @@ use borrow.Author.Tests.{not-true, not-false}
 use lib.ListN.{length, drop}
 use Rattle.tape.specs.Layout.{stepsIn}
 use Rattle.tape.proofs.Laws.Rows.{steps-nth}
-use Rattle.machine.proofs.Laws.Traces.{RestOfTrace, all-left, none-left, leaves, goes-on}
-use Rattle.tape.proofs.Laws.Rows.{count-in}
+use Rattle.machine.proofs.Laws.Traces.{word-of-step, RestOfTrace, all-left, none-left, leaves, goes-on}
+use Rattle.sequencer.proofs.Laws.Positions.{count-in}
 use Rattle.inspecting.proofs.shift_all.Statement.{statement}
 use Rattle.inspecting.proofs.shift_all.Tie as tie
 
@@ -22,18 +22,24 @@ abbrev μ-loop : tie.MeasureT-loop
 μ-loop words exponents₀ i₀ exponents i = length words - i
 
 loop-holds : tie.Need-loop-holds Inv-loop μ-loop
-loop-holds c = (omega arith, refl, all-left _ _ (c .before .pre))
+loop-holds c = (omega arith, refl, all-left _ _ (c .before .pre .1))
+
+shift-word-requires : tie.Need-shift-word-requires Inv-loop μ-loop
+shift-word-requires c κs =
+    let at = c .before .before .before in
+    let start = at .before .before in
+    word-of-step (start .args .words .now) (at .loop .i) (start .pre .0) (c .before .before .loop-test .taken)
 
 same-length : tie.Need-same-length Inv-loop μ-loop
-same-length c = let shifted = c .before .before in shifted .shift .kept .0 ∙ shifted .before .before .before .before .loop .inv .1
+same-length c = let shifted = c .before .before in shifted .shift-word .kept .0 ∙ shifted .before .before .before .before .loop .inv .1
 
 returns : tie.Need-returns Inv-loop μ-loop
 returns c =
     let shifted = c .before .before in
     let at = shifted .before .before .before .before in
     let words = at .before .before .args .words .now in
-    let read = shifted .before .nth-step .ensures ∙ sym (steps-nth words (at .loop .i)) in
-    let gone = leaves _ _ _ _ read (omega (arith, count-in words)) (at .loop .inv .2) (sym (not-true _ (c .if1 .taken)) ∙ shifted .shift .ensures .0) in
+    let read = sym (steps-nth words (at .loop .i)) in
+    let gone = leaves _ _ _ _ read (omega (arith, count-in words)) (at .loop .inv .2) (sym (not-true _ (c .if1 .taken)) ∙ shifted .shift-word .ensures .0) in
     (gone, λ e. absurd (true≢false (sym e)))
 
 loop-again : tie.Need-loop-again Inv-loop μ-loop
@@ -41,10 +47,10 @@ loop-again c =
     let shifted = c .before .before in
     let at = shifted .before .before .before .before in
     let words = at .before .before .args .words .now in
-    let read = shifted .before .nth-step .ensures ∙ sym (steps-nth words (at .loop .i)) in (
+    let read = sym (steps-nth words (at .loop .i)) in (
       omega arith,
-      shifted .shift .kept .0 ∙ at .loop .inv .1,
-      goes-on _ _ _ _ read (omega (arith, count-in words)) (at .loop .inv .2) _ (sym (not-false _ (c .if1 .left)) ∙ shifted .shift .ensures .0) (shifted .shift .ensures .1),
+      shifted .shift-word .kept .0 ∙ at .loop .inv .1,
+      goes-on _ _ _ _ read (omega (arith, count-in words)) (at .loop .inv .2) _ (sym (not-false _ (c .if1 .left)) ∙ shifted .shift-word .ensures .0) (shifted .shift-word .ensures .1),
     )
 
 same-length-2 : tie.Need-same-length-2 Inv-loop μ-loop
@@ -63,8 +69,9 @@ shift-all-spec =
     Inv-loop
     μ-loop
     loop-holds
-    (λ c κs. search needs)
-    (λ c κs. search needs)
+    (λ c. search needs)
+    (λ c. search needs)
+    shift-word-requires
     same-length
     returns
     (λ c. search needs)

@@ -1,12 +1,12 @@
 -- Exponents that stay in range: steps that take exponents to exponents, within a bound at every position, go on one after another,
 -- and taken back they come through the positions that they went through.
 use mathlib.Core.Path.{_≡_, refl, sym, _∙_, ap, ap₂}
-use mathlib.Core.Bool.{true, _&&_}
+use mathlib.Core.Bool.{true, false, _&&_}
 use mathlib.Core.List.{List, [], _∷_, _++_}
-use Prim.Native.Nat.{ℕ, zero, suc, _≤_, _^_}
+use Prim.Native.Nat.{ℕ, zero, suc, _+_, _≤_, _^_}
 use native.Mathlib.Omega.{arith}
-use lib.IntN.{ℤ, pos, negsuc, negℤ}
-use lib.Signed.{leZ}
+use lib.IntN.{ℤ, pos, negsuc, negℤ, _+ℤ_, _-ℤ_}
+use lib.Signed.{leZ, ltZ}
 use lib.ListN.{length, take}
 use lib.Seq.{take-length}
 use Rattle.refusal.proofs.Laws.Tests.{both}
@@ -14,7 +14,7 @@ use Rattle.tape.specs.declared.Step.{Step}
 use Rattle.tape.specs.Steps.{AllSound}
 use Rattle.machine.specs.Machine.{inverseStep, inverted}
 use Rattle.machine.specs.Exponents.{shift, shiftAll, startExponents, exponentsAt, inRange, allInRange, staysInRange}
-use Rattle.machine.proofs.Laws.Integers.{Within, within-more, le-leZ, leZ-true}
+use Rattle.machine.proofs.Laws.Integers.{over, under, over-sum, under-sum, Within, within-less, within-more, le-leZ, leZ-true, ltZ-false}
 use Rattle.machine.proofs.Laws.Exponents.{length-shift, shift-inverse-step}
 
 -- ---- the tests
@@ -23,14 +23,31 @@ pub within-range : (e : ℤ) → Within (2 ^ 62) e → inRange e ≡ true
 unfolding inRange
 within-range e w = rw (le-leZ (negℤ (pos (2 ^ 62))) e (omega arith), le-leZ e (pos (2 ^ 62)) (omega arith))
 
+-- one of a number's two parts is 0
+inside-within : (m : ℕ) (e : ℤ) → under e ≤ over e + m → over e ≤ under e + m → Within m e
+inside-within m (pos n) low high = record { high = omega arith; low = omega arith }
+inside-within m (negsuc n) low high = record { high = omega arith; low = omega arith }
+
 pub range-within : (e : ℤ) → inRange e ≡ true → Within (2 ^ 62) e
 unfolding inRange
-range-within (pos n) r =
-    let most = leZ-true (pos n) (pos (2 ^ 62)) (both (leZ (negℤ (pos (2 ^ 62))) (pos n)) (leZ (pos n) (pos (2 ^ 62))) r .1) in
-    record { high = omega arith; low = omega arith }
-range-within (negsuc n) r =
-    let least = leZ-true (negℤ (pos (2 ^ 62))) (negsuc n) (both (leZ (negℤ (pos (2 ^ 62))) (negsuc n)) (leZ (negsuc n) (pos (2 ^ 62))) r .0) in
-    record { high = omega arith; low = omega arith }
+range-within e r =
+    let least = negℤ (pos (2 ^ 62)) in
+    let t = both (leZ least e) (leZ e (pos (2 ^ 62))) r in
+    inside-within (2 ^ 62) e (omega (arith, leZ-true least e (t .0))) (omega (arith, leZ-true e (pos (2 ^ 62)) (t .1)))
+
+-- in half of the range
+half-within : (e : ℤ) → ltZ e (negℤ (pos (2 ^ 61))) ≡ false → ltZ (pos (2 ^ 61)) e ≡ false → Within (2 ^ 61) e
+half-within e low high = inside-within (2 ^ 61) e (omega (arith, ltZ-false e (negℤ (pos (2 ^ 61))) low)) (omega (arith, ltZ-false (pos (2 ^ 61)) e high))
+
+-- two numbers there have their sum and their difference in the range
+pub half-range : (x y : ℤ) → ltZ x (negℤ (pos (2 ^ 61))) ≡ false → ltZ (pos (2 ^ 61)) x ≡ false → ltZ y (negℤ (pos (2 ^ 61))) ≡ false → ltZ (pos (2 ^ 61)) y ≡ false
+    → (inRange (x +ℤ y) ≡ true) × (inRange (x -ℤ y) ≡ true)
+half-range x y xl xh yl yh =
+    let v = half-within x xl xh in
+    let w = half-within y yl yh in (
+      within-range (x +ℤ y) (record { high = omega (arith, over-sum x y); low = omega (arith, under-sum x y) }),
+      within-range (x -ℤ y) (within-less x y v w),
+    )
 
 pub stays-first : (xs : List Step) (z : List ℤ) → staysInRange xs z ≡ true → allInRange z ≡ true
 unfolding staysInRange
