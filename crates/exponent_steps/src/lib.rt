@@ -3,9 +3,10 @@ mod whole;
 
 ghost use mathlib.Core.Path.{_≡_};
 ghost use Rattle.tape.specs.declared.Step.the-variants.{Mul, Div, Swp};
+ghost use Rattle.tape.specs.Inner.Operations.{stepFor};
 ghost use Rattle.machine.specs.Exponents.{exponentsOf, firstExponents, makesInRange, shiftInRange};
 use machine::Exponents;
-use tape::Step;
+use tape::Operation;
 use whole::exponent;
 use whole::is_difference_in_range;
 use whole::is_sum_in_range;
@@ -25,19 +26,21 @@ pub fn exponents_of(exponents: &[i64]) -> Exponents
 
 // A step on whole exponents, in place: whether the number that it makes is in the range. Where it isn't, nothing changes. The other
 // exponents are not looked at: a step leaves them as they are.
-pub fn shift(exponents: &mut [i64], step: Step) -> bool
-    ensures { λ inside. ⌜ inside ≡ makesInRange step (now (exponents .entry)) ⌝ }
-    ensures { λ _. ⌜ now (exponents .exit) ≡ shiftInRange step (now (exponents .entry)) ⌝ }
+pub fn shift(exponents: &mut [i64], op: Operation) -> bool
+    ensures { λ inside. ⌜ inside ≡ makesInRange (stepFor op) (now (exponents .entry)) ⌝ }
+    ensures { λ _. ⌜ now (exponents .exit) ≡ shiftInRange (stepFor op) (now (exponents .entry)) ⌝ }
 {
-    match step {
-        Step::Mul(target, source) => add(exponents, target, source),
-        Step::Div(target, source) => subtract(exponents, target, source),
-        Step::Swp(target, source) => exchange(exponents, target, source),
+    if op.kind == 0 {
+        return add(exponents, op.target, op.source);
     }
+    if op.kind == 1 {
+        return subtract(exponents, op.target, op.source);
+    }
+    exchange(exponents, op.target, op.source)
 }
 
-// A mul. Who knows the kind of a step goes by it and makes no `Step`, which costs as much as the step.
-pub fn add(exponents: &mut [i64], target: u32, source: u32) -> bool
+// A mul.
+fn add(exponents: &mut [i64], target: u32, source: u32) -> bool
     ensures { λ inside. ⌜ inside ≡ makesInRange (Mul target source) (now (exponents .entry)) ⌝ }
     ensures { λ _. ⌜ now (exponents .exit) ≡ shiftInRange (Mul target source) (now (exponents .entry)) ⌝ }
 {
@@ -51,7 +54,7 @@ pub fn add(exponents: &mut [i64], target: u32, source: u32) -> bool
 }
 
 // A div.
-pub fn subtract(exponents: &mut [i64], target: u32, source: u32) -> bool
+fn subtract(exponents: &mut [i64], target: u32, source: u32) -> bool
     ensures { λ inside. ⌜ inside ≡ makesInRange (Div target source) (now (exponents .entry)) ⌝ }
     ensures { λ _. ⌜ now (exponents .exit) ≡ shiftInRange (Div target source) (now (exponents .entry)) ⌝ }
 {
@@ -65,7 +68,7 @@ pub fn subtract(exponents: &mut [i64], target: u32, source: u32) -> bool
 }
 
 // A swp, which makes no number.
-pub fn exchange(exponents: &mut [i64], target: u32, source: u32) -> bool
+fn exchange(exponents: &mut [i64], target: u32, source: u32) -> bool
     ensures { λ inside. ⌜ inside ≡ makesInRange (Swp target source) (now (exponents .entry)) ⌝ }
     ensures { λ _. ⌜ now (exponents .exit) ≡ shiftInRange (Swp target source) (now (exponents .entry)) ⌝ }
 {

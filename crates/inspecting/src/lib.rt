@@ -2,16 +2,14 @@
 ghost use mathlib.Core.Path.{_≡_};
 ghost use mathlib.Core.Bool.{true};
 ghost use Rattle.refusal.specs.Outcomes.{answered, refusalNumber};
-ghost use Rattle.tape.specs.Words.{decoded};
-ghost use Rattle.tape.specs.Layout.{sortOf, stepOf, stepsIn, allSteps};
-ghost use Rattle.machine.specs.Exponents.{exponentsOutcomeOf, allInRange, staysInRange, shiftAll, makesInRange, shiftInRange};
+ghost use Rattle.tape.specs.Inner.Operations.{rawSteps};
+ghost use Rattle.machine.specs.Exponents.{exponentsOutcomeOf, allInRange, staysInRange, shiftAll};
 ghost use Rattle.program.specs.Services.{acceptOutcome};
 ghost use Rattle.sequencer.specs.Services.{traceOutcome, cutOutcome, cutPart, badCut};
 ghost use Rattle.sequencer.specs.Tracing.{NeverOutside, MeansPowers};
-use exponent_steps::add;
-use exponent_steps::exchange;
+use decoding::operation_of;
 use exponent_steps::exponents_of;
-use exponent_steps::subtract;
+use exponent_steps::shift;
 use machine::ExponentsAnswer;
 use parts::part;
 use parts::step_words;
@@ -19,10 +17,6 @@ use parts::steps;
 use refusal::Refusal;
 use tape::Header;
 use tape::HeaderAnswer;
-use tape::NUMBER_LIMIT;
-
-// Registers are below this; a step's source stands above its target.
-const REGISTERS: u32 = 4;
 
 // Each register's whole exponent at a position: check's refusals, 10, 12; no named program gets 12.
 pub fn trace(tape: &[u32], position: u32) -> ExponentsAnswer
@@ -66,38 +60,21 @@ fn trace_accepted(tape: &[u32], header: Header, position: u32) -> ExponentsAnswe
     ExponentsAnswer::Answered(exponents_of(&exponents))
 }
 
-// The steps on whole exponents: whether all stay in the range at every position. Where they do, the row holds what the steps lead to.
+// The steps that some words have in their digits, on whole exponents: whether all stay in the range at every position. Where they do,
+// the row holds what the steps lead to.
 fn shift_all(words: &[u32], exponents: &mut [i64]) -> bool
-    requires { ⌜ allSteps (now words) ≡ true ⌝ }
     requires { ⌜ allInRange (now exponents) ≡ true ⌝ }
-    ensures { λ inside. ⌜ inside ≡ staysInRange (stepsIn (now (words .entry))) (now (exponents .entry)) ⌝ }
-    ensures { λ inside. ⌜ (inside ≡ true → now (exponents .exit) ≡ shiftAll (stepsIn (now (words .entry))) (now (exponents .entry))) ⌝ }
+    ensures { λ inside. ⌜ inside ≡ staysInRange (rawSteps (now (words .entry))) (now (exponents .entry)) ⌝ }
+    ensures { λ inside. ⌜ (inside ≡ true → now (exponents .exit) ≡ shiftAll (rawSteps (now (words .entry))) (now (exponents .entry))) ⌝ }
 {
     let mut i: usize = 0;
     while i < words.len() {
-        if !shift_word(exponents, words[i]) {
+        if !shift(exponents, operation_of(words[i])) {
             return false;
         }
         i += 1;
     }
     true
-}
-
-// The step of a step's word, on whole exponents. The words of an accepted tape are such words, so none is tested again, and their kinds
-// decide at once: a test of each word, or a `Step` made of it, costs as much as the step.
-fn shift_word(exponents: &mut [i64], word: u32) -> bool
-    requires { ⌜ sortOf (decoded word) ≡ 5 ⌝ }
-    ensures { λ inside. ⌜ inside ≡ makesInRange (stepOf (decoded word)) (now (exponents .entry)) ⌝ }
-    ensures { λ _. ⌜ now (exponents .exit) ≡ shiftInRange (stepOf (decoded word)) (now (exponents .entry)) ⌝ }
-{
-    let payload = word % NUMBER_LIMIT;
-    let target = payload % REGISTERS;
-    let source = payload / REGISTERS % REGISTERS;
-    match word / NUMBER_LIMIT {
-        5 => add(exponents, target, source),
-        6 => subtract(exponents, target, source),
-        _ => exchange(exponents, target, source),
-    }
 }
 
 // Cut of a program that is accepted: 10.

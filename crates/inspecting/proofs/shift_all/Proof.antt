@@ -7,50 +7,43 @@ use native.Mathlib.Omega.{arith}
 use borrow.Author.Needs.{needs}
 use borrow.Author.Tests.{not-true, not-false}
 use lib.ListN.{length, drop}
-use Rattle.tape.specs.Layout.{stepsIn}
-use Rattle.tape.proofs.Laws.Rows.{steps-nth}
-use Rattle.machine.proofs.Laws.Traces.{word-of-step, RestOfTrace, all-left, none-left, leaves, goes-on}
-use Rattle.sequencer.proofs.Laws.Positions.{count-in}
+use Rattle.tape.specs.Inner.Operations.{rawSteps}
+use Rattle.tape.proofs.Laws.Rows.{raw-count, raw-nth}
+use Rattle.machine.proofs.Laws.Traces.{RestOfTrace, all-left, none-left, leaves, goes-on}
 use Rattle.inspecting.proofs.shift_all.Statement.{statement}
 use Rattle.inspecting.proofs.shift_all.Tie as tie
 
 abbrev Inv-loop : tie.InvT-loop
 Inv-loop words exponents₀ i₀ exponents i =
-    (i ≤ length words) × (length exponents ≡ length exponents₀) × RestOfTrace (stepsIn words) exponents₀ (drop i (stepsIn words)) exponents
+    (i ≤ length words) × (length exponents ≡ length exponents₀) × RestOfTrace (rawSteps words) exponents₀ (drop i (rawSteps words)) exponents
 
 abbrev μ-loop : tie.MeasureT-loop
 μ-loop words exponents₀ i₀ exponents i = length words - i
 
 loop-holds : tie.Need-loop-holds Inv-loop μ-loop
-loop-holds c = (omega arith, refl, all-left _ _ (c .before .pre .1))
-
-shift-word-requires : tie.Need-shift-word-requires Inv-loop μ-loop
-shift-word-requires c κs =
-    let at = c .before .before .before in
-    let start = at .before .before in
-    word-of-step (start .args .words .now) (at .loop .i) (start .pre .0) (c .before .before .loop-test .taken)
+loop-holds c = (omega arith, refl, all-left _ _ (c .before .pre))
 
 same-length : tie.Need-same-length Inv-loop μ-loop
-same-length c = let shifted = c .before .before in shifted .shift-word .kept .0 ∙ shifted .before .before .before .before .loop .inv .1
+same-length c = let shifted = c .before .before in shifted .shift .kept .0 ∙ shifted .before .before .before .before .before .loop .inv .1
 
 returns : tie.Need-returns Inv-loop μ-loop
 returns c =
     let shifted = c .before .before in
-    let at = shifted .before .before .before .before in
+    let at = shifted .before .before .before .before .before in
     let words = at .before .before .args .words .now in
-    let read = sym (steps-nth words (at .loop .i)) in
-    let gone = leaves _ _ _ _ read (omega (arith, count-in words)) (at .loop .inv .2) (sym (not-true _ (c .if1 .taken)) ∙ shifted .shift-word .ensures .0) in
+    let read = shifted .before .operation-of .ensures ∙ sym (raw-nth words (at .loop .i)) in
+    let gone = leaves _ _ _ _ read (omega (arith, raw-count words)) (at .loop .inv .2) (sym (not-true _ (c .if1 .taken)) ∙ shifted .shift .ensures .0) in
     (gone, λ e. absurd (true≢false (sym e)))
 
 loop-again : tie.Need-loop-again Inv-loop μ-loop
 loop-again c =
     let shifted = c .before .before in
-    let at = shifted .before .before .before .before in
+    let at = shifted .before .before .before .before .before in
     let words = at .before .before .args .words .now in
-    let read = sym (steps-nth words (at .loop .i)) in (
+    let read = shifted .before .operation-of .ensures ∙ sym (raw-nth words (at .loop .i)) in (
       omega arith,
-      shifted .shift-word .kept .0 ∙ at .loop .inv .1,
-      goes-on _ _ _ _ read (omega (arith, count-in words)) (at .loop .inv .2) _ (sym (not-false _ (c .if1 .left)) ∙ shifted .shift-word .ensures .0) (shifted .shift-word .ensures .1),
+      shifted .shift .kept .0 ∙ at .loop .inv .1,
+      goes-on _ _ _ _ read (omega (arith, raw-count words)) (at .loop .inv .2) _ (sym (not-false _ (c .if1 .left)) ∙ shifted .shift .ensures .0) (shifted .shift .ensures .1),
     )
 
 same-length-2 : tie.Need-same-length-2 Inv-loop μ-loop
@@ -59,7 +52,7 @@ same-length-2 c = c .before .loop .inv .1
 returns-2 : tie.Need-returns-2 Inv-loop μ-loop
 returns-2 c =
     let words = c .before .before .before .args .words .now in
-    let done = none-left (c .before .loop .i) _ (omega (arith, count-in words)) (c .before .loop .inv .2) in
+    let done = none-left (c .before .loop .i) _ (omega (arith, raw-count words)) (c .before .loop .inv .2) in
     (done .0, λ e. done .1)
 
 pub shift-all-spec : {M : Type 1} → statement M
@@ -71,7 +64,8 @@ shift-all-spec =
     loop-holds
     (λ c. search needs)
     (λ c. search needs)
-    shift-word-requires
+    (λ c κs. search needs)
+    (λ c κs. search needs)
     same-length
     returns
     (λ c. search needs)

@@ -1,50 +1,42 @@
 -- `trace_accepted` meets its contract: each return is a line of trace's own rules.
 use mathlib.Core.Path.{_≡_, sym, ap, _∙_}
-use mathlib.Core.Bool.{true, not}
+use mathlib.Core.Bool.{not}
 use mathlib.Core.List.{List}
-use Prim.Native.Nat.{ℕ}
+use Prim.Native.Nat.{ℕ, _≤_}
 use native.Mathlib.Omega.{arith}
 use borrow.Author.Needs.{needs}
 use borrow.Author.Tests.{lt-ltb, le-ltb, not-true, not-false}
 use lib.IntN.{pos}
-use lib.ListN.{take}
+use lib.ListN.{length, take}
 use Rattle.refusal.specs.Outcomes.{answered, gives, passes, answers}
 use Rattle.tape.specs.declared.Step.{Step}
-use Rattle.tape.specs.Layout.{part, stepWordsOf, stepsIn, stepsOf, allSteps}
-use Rattle.tape.proofs.Laws.Layout.{laid-out-rules}
-use Rattle.tape.proofs.Laws.Rows.{part-inside}
+use Rattle.tape.specs.Layout.{part, stepWordsOf, stepsOf}
+use Rattle.tape.specs.Inner.Operations.{rawSteps}
 use Rattle.machine.specs.Exponents.{shiftAll, startExponents, staysInRange}
 use Rattle.machine.proofs.Laws.Lists.{four-first}
-use Rattle.machine.proofs.Laws.Traces.{start-range, first-words}
-use Rattle.program.proofs.Laws.Checking.{accepted}
+use Rattle.machine.proofs.Laws.Traces.{start-range}
 use Rattle.sequencer.specs.Services.{traceRules}
-use Rattle.sequencer.proofs.Laws.Cases.{words-are, trace-rules}
-use Rattle.sequencer.proofs.Laws.Positions.{part-steps}
+use Rattle.sequencer.proofs.Laws.Cases.{words-steps, words-are, trace-rules}
+use Rattle.sequencer.proofs.Laws.Positions.{part-steps, part-raw}
 use Rattle.inspecting.proofs.trace_accepted.Statement.{statement}
 use Rattle.inspecting.proofs.trace_accepted.Tie as tie
 
--- the part of the words up to the position: its words are steps' words, and the steps that they stand for
-module _ (c : tie.After-part) where
-  walked-words : let start = c .before .before .before .before .before in c .part .result .now ≡ part (stepWordsOf (start .args .tape .now)) 0 (start .args .position)
-  walked-words = let start = c .before .before .before .before .before in c .part .ensures ∙ ap (λ (l : List ℕ). part l 0 (start .args .position)) (c .before .steps .ensures)
-
-  all-steps : allSteps (c .part .result .now) ≡ true
-  all-steps =
-      let start = c .before .before .before .before .before in
-      let laid = laid-out-rules _ (accepted _ (start .args .tape .now) (start .pre) .laid) in
-      ap allSteps (walked-words ∙ part-inside _ 0 (start .args .position) (omega arith) (omega (arith, words-are _ _ (start .pre)))) ∙ first-words (start .args .position) _ (laid .steps)
-
-  walked : let start = c .before .before .before .before .before in stepsIn (c .part .result .now) ≡ take (start .args .position) (stepsOf (start .args .tape .now))
-  walked =
-      let start = c .before .before .before .before .before in
-      ap stepsIn walked-words ∙ part-steps _ 0 (start .args .position) (omega arith) (omega (arith, words-are _ _ (start .pre)))
+-- the steps in the digits of the words up to the position are the tape's
+walked : (c : tie.After-part) → let start = c .before .before .before .before .before in rawSteps (c .part .result .now) ≡ take (start .args .position) (stepsOf (start .args .tape .now))
+walked c =
+    let start = c .before .before .before .before .before in
+    let words = stepWordsOf (start .args .tape .now) in
+    let inside : start .args .position ≤ length words = omega (arith, words-are _ _ (start .pre)) in
+    ap rawSteps (c .part .ensures ∙ ap (λ (l : List ℕ). part l 0 (start .args .position)) (c .before .steps .ensures))
+    ∙ part-raw words (words-steps _ _ (start .pre)) 0 (start .args .position) (omega arith) inside
+    ∙ part-steps words 0 (start .args .position) (omega arith) inside
 
 returns : tie.Need-returns
 unfolding traceRules
 returns c = sym (trace-rules _ _ (c .before .before .before .pre) _ ∙ gives _ _ _ (lt-ltb _ _ (c .if1 .taken)))
 
 shift-all-requires : tie.Need-shift-all-requires
-shift-all-requires c κs = (all-steps (c .before), start-range)
+shift-all-requires c κs = start-range
 
 returns-2 : tie.Need-returns-2
 unfolding traceRules

@@ -1,6 +1,5 @@
 -- A trace step by step: from exponents in range a step leaves the range exactly where the number that it makes does, and then the steps
--- behind it don't stay in it either; where it doesn't, they go on from where it leads. Where all words are
--- steps' words, each is one, and so are the first of them.
+-- behind it don't stay in it either; where it doesn't, they go on from where it leads.
 use mathlib.Core.Path.{_≡_, refl, sym, ap, ap₂, _∙_}
 use mathlib.Core.Bool.{true, false, _&&_, true≢false}
 use mathlib.Core.List.{List, [], _∷_}
@@ -22,22 +21,6 @@ use Rattle.machine.proofs.Laws.Sums.{step-range}
 pub start-range : allInRange startExponents ≡ true
 unfolding allInRange inRange
 start-range = refl
-
--- ---- the words of the steps, where all are steps' words
-
-pub word-of-step : (words : List ℕ) (i : ℕ) → allSteps words ≡ true → i < length words → sortOf (decoded (getD words i 0)) ≡ 5
-unfolding allSteps
-word-of-step [] i e h = absurd (omega arith)
-word-of-step (w ∷ words) zero e h = eqb-true _ _ (both (eqb (sortOf (decoded w)) 5) (allSteps words) e .0)
-word-of-step (w ∷ words) (suc i) e h = word-of-step words i (both (eqb (sortOf (decoded w)) 5) (allSteps words) e .1) (omega arith)
-
-pub first-words : (n : ℕ) (words : List ℕ) → allSteps words ≡ true → allSteps (take n words) ≡ true
-unfolding allSteps
-first-words zero words e = refl
-first-words (suc n) [] e = refl
-first-words (suc n) (w ∷ words) e = let t = both (eqb (sortOf (decoded w)) 5) (allSteps words) e in ap₂ _&&_ (t .0) (first-words n words (t .1))
-
--- ---- step by step
 
 -- what the steps xs make of z is what the steps ys, which are left, make of w
 pub record RestOfTrace (xs : List Step) (z : List ℤ) (ys : List Step) (w : List ℤ) : Type 0 where

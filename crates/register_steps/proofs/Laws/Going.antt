@@ -5,10 +5,11 @@ use mathlib.Core.Bool.{Bool, true, false}
 use mathlib.Core.List.{List, [], _∷_}
 use Prim.Native.Nat.{ℕ, suc, _+_, _-_, _≤_, _<_}
 use native.Mathlib.Omega.{arith}
-use lib.ListN.{length, getD, take, drop, length-map, drop-of-length-le, List·getD-map}
+use lib.ListN.{length, getD, take, drop, drop-of-length-le}
 use lib.Seq.{take-all, take-suc, drop-cons}
 use Rattle.tape.specs.declared.Step.{Step}
-use Rattle.tape.specs.Inner.Operations.{rawStep, rawSteps}
+use Rattle.tape.specs.Inner.Operations.{rawSteps}
+use Rattle.tape.proofs.Laws.Rows.{raw-count, raw-nth}
 use Rattle.machine.specs.Machine.{inverseStep, inverted}
 use Rattle.machine.specs.Inner.Carried.{applyWith, doAllWith, directedSteps}
 use Rattle.machine.proofs.Laws.Steps.{inverted-append}
@@ -53,20 +54,14 @@ module _ (product : ℕ → ℕ → ℕ) (all rest : List Step) (v₀ w₀ : Lis
 -- ---- the steps that come after i others
 
 module _ (words : List ℕ) where
-  many : length (rawSteps words) ≡ length words
-  many = length-map words rawStep
-
-  nth : (i : ℕ) → getD (rawSteps words) i (rawStep 0) ≡ rawStep (getD words i 0)
-  nth i = List·getD-map rawStep words i 0
-
   pub after-none : (undone : Bool) → stepsAfter undone words 0 ≡ directedSteps undone (rawSteps words)
-  after-none true = ap inverted (take-all (length words - 0) (rawSteps words) (omega (arith, many)))
+  after-none true = ap inverted (take-all (length words - 0) (rawSteps words) (omega (arith, raw-count words)))
   after-none false = refl
 
   pub after-all : (undone : Bool) (i : ℕ) → length words ≤ i → stepsAfter undone words i ≡ []
   unfolding inverted
   after-all true i past = let none : length words - i ≡ 0 = omega arith in ap (λ (n : ℕ). inverted (take n (rawSteps words))) none
-  after-all false i past = let none : length (rawSteps words) ≤ i = omega (arith, many) in drop-of-length-le (rawSteps words) none
+  after-all false i past = let none : length (rawSteps words) ≤ i = omega (arith, raw-count words) in drop-of-length-le (rawSteps words) none
 
   pub after-next : (undone : Bool) (i : ℕ) → i < length words → stepsAfter undone words i ≡ directedStep undone words i ∷ stepsAfter undone words (i + 1)
   unfolding inverted
@@ -75,10 +70,10 @@ module _ (words : List ℕ) where
       let here : length words - i ≡ suc k = omega arith in
       let next : k ≡ length words - (i + 1) = omega arith in
       ap (λ (n : ℕ). inverted (take n (rawSteps words))) here
-      ∙ ap inverted (take-suc (rawSteps words) k _ (omega (arith, many)))
+      ∙ ap inverted (take-suc (rawSteps words) k _ (omega (arith, raw-count words)))
       ∙ inverted-append (take k (rawSteps words)) (getD (rawSteps words) k _ ∷ [])
-      ∙ ap₂ (λ (x : Step) (n : ℕ). inverseStep x ∷ inverted (take n (rawSteps words))) (nth k) next
+      ∙ ap₂ (λ (x : Step) (n : ℕ). inverseStep x ∷ inverted (take n (rawSteps words))) (raw-nth words k) next
   after-next false i inside =
       let next : suc i ≡ i + 1 = omega arith in
-      drop-cons (rawSteps words) i _ (omega (arith, many))
-      ∙ ap₂ (λ (x : Step) (n : ℕ). x ∷ drop n (rawSteps words)) (nth i) next
+      drop-cons (rawSteps words) i _ (omega (arith, raw-count words))
+      ∙ ap₂ (λ (x : Step) (n : ℕ). x ∷ drop n (rawSteps words)) (raw-nth words i) next

@@ -38,7 +38,7 @@ there words p v i j from-inside goal-inside =
 
 -- they are the steps that the words have in their digits, where all words are steps, and sound
 module _ (words : List ℕ) (are : allSteps words ≡ true) where
-  part-raw : (i j : ℕ) → i ≤ j → j ≤ length words → rawSteps (part words i j) ≡ stepsIn (part words i j)
+  pub part-raw : (i j : ℕ) → i ≤ j → j ≤ length words → rawSteps (part words i j) ≡ stepsIn (part words i j)
   part-raw i j order inside =
       ap rawSteps (part-inside words i j order inside)
       ∙ map-slice _ i j words

@@ -15,7 +15,7 @@ use Rattle.tape.specs.Steps.{AllSound}
 use Rattle.tape.specs.Words.{decoded, stepWord, encoded}
 use Rattle.tape.specs.Layout.{headerWords, otherWords, part, stepCount, stepIndex, stepWordsOf, sortOf, stepOf, meansAt, stepsIn, allSteps}
 use Rattle.refusal.proofs.Laws.Tests.{both}
-use Rattle.tape.specs.Inner.Operations.{rawSteps}
+use Rattle.tape.specs.Inner.Operations.{rawStep, rawSteps}
 use Rattle.tape.proofs.Laws.Shapes.{raw-means}
 use Rattle.tape.proofs.Laws.Words.{decoded-step, decoded-lawful, decoded-zero, step-sound, word-again}
 
@@ -70,8 +70,11 @@ steps-end words i past = ap allSteps (drop-of-length-le words past)
 
 -- ---- the step at a place
 
-pub count-in : (words : List ℕ) → length (stepsIn words) ≡ length words
-count-in words = length-map words _
+pub raw-count : (words : List ℕ) → length (rawSteps words) ≡ length words
+raw-count words = length-map words rawStep
+
+pub raw-nth : (words : List ℕ) (i : ℕ) → getD (rawSteps words) i (rawStep 0) ≡ rawStep (getD words i 0)
+raw-nth words i = List·getD-map rawStep words i 0
 
 pub steps-nth : (words : List ℕ) (i : ℕ) → getD (stepsIn words) i (stepOf (decoded 0)) ≡ stepOf (decoded (getD words i 0))
 steps-nth words i = List·getD-map (λ (w : ℕ). stepOf (decoded w)) words i 0
