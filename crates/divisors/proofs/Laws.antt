@@ -2,4 +2,6 @@
 pub mod Search
 pub mod Small
 pub mod Quotients
+pub mod Inverses
+pub mod Least
 pub mod Covering

@@ -1,13 +1,14 @@
-// Whether a small number divides p, with a product in place of each division: where d divides p, the quotient is p times the
-// inverse of d modulo 2^32.
+// Whether a small number divides p: a division by each is four products of 16 bits, and a processor makes eight of those at once.
 mod table;
 
 ghost use mathlib.Core.Path.{_≡_};
-ghost use Prim.Native.Nat.{_≤_};
-ghost use lib.ListN.{length};
-ghost use Rattle.divisors.specs.Small.{hasSmallDivisor};
-ghost use Rattle.divisors.specs.Inner.Inverted.{quotientBy, isQuotient, FirstAtMost, DividesBy};
-use table::INVERSES;
+ghost use Prim.Native.Nat.{_%_, _<_};
+ghost use Rattle.divisors.specs.Small.{limit, hasSmallDivisor};
+ghost use Rattle.divisors.specs.Inner.Inverted.{lowHalf, highHalf, tooLarge, Inverse, Inverses, ZeroWhereDivided, DividedByOne};
+use table::INVERSES_FROM_4096;
+use table::INVERSES_TO_4096;
+use table::PRIMES_FROM_4096;
+use table::PRIMES_TO_4096;
 
 // Whether a number from 2 to 2^14, other than p, divides p.
 pub fn has_small_divisor(p: u32) -> bool
@@ -19,61 +20,83 @@ pub fn has_small_divisor(p: u32) -> bool
     if p % 3 == 0 {
         return 3 < p;
     }
-    has_divisor_of(p, &INVERSES)
+    // A p this small can be a prime of the tables. From 2^28 on p is no modulus, and what `excess` adds can be too large.
+    if p <= 16384 {
+        return has_divisor_from_5(p);
+    }
+    if p >= 268435456 {
+        return has_divisor_from_5(p);
+    }
+    if has_divisor_among(p, &PRIMES_TO_4096, &INVERSES_TO_4096) {
+        return true;
+    }
+    // Of two factors one is at most the root.
+    if p < 16777216 {
+        return false;
+    }
+    has_divisor_among(p, &PRIMES_FROM_4096, &INVERSES_FROM_4096)
 }
 
-// Whether a number whose inverse is in the list divides p. The number at place i is at least 2 i + 5, so from there on no quotient
-// is above p / (2 i + 5). Few of the other products are as small, and a division tells those apart.
-fn has_divisor_of(p: u32, inverses: &[u32]) -> bool
-    requires { ⌜ length (now inverses) ≤ 65536 ⌝ }
-    ensures { λ r. ⌜ DividesBy (now (inverses .entry)) p r ⌝ }
+// Whether one of the primes divides p. The loop does not end early, and keeps the least excess rather than whether one was zero:
+// that is a form of which the compiler makes one over eight entries at a time.
+fn has_divisor_among(p: u32, primes: &[u16], inverses: &[u16]) -> bool
+    requires { ⌜ (limit < p) × (p < tooLarge) ⌝ }
+    requires { ⌜ Inverses (now primes) (now inverses) ⌝ }
+    ensures { λ r. ⌜ DividedByOne (now (primes .entry)) p r ⌝ }
 {
+    let mut least: u16 = 65535;
     let mut i: usize = 0;
-    while i < inverses.len() {
-        let most = p / (2 * (i as u32) + 5);
-        i = first_at_most(p, inverses, i, most);
-        if i == inverses.len() {
+    while i < primes.len() {
+        let r = excess(p, primes[i], inverses[i]);
+        if r < least {
+            least = r;
+        }
+        i += 1;
+    }
+    least == 0
+}
+
+// Zero where d divides p, and only there. p and 2^16 times `rest` differ by a multiple of d, so d divides both or neither. Where it
+// divides `rest`, which is below 2^16, `rest` times the inverse is the quotient, and d times that has no upper half.
+fn excess(p: u32, d: u16, inverse: u16) -> u16
+    requires { ⌜ p < tooLarge ⌝ }
+    requires { ⌜ Inverse d inverse ⌝ }
+    ensures { λ r. ⌜ ZeroWhereDivided p d r ⌝ }
+{
+    let low = (p % 65536) as u16;
+    let high = (p / 65536) as u16;
+    let rest = high + d - high_half(low_half(low, inverse), d);
+    high_half(low_half(rest, inverse), d)
+}
+
+// The lower 16 bits of a product.
+fn low_half(x: u16, y: u16) -> u16
+    ensures { λ r. ⌜ r ≡ lowHalf x y ⌝ }
+{
+    ((x as u32) * (y as u32) % 65536) as u16
+}
+
+// The upper 16 bits of a product.
+fn high_half(x: u16, y: u16) -> u16
+    ensures { λ r. ⌜ r ≡ highHalf x y ⌝ }
+{
+    ((x as u32) * (y as u32) / 65536) as u16
+}
+
+// By division, of a p that neither 2 nor 3 divides: for those that no modulus can be, or that are soon done.
+fn has_divisor_from_5(p: u32) -> bool
+    requires { ⌜ (¬ (p % 2 ≡ 0)) × (¬ (p % 3 ≡ 0)) ⌝ }
+    ensures { λ r. ⌜ r ≡ hasSmallDivisor p ⌝ }
+{
+    let mut d: u32 = 5;
+    while d <= 16384 {
+        if p <= d {
             return false;
         }
-        if is_quotient(p, quotient(p, inverses[i])) {
+        if p % d == 0 {
             return true;
         }
-        i += 1;
+        d += 2;
     }
     false
-}
-
-// The first place from `from` on whose quotient is at most `most`; the length where there is none.
-fn first_at_most(p: u32, inverses: &[u32], from: usize, most: u32) -> usize
-    requires { ⌜ from ≤ length (now inverses) ⌝ }
-    ensures { λ r. ⌜ FirstAtMost (now (inverses .entry)) p from most r ⌝ }
-{
-    let mut i = from;
-    while i < inverses.len() {
-        if quotient(p, inverses[i]) <= most {
-            return i;
-        }
-        i += 1;
-    }
-    i
-}
-
-// p times an inverse, modulo 2^32.
-fn quotient(p: u32, inverse: u32) -> u32
-    ensures { λ r. ⌜ r ≡ quotientBy inverse p ⌝ }
-{
-    ((p as u64) * (inverse as u64) % 4294967296) as u32
-}
-
-// Whether q is at least 2, and what p divided by a number up to 2^14 comes to.
-fn is_quotient(p: u32, q: u32) -> bool
-    ensures { λ r. ⌜ r ≡ isQuotient p q ⌝ }
-{
-    if q < 2 {
-        return false;
-    }
-    if p % q != 0 {
-        return false;
-    }
-    p / q <= 16384
 }

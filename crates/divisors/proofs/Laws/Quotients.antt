@@ -1,114 +1,101 @@
--- A quotient is a product: where d divides p and d x leaves 1 modulo 2^32, p x = (p / d) d x leaves p / d. So a place of the list
--- whose quotient is not exact, or is larger than any there can be, is no place of a small divisor.
+-- A quotient is a product: where d divides n and d x leaves 1 modulo 2^16, n x = (n / d) d x leaves n / d. So d divides a number
+-- below 2^16 just where d times that product, which leaves the number, is no larger than it.
+-- A larger p is brought down to one: d m leaves its lower half, for m that half times x, so p and d m differ by a multiple of 2^16,
+-- to which d is coprime.
 use mathlib.Core.Path.{_≡_, sym, _∙_, ap, subst}
-use mathlib.Core.Bool.{true, false, _&&_, true≢false, false≢true}
-use mathlib.Core.List.{List}
-use Prim.Native.Nat.{ℕ, _+_, _*_, _/_, _%_, _≤_, _<_, _∣_}
-use native.Mathlib.Nat.{add-mul-mod-self-right, div-eq-of-eq-mul-right, div-le-self, div-lt-self, div-mul-cancel, div-mul-le-self, dvd-mul-right, dvd-of-mod-eq-zero, le-div-iff-mul-le, le-of-lt, lt-of-le-of-lt, mod-add-div', mod-eq-of-lt, mod-eq-zero-of-dvd, mul-le-mul-left, mul-le-mul-right, mul-lt-mul-of-pos-right}
+use Prim.Native.Nat.{ℕ, _+_, _*_, _-_, _/_, _%_, _≤_, _<_, _∣_}
+use native.Mathlib.Nat.{add-mul-mod-self-right, div-eq-of-lt, div-le-of-le-mul, div-le-self, div-mul-cancel, dvd-add, dvd-add-iff-left, dvd-mul-left, dvd-mul-left-of-dvd, dvd-mul-right, dvd-mul-right-of-dvd, le-of-lt, lt-of-le-of-lt, mod-add-div', mod-eq-of-lt, mod-lt, mul-le-mul-left, mul-le-mul-right, mul-lt-mul-of-pos-right}
 use native.Mathlib.Omega.{arith}
-use native.Mathlib.Decide.{decLe, decLt}
-use lib.Dec.{leb, eqb}
-use borrow.Author.Tests.{eqb-true, eq-eqb, leb-true, le-leb}
-use lib.ListN.{length, getD}
-use Rattle.divisors.specs.Small.{limit, SmallDivisor}
-use Rattle.divisors.specs.Inner.Inverted.{wordModulus, quotientBy, isQuotient, InverseAt, DividesBy, FirstAtMost}
-use Rattle.refusal.proofs.Laws.Tests.{both, and-both}
+use native.Mathlib.Decide.{decLe}
+use Rattle.divisors.specs.Inner.Inverted.{halfModulus, tooLarge, lowHalf, highHalf, Inverse, ZeroWhereDivided}
 
 -- the product of two numbers below n
 pub product-below : (n : ℕ) {x y : ℕ} → x < n → y < n → x * y < n * n
 product-below n {x} {y} hx hy = lt-of-le-of-lt (mul-le-mul-left x (le-of-lt hy)) (mul-lt-mul-of-pos-right hx (omega arith))
-
-quotient-is : (p d x : ℕ) → p < wordModulus → d * x % wordModulus ≡ 1 → d ∣ p → quotientBy x p ≡ p / d
-quotient-is p d x fits one h =
-    let q : ℕ = p / d in
-    let c : ℕ = d * x / wordModulus in
-    let whole : q * d ≡ p = div-mul-cancel d h in
-    let product : d * x ≡ 1 + c * wordModulus = omega (arith, mod-add-div' (d * x) wordModulus) in
-    let split : p * x ≡ q + q * c * wordModulus =
-    omega (arith, ap (λ (n : ℕ). n * x) whole, ap (λ (n : ℕ). q * n) product) in
-    ap (λ (n : ℕ). n % wordModulus) split ∙ add-mul-mod-self-right q (q * c) wordModulus ∙ mod-eq-of-lt (lt-of-le-of-lt (div-le-self p d) fits)
 
 -- the other factor of p
 pub cofactor-two : (p d q : ℕ) → d < p → q * d ≡ p → 2 ≤ q
 cofactor-two p d q less e =
     elim (decLe 2 q) [ yes l ↦ l | no l ↦ absurd (omega (arith, mul-le-mul-right {m = q} {n = 1} d (omega arith))) ]
 
--- the quotient of a small divisor
-divisor-quotient : (p d : ℕ) → SmallDivisor p d → isQuotient p (p / d) ≡ true
-unfolding isQuotient
-divisor-quotient p d s =
-    let q : ℕ = p / d in
-    let whole : q * d ≡ p = div-mul-cancel d (s .divides) in
-    let two : 2 ≤ q = cofactor-two p d q (s .less) whole in
-    let back : p / q ≡ d = div-eq-of-eq-mul-right {n = q} (omega arith) (sym whole) in
-    and-both _ _
-    (and-both _ _
-    (le-leb 2 q two)
-    (eq-eqb (p % q) 0 (mod-eq-zero-of-dvd q (subst (λ (n : ℕ). q ∣ n) whole (dvd-mul-right q d)))))
-    (le-leb (p / q) limit (omega (arith, s .high)))
+pub high-half-below : (n x d : ℕ) → highHalf (lowHalf n x) d ≤ d
+high-half-below n x d = div-le-of-le-mul halfModulus (mul-le-mul-right {m = lowHalf n x} {n = halfModulus} d (le-of-lt (mod-lt (n * x) (omega arith))))
 
--- and back, where the divisor is at least 2
-quotient-divisor : (p q : ℕ) → 2 * q ≤ p → isQuotient p q ≡ true → SmallDivisor p (p / q)
-unfolding isQuotient
-quotient-divisor p q half e =
-    let tests : (leb 2 q && eqb (p % q) 0 ≡ true) × (leb (p / q) limit ≡ true) = both _ _ e in
-    let first : (leb 2 q ≡ true) × (eqb (p % q) 0 ≡ true) = both _ _ (tests .0) in
-    let two : 2 ≤ q = leb-true 2 q (first .0) in
-    let whole : p / q * q ≡ p = div-mul-cancel q (dvd-of-mod-eq-zero q (eqb-true (p % q) 0 (first .1))) in
-    record {
-      low = le-div-iff-mul-le {k = q} (omega arith) .1 half;
-      high = leb-true (p / q) limit (tests .1);
-      less = div-lt-self (omega arith) (omega arith);
-      divides = subst (λ (n : ℕ). p / q ∣ n) whole (dvd-mul-right (p / q) q);
-    }
+module _ (d x : ℕ) (one : d * x % halfModulus ≡ 1) where
+  abbrev turns : ℕ
+  turns = d * x / halfModulus
 
--- no small divisor has its inverse before place i
-pub record Cleared (xs : List ℕ) (p i : ℕ) : Type 0 where
-  pub none : (j d : ℕ) → j < i → InverseAt xs j d → ¬ (SmallDivisor p d)
+  product : d * x ≡ 1 + turns * halfModulus
+  product = omega (arith, mod-add-div' (d * x) halfModulus)
 
-module _ (xs : List ℕ) (p : ℕ) where
-  pub cleared-start : Cleared xs p 0
-  cleared-start = record { none = λ j d before at s. omega arith }
+  quotient-is : (n : ℕ) → n < halfModulus → d ∣ n → lowHalf n x ≡ n / d
+  quotient-is n small h =
+      let q : ℕ = n / d in
+      let whole : q * d ≡ n = div-mul-cancel d h in
+      let split : n * x ≡ q + q * turns * halfModulus =
+      omega (arith, ap (λ (k : ℕ). k * x) whole, ap (λ (k : ℕ). q * k) product) in
+      ap (λ (k : ℕ). k % halfModulus) split ∙ add-mul-mod-self-right q (q * turns) halfModulus ∙ mod-eq-of-lt (lt-of-le-of-lt (div-le-self n d) small)
 
-  pub cleared-end : (i : ℕ) → length xs ≤ i → Cleared xs p i → DividesBy xs p false
-  cleared-end i all k =
-      record { some = λ e. absurd (false≢true e); none = λ e j d at. k .none j d (omega (arith, at .place)) at }
+  -- d times the product leaves n
+  back : (n : ℕ) → n < halfModulus → lowHalf n x * d % halfModulus ≡ n
+  back n small =
+      let m : ℕ = lowHalf n x in
+      let c : ℕ = n * x / halfModulus in
+      let split : n * x ≡ m + c * halfModulus = sym (mod-add-div' (n * x) halfModulus) in
+      let both : m * d + c * d * halfModulus ≡ n + n * turns * halfModulus =
+      omega (arith, ap (λ (k : ℕ). k * d) split, ap (λ (k : ℕ). n * k) product) in
+      sym (add-mul-mod-self-right (m * d) (c * d) halfModulus)
+      ∙ ap (λ (k : ℕ). k % halfModulus) both
+      ∙ add-mul-mod-self-right n (n * turns) halfModulus
+      ∙ mod-eq-of-lt small
 
-  -- from place i on
-  module _ (i r : ℕ) (f : FirstAtMost xs p i (p / (2 * i + 5)) r) where
-    pub found-divisor : r < length xs → isQuotient p (quotientBy (getD xs r 0) p) ≡ true → DividesBy xs p true
-    found-divisor inside e =
-        let q : ℕ = quotientBy (getD xs r 0) p in
-        let least : q * (2 * i + 5) ≤ p = le-div-iff-mul-le {k = 2 * i + 5} (omega arith) .0 (f .found inside) in
-        record { some = λ t. (p / q, quotient-divisor p q (omega arith) e); none = λ f. absurd (true≢false f) }
+  -- by its halves
+  halves : (n : ℕ) → n < halfModulus → lowHalf n x * d ≡ n + highHalf (lowHalf n x) d * halfModulus
+  halves n small = omega (arith, mod-add-div' (lowHalf n x * d) halfModulus, back n small)
 
-    pub cleared-first : p < wordModulus → Cleared xs p i → Cleared xs p r
-    cleared-first fits k = record { none = none }
-      where
-        none : (j d : ℕ) → j < r → InverseAt xs j d → ¬ (SmallDivisor p d)
-        none j d before at s =
-            elim (decLt j i) [
-              | yes l ↦ k .none j d l at s
-              | no l ↦
-                  let exact : quotientBy (getD xs j 0) p ≡ p / d = quotient-is p d (getD xs j 0) fits (at .one) (s .divides) in
-                  let most : p / d * (2 * i + 5) ≤ p / d * d = mul-le-mul-left (p / d) (omega (arith, at .least)) in
-                  let small : p / d ≤ p / (2 * i + 5) = le-div-iff-mul-le {k = 2 * i + 5} (omega arith) .1 (omega (arith, div-mul-le-self p d)) in
-                  omega (arith, f .above j (omega arith) before)
-            ]
-
-  pub cleared-more : (i : ℕ) → p < wordModulus → Cleared xs p i → isQuotient p (quotientBy (getD xs i 0) p) ≡ false → Cleared xs p (i + 1)
-  cleared-more i fits k e = record { none = none }
+  -- below 2^16
+  small-divided : (n : ℕ) → n < halfModulus → ZeroWhereDivided n d (highHalf (lowHalf n x) d)
+  small-divided n small =
+      record {
+        divides = λ z. subst (λ (k : ℕ). d ∣ k) (exact z) (dvd-mul-left d (lowHalf n x));
+        zero = λ h. div-eq-of-lt (subst (λ (k : ℕ). k < halfModulus) (sym (ap (λ (k : ℕ). k * d) (quotient-is n small h) ∙ div-mul-cancel d h)) small);
+      }
     where
-      here : (d : ℕ) → InverseAt xs i d → ¬ (SmallDivisor p d)
-      here d at s =
-          true≢false
-          (sym (divisor-quotient p d s)
-          ∙ ap (isQuotient p) (sym (quotient-is p d (getD xs i 0) fits (at .one) (s .divides)))
-          ∙ e)
+      exact : highHalf (lowHalf n x) d ≡ 0 → lowHalf n x * d ≡ n
+      exact z = halves n small ∙ rw z (omega arith)
 
-      none : (j d : ℕ) → j < i + 1 → InverseAt xs j d → ¬ (SmallDivisor p d)
-      none j d before at s =
-          elim (decLt j i) [
-            | yes l ↦ k .none j d l at s
-            | no l ↦ let same : j ≡ i = omega arith in here d (subst (λ (n : ℕ). InverseAt xs n d) same at) s
-          ]
+  -- d is coprime to 2^16
+  coprime : (n : ℕ) → d ∣ n * halfModulus → d ∣ n
+  coprime n h =
+      let split : n * x * d ≡ n + turns * (n * halfModulus) = omega (arith, ap (λ (k : ℕ). n * k) product) in
+      dvd-add-iff-left d (dvd-mul-left-of-dvd d h turns) .1 (subst (λ (k : ℕ). d ∣ k) split (dvd-mul-left d (n * x)))
+
+  -- p, and what is left of it times 2^16
+  module _ (p rest m : ℕ) (even : p + d * halfModulus ≡ rest * halfModulus + m * d) where
+    to-rest : d ∣ p → d ∣ rest
+    to-rest h =
+        coprime rest
+        (dvd-add-iff-left d (dvd-mul-left d m) .1
+        (subst (λ (k : ℕ). d ∣ k) even (dvd-add d h (dvd-mul-right d halfModulus))))
+
+    from-rest : d ∣ rest → d ∣ p
+    from-rest h =
+        dvd-add-iff-left d (dvd-mul-right d halfModulus) .1
+        (subst (λ (k : ℕ). d ∣ k) (sym even) (dvd-add d (dvd-mul-right-of-dvd d h halfModulus) (dvd-mul-left d m)))
+
+-- what is left of p
+abbrev pub restOf : ℕ → ℕ → ℕ → ℕ
+restOf p d x = p / halfModulus + d - highHalf (lowHalf (p % halfModulus) x) d
+
+pub large-divided : (p d x : ℕ) → p < tooLarge → Inverse d x → ZeroWhereDivided p d (highHalf (lowHalf (restOf p d x) x) d)
+large-divided p d x fits i =
+    let rest : ℕ = restOf p d x in
+    let m : ℕ = lowHalf (p % halfModulus) x in
+    let low : highHalf m d ≤ d = high-half-below (p % halfModulus) x d in
+    let even : p + d * halfModulus ≡ rest * halfModulus + m * d =
+    omega (arith, halves d x (i .one) (p % halfModulus) (mod-lt p (omega arith)), mod-add-div' p halfModulus) in
+    let small : ZeroWhereDivided rest d (highHalf (lowHalf rest x) d) = small-divided d x (i .one) rest (omega (arith, i .high)) in
+    record {
+      divides = λ z. from-rest d x (i .one) p rest m even (small .divides z);
+      zero = λ h. small .zero (to-rest d x (i .one) p rest m even h);
+    }

@@ -1,6 +1,6 @@
 -- The test for a small divisor says whether there is one: what the search finds above 1 is one, and it finds no less than any.
 use mathlib.Core.Path.{_≡_, refl, sym, _∙_}
-use mathlib.Core.Bool.{Bool, true, false, _&&_, true≢false}
+use mathlib.Core.Bool.{Bool, true, false, _&&_, false≢true, true≢false}
 use Prim.Native.Nat.{ℕ, _-_, _%_, _<_}
 use native.Mathlib.Nat.{dvd-of-mod-eq-zero, mod-eq-zero-of-dvd}
 use native.Mathlib.Omega.{arith}
@@ -42,3 +42,6 @@ pub small-told : (p : ℕ) (found : Bool) → (found ≡ true → (d : ℕ) × S
 small-told p true some none = let s : (d : ℕ) × SmallDivisor p d = some refl in sym (small-test p (s .0) (s .1))
 small-told p false some none =
     sym (test-false (hasSmallDivisor p) (λ e. let s : (d : ℕ) × SmallDivisor p d = small-found p e in none refl (s .0) (s .1)))
+
+pub none-told : (p : ℕ) → ((d : ℕ) → ¬ (SmallDivisor p d)) → false ≡ hasSmallDivisor p
+none-told p none = small-told p false (λ e. absurd (false≢true e)) (λ e. none)

@@ -1,9 +1,12 @@
--- `has_small_divisor` meets its contract: 2 and 3 are tried by themselves, and the table covers every odd number from 5 to 2^14,
--- as antt computes.
-use mathlib.Core.Path.{refl}
+-- `has_small_divisor` meets its contract: 2 and 3 are tried by themselves, and the tables cover the odd numbers from 5 to 4095 and
+-- from 4097 to 2^14, as antt computes. A p below 2^24 has its root in the first.
+use mathlib.Core.Path.{_≡_, refl, sym}
+use Prim.Native.Nat.{_%_}
 use native.Mathlib.Omega.{arith}
 use borrow.Author.Needs.{needs}
-use Rattle.divisors.proofs.Laws.Covering.{dividedBy, covers, told-by-least, none-below-two, none-below-three, told-by-table}
+use Rattle.divisors.proofs.Laws.Small.{small-test, small-told, none-told}
+use Rattle.divisors.proofs.Laws.Inverses.{inverted, inverses}
+use Rattle.divisors.proofs.Laws.Covering.{dividedBy, covers, told-by-least, none-below-two, none-below-three, none-below-five, none-listed, none-past-root, NoneBelow}
 use Rattle.divisors.proofs.has_small_divisor.Statement.{statement}
 use Rattle.divisors.proofs.has_small_divisor.Tie as tie
 
@@ -13,11 +16,54 @@ returns c = told-by-least _ 2 (omega arith) (omega arith) (c .if1 .taken) (none-
 returns-2 : tie.Need-returns-2
 returns-2 c = told-by-least _ 3 (omega arith) (omega arith) (c .if2 .taken) (none-below-three _ (c .before .if1 .left))
 
-returns-3 : tie.Need-returns-3
+has-divisor-among-requires : tie.Need-has-divisor-among-requires
+unfolding inverted
+has-divisor-among-requires c κs = (omega arith, inverses _ _ refl)
+
+returns-5 : tie.Need-returns-5
+returns-5 c = let s = c .before .has-divisor-among .ensures .some (c .if5 .taken) in sym (small-test _ (s .0) (s .1))
+
+-- neither 2 nor a number of the first table divides p
+odd : (c : tie.Else5) → let start = c .before .before .before .before .before .before .before .before in ¬ (start .args .p % 2 ≡ 0)
+odd c = c .before .before .before .before .before .before .before .if1 .left
+
+none-to-4096 : (c : tie.Else5) → let start = c .before .before .before .before .before .before .before .before in NoneBelow (start .args .p) 4097
 unfolding covers dividedBy
-returns-3 c = told-by-table _ (c .before .before .before .if1 .left) (c .before .before .if2 .left) (c .has-divisor-of .ensures) refl
+none-to-4096 c =
+    none-listed _ (odd c) 2046 5 (c .before .has-divisor-among .ensures) (c .if5 .left) refl (omega arith)
+    (none-below-five _ (odd c) (c .before .before .before .before .before .before .if2 .left))
+
+returns-6 : tie.Need-returns-6
+returns-6 c = none-told _ (none-past-root _ 4097 (omega arith) (none-to-4096 (c .before)))
+
+has-divisor-among-requires-2 : tie.Need-has-divisor-among-requires-2
+unfolding inverted
+has-divisor-among-requires-2 c κs = (omega arith, inverses _ _ refl)
+
+returns-7 : tie.Need-returns-7
+unfolding covers dividedBy
+returns-7 c =
+    let a = c .has-divisor-among2 .ensures in
+    let before = c .before .before .before .before in
+    small-told _ _ (a .some)
+    (λ e d s. none-listed _ (odd before) 6144 4097 a e refl (omega arith) (none-to-4096 before) d (omega (arith, s .high)) s)
 
 pub has-small-divisor-spec : {M : Type 1} → statement M
 has-small-divisor-spec =
     tie.close
-    (tie.spec returns returns-2 (λ c. search needs) (λ c κs. search needs) returns-3)
+    (tie.spec
+    returns
+    returns-2
+    (λ c κs. search needs)
+    (λ c. search needs)
+    (λ c κs. search needs)
+    (λ c. search needs)
+    (λ c. search needs)
+    (λ c. search needs)
+    has-divisor-among-requires
+    returns-5
+    returns-6
+    (λ c. search needs)
+    (λ c. search needs)
+    has-divisor-among-requires-2
+    returns-7)

@@ -1,38 +1,43 @@
--- Divisors by their inverses modulo 2^32, for the contracts of inner functions.
+-- Divisors by their inverses modulo 2^16, for the contracts of inner functions.
 use mathlib.Core.Path.{_≡_}
-use mathlib.Core.Bool.{Bool, true, false, _&&_}
+use mathlib.Core.Bool.{Bool, true, false}
 use mathlib.Core.List.{List}
-use Prim.Native.Nat.{ℕ, _+_, _*_, _/_, _%_, _≤_, _<_}
+use Prim.Native.Nat.{ℕ, _*_, _/_, _%_, _≤_, _<_, _∣_}
 use lib.ListN.{length, getD}
-use lib.Dec.{leb, eqb}
 use Rattle.divisors.specs.Small.{limit, SmallDivisor}
 
--- 2^32
-abbrev pub wordModulus : ℕ
-wordModulus = 4294967296
+-- 2^16
+abbrev pub halfModulus : ℕ
+halfModulus = 65536
 
--- p times x modulo 2^32: the quotient, where x is the inverse of d and d divides p
-abbrev pub quotientBy : ℕ → ℕ → ℕ
-quotientBy x p = p * x % wordModulus
+-- 2^28, the first number that is too large for a modulus
+abbrev pub tooLarge : ℕ
+tooLarge = 268435456
 
--- q is at least 2, and what p divided by a number up to 2^14 comes to
-unfoldable pub isQuotient : ℕ → ℕ → Bool
-isQuotient p q = leb 2 q && eqb (p % q) 0 && leb (p / q) limit
+-- the lower and the upper 16 bits of a product
+abbrev pub lowHalf : ℕ → ℕ → ℕ
+lowHalf x y = x * y % halfModulus
 
--- the list has the inverse of d at place j, and d is at least 2 j + 5
-pub record InverseAt (xs : List ℕ) (j d : ℕ) : Type 0 where
-  pub place : j < length xs
-  pub least : 2 * j + 5 ≤ d
-  pub one : d * getD xs j 0 % wordModulus ≡ 1
+abbrev pub highHalf : ℕ → ℕ → ℕ
+highHalf x y = x * y / halfModulus
 
--- where `found`, p has a small divisor; else none whose inverse is in the list
-pub record DividesBy (xs : List ℕ) (p : ℕ) (found : Bool) : Type 0 where
+-- x is the inverse of d, a number from 2 to 2^14
+pub record Inverse (d x : ℕ) : Type 0 where
+  pub low : 2 ≤ d
+  pub high : d ≤ limit
+  pub one : d * x % halfModulus ≡ 1
+
+-- xs are the inverses of ds
+pub record Inverses (ds xs : List ℕ) : Type 0 where
+  pub same : length xs ≡ length ds
+  pub each : (j : ℕ) → j < length ds → Inverse (getD ds j 0) (getD xs j 0)
+
+-- r is zero where d divides p, and only there
+pub record ZeroWhereDivided (p d r : ℕ) : Type 0 where
+  pub divides : r ≡ 0 → d ∣ p
+  pub zero : d ∣ p → r ≡ 0
+
+-- where `found`, p has a small divisor; else none of ds divides it
+pub record DividedByOne (ds : List ℕ) (p : ℕ) (found : Bool) : Type 0 where
   pub some : found ≡ true → (d : ℕ) × SmallDivisor p d
-  pub none : found ≡ false → (j d : ℕ) → InverseAt xs j d → ¬ (SmallDivisor p d)
-
--- r is the first place from `from` on whose quotient is at most `most`, or the length
-pub record FirstAtMost (xs : List ℕ) (p from most r : ℕ) : Type 0 where
-  pub low : from ≤ r
-  pub high : r ≤ length xs
-  pub above : (j : ℕ) → from ≤ j → j < r → most < quotientBy (getD xs j 0) p
-  pub found : r < length xs → quotientBy (getD xs r 0) p ≤ most
+  pub none : found ≡ false → (j : ℕ) → j < length ds → ¬ (getD ds j 0 ∣ p)
