@@ -4,7 +4,7 @@ mod table;
 ghost use mathlib.Core.Path.{_≡_};
 ghost use Prim.Native.Nat.{_%_, _<_};
 ghost use Rattle.divisors.specs.Small.{limit, hasSmallDivisor};
-ghost use Rattle.divisors.specs.Inner.Inverted.{lowHalf, highHalf, tooLarge, Inverse, Inverses, ZeroWhereDivided, DividedByOne};
+ghost use Rattle.divisors.specs.Inner.Inverted.{tooLarge, carryOf, Inverse, Inverses, ZeroWhereDivided, DividedByOne};
 use table::INVERSES_FROM_4096;
 use table::INVERSES_TO_4096;
 use table::PRIMES_FROM_4096;
@@ -56,8 +56,7 @@ fn has_divisor_among(p: u32, primes: &[u16], inverses: &[u16]) -> bool
     least == 0
 }
 
-// Zero where d divides p, and only there. p and 2^16 times `rest` differ by a multiple of d, so d divides both or neither. Where it
-// divides `rest`, which is below 2^16, `rest` times the inverse is the quotient, and d times that has no upper half.
+// Zero where d divides p, and only there. p and 2^16 times `rest` differ by a multiple of d, so d divides both or neither.
 fn excess(p: u32, d: u16, inverse: u16) -> u16
     requires { ⌜ p < tooLarge ⌝ }
     requires { ⌜ Inverse d inverse ⌝ }
@@ -65,22 +64,16 @@ fn excess(p: u32, d: u16, inverse: u16) -> u16
 {
     let low = (p % 65536) as u16;
     let high = (p / 65536) as u16;
-    let rest = high + d - high_half(low_half(low, inverse), d);
-    high_half(low_half(rest, inverse), d)
+    let rest = high + d - carry(low, d, inverse);
+    carry(rest, d, inverse)
 }
 
-// The lower 16 bits of a product.
-fn low_half(x: u16, y: u16) -> u16
-    ensures { λ r. ⌜ r ≡ lowHalf x y ⌝ }
+// d times n times the inverse of d, of which the latter is taken modulo 2^16, leaves n: what it has besides, in units of 2^16.
+fn carry(n: u16, d: u16, inverse: u16) -> u16
+    ensures { λ r. ⌜ r ≡ carryOf n d inverse ⌝ }
 {
-    ((x as u32) * (y as u32) % 65536) as u16
-}
-
-// The upper 16 bits of a product.
-fn high_half(x: u16, y: u16) -> u16
-    ensures { λ r. ⌜ r ≡ highHalf x y ⌝ }
-{
-    ((x as u32) * (y as u32) / 65536) as u16
+    let quotient = (n as u32) * (inverse as u32) % 65536;
+    (quotient * (d as u32) / 65536) as u16
 }
 
 // By division, of a p that neither 2 nor 3 divides: for those that no modulus can be, or that are soon done.

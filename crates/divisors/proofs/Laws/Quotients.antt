@@ -7,7 +7,7 @@ use Prim.Native.Nat.{ℕ, _+_, _*_, _-_, _/_, _%_, _≤_, _<_, _∣_}
 use native.Mathlib.Nat.{add-mul-mod-self-right, div-eq-of-lt, div-le-of-le-mul, div-le-self, div-mul-cancel, dvd-add, dvd-add-iff-left, dvd-mul-left, dvd-mul-left-of-dvd, dvd-mul-right, dvd-mul-right-of-dvd, le-of-lt, lt-of-le-of-lt, mod-add-div', mod-eq-of-lt, mod-lt, mul-le-mul-left, mul-le-mul-right, mul-lt-mul-of-pos-right}
 use native.Mathlib.Omega.{arith}
 use native.Mathlib.Decide.{decLe}
-use Rattle.divisors.specs.Inner.Inverted.{halfModulus, tooLarge, lowHalf, highHalf, Inverse, ZeroWhereDivided}
+use Rattle.divisors.specs.Inner.Inverted.{halfModulus, tooLarge, quotientBy, carryOf, Inverse, ZeroWhereDivided}
 
 -- the product of two numbers below n
 pub product-below : (n : ℕ) {x y : ℕ} → x < n → y < n → x * y < n * n
@@ -18,8 +18,8 @@ pub cofactor-two : (p d q : ℕ) → d < p → q * d ≡ p → 2 ≤ q
 cofactor-two p d q less e =
     elim (decLe 2 q) [ yes l ↦ l | no l ↦ absurd (omega (arith, mul-le-mul-right {m = q} {n = 1} d (omega arith))) ]
 
-pub high-half-below : (n x d : ℕ) → highHalf (lowHalf n x) d ≤ d
-high-half-below n x d = div-le-of-le-mul halfModulus (mul-le-mul-right {m = lowHalf n x} {n = halfModulus} d (le-of-lt (mod-lt (n * x) (omega arith))))
+pub carry-at-most : (n x d : ℕ) → carryOf n d x ≤ d
+carry-at-most n x d = div-le-of-le-mul halfModulus (mul-le-mul-right {m = quotientBy x n} {n = halfModulus} d (le-of-lt (mod-lt (n * x) (omega arith))))
 
 module _ (d x : ℕ) (one : d * x % halfModulus ≡ 1) where
   abbrev turns : ℕ
@@ -28,7 +28,7 @@ module _ (d x : ℕ) (one : d * x % halfModulus ≡ 1) where
   product : d * x ≡ 1 + turns * halfModulus
   product = omega (arith, mod-add-div' (d * x) halfModulus)
 
-  quotient-is : (n : ℕ) → n < halfModulus → d ∣ n → lowHalf n x ≡ n / d
+  quotient-is : (n : ℕ) → n < halfModulus → d ∣ n → quotientBy x n ≡ n / d
   quotient-is n small h =
       let q : ℕ = n / d in
       let whole : q * d ≡ n = div-mul-cancel d h in
@@ -37,9 +37,9 @@ module _ (d x : ℕ) (one : d * x % halfModulus ≡ 1) where
       ap (λ (k : ℕ). k % halfModulus) split ∙ add-mul-mod-self-right q (q * turns) halfModulus ∙ mod-eq-of-lt (lt-of-le-of-lt (div-le-self n d) small)
 
   -- d times the product leaves n
-  back : (n : ℕ) → n < halfModulus → lowHalf n x * d % halfModulus ≡ n
+  back : (n : ℕ) → n < halfModulus → quotientBy x n * d % halfModulus ≡ n
   back n small =
-      let m : ℕ = lowHalf n x in
+      let m : ℕ = quotientBy x n in
       let c : ℕ = n * x / halfModulus in
       let split : n * x ≡ m + c * halfModulus = sym (mod-add-div' (n * x) halfModulus) in
       let both : m * d + c * d * halfModulus ≡ n + n * turns * halfModulus =
@@ -50,18 +50,18 @@ module _ (d x : ℕ) (one : d * x % halfModulus ≡ 1) where
       ∙ mod-eq-of-lt small
 
   -- by its halves
-  halves : (n : ℕ) → n < halfModulus → lowHalf n x * d ≡ n + highHalf (lowHalf n x) d * halfModulus
-  halves n small = omega (arith, mod-add-div' (lowHalf n x * d) halfModulus, back n small)
+  halves : (n : ℕ) → n < halfModulus → quotientBy x n * d ≡ n + carryOf n d x * halfModulus
+  halves n small = omega (arith, mod-add-div' (quotientBy x n * d) halfModulus, back n small)
 
   -- below 2^16
-  small-divided : (n : ℕ) → n < halfModulus → ZeroWhereDivided n d (highHalf (lowHalf n x) d)
+  small-divided : (n : ℕ) → n < halfModulus → ZeroWhereDivided n d (carryOf n d x)
   small-divided n small =
       record {
-        divides = λ z. subst (λ (k : ℕ). d ∣ k) (exact z) (dvd-mul-left d (lowHalf n x));
+        divides = λ z. subst (λ (k : ℕ). d ∣ k) (exact z) (dvd-mul-left d (quotientBy x n));
         zero = λ h. div-eq-of-lt (subst (λ (k : ℕ). k < halfModulus) (sym (ap (λ (k : ℕ). k * d) (quotient-is n small h) ∙ div-mul-cancel d h)) small);
       }
     where
-      exact : highHalf (lowHalf n x) d ≡ 0 → lowHalf n x * d ≡ n
+      exact : carryOf n d x ≡ 0 → quotientBy x n * d ≡ n
       exact z = halves n small ∙ rw z (omega arith)
 
   -- d is coprime to 2^16
@@ -85,16 +85,16 @@ module _ (d x : ℕ) (one : d * x % halfModulus ≡ 1) where
 
 -- what is left of p
 abbrev pub restOf : ℕ → ℕ → ℕ → ℕ
-restOf p d x = p / halfModulus + d - highHalf (lowHalf (p % halfModulus) x) d
+restOf p d x = p / halfModulus + d - carryOf (p % halfModulus) d x
 
-pub large-divided : (p d x : ℕ) → p < tooLarge → Inverse d x → ZeroWhereDivided p d (highHalf (lowHalf (restOf p d x) x) d)
+pub large-divided : (p d x : ℕ) → p < tooLarge → Inverse d x → ZeroWhereDivided p d (carryOf (restOf p d x) d x)
 large-divided p d x fits i =
     let rest : ℕ = restOf p d x in
-    let m : ℕ = lowHalf (p % halfModulus) x in
-    let low : highHalf m d ≤ d = high-half-below (p % halfModulus) x d in
+    let m : ℕ = quotientBy x (p % halfModulus) in
+    let low : carryOf (p % halfModulus) d x ≤ d = carry-at-most (p % halfModulus) x d in
     let even : p + d * halfModulus ≡ rest * halfModulus + m * d =
     omega (arith, halves d x (i .one) (p % halfModulus) (mod-lt p (omega arith)), mod-add-div' p halfModulus) in
-    let small : ZeroWhereDivided rest d (highHalf (lowHalf rest x) d) = small-divided d x (i .one) rest (omega (arith, i .high)) in
+    let small : ZeroWhereDivided rest d (carryOf rest d x) = small-divided d x (i .one) rest (omega (arith, i .high)) in
     record {
       divides = λ z. from-rest d x (i .one) p rest m even (small .divides z);
       zero = λ h. small .zero (to-rest d x (i .one) p rest m even h);

@@ -14,12 +14,13 @@ halfModulus = 65536
 abbrev pub tooLarge : ℕ
 tooLarge = 268435456
 
--- the lower and the upper 16 bits of a product
-abbrev pub lowHalf : ℕ → ℕ → ℕ
-lowHalf x y = x * y % halfModulus
+-- n times x modulo 2^16: the quotient, where x is the inverse of d and d divides n
+abbrev pub quotientBy : ℕ → ℕ → ℕ
+quotientBy x n = n * x % halfModulus
 
-abbrev pub highHalf : ℕ → ℕ → ℕ
-highHalf x y = x * y / halfModulus
+-- the upper half of d times that, of which the lower half is n
+abbrev pub carryOf : ℕ → ℕ → ℕ → ℕ
+carryOf n d x = quotientBy x n * d / halfModulus
 
 -- x is the inverse of d, a number from 2 to 2^14
 pub record Inverse (d x : ℕ) : Type 0 where
