@@ -19,7 +19,7 @@ pub fn product(x: u32, y: u32, m: u32) -> u32
 }
 
 // From here on the table of small divisors takes less time than the divisions it stands for.
-const TABLE_FROM: u32 = 1048576;
+const TABLE_FROM: u32 = 65536;
 
 // Whether p is prime: 2 and 3, then each 6i - 1 and 6i + 1 up to the square root, of which the table has those up to 2^14.
 pub fn is_prime(p: u32) -> bool
