@@ -1,4 +1,4 @@
-// Whether a small number divides p: a division by each is four products of 16 bits, and a processor makes eight of those at once.
+// Whether a small number divides p. Four products of 16 bits tell it of one number, and a processor makes eight of those at once.
 mod table;
 
 ghost use mathlib.Core.Path.{_≡_};
@@ -20,7 +20,7 @@ pub fn has_small_divisor(p: u32) -> bool
     if p % 3 == 0 {
         return 3 < p;
     }
-    // A p this small can be a prime of the tables. From 2^28 on p is no modulus, and what `excess` adds can be too large.
+    // A p this small can be a prime of the tables; and from 2^28 on, where no modulus is, `excess` can have too large a sum.
     if p <= 16384 {
         return has_divisor_from_5(p);
     }
@@ -56,7 +56,8 @@ fn has_divisor_among(p: u32, primes: &[u16], inverses: &[u16]) -> bool
     least == 0
 }
 
-// Zero where d divides p, and only there. p and 2^16 times `rest` differ by a multiple of d, so d divides both or neither.
+// Zero where d divides p, and only there. p and 2^16 times `rest` differ by a multiple of d, so d divides both or neither; and
+// `rest` is below 2^16, so that d divides it only where no upper half is left.
 fn excess(p: u32, d: u16, inverse: u16) -> u16
     requires { ⌜ p < tooLarge ⌝ }
     requires { ⌜ Inverse d inverse ⌝ }
@@ -68,7 +69,7 @@ fn excess(p: u32, d: u16, inverse: u16) -> u16
     carry(rest, d, inverse)
 }
 
-// d times n times the inverse of d, of which the latter is taken modulo 2^16, leaves n: what it has besides, in units of 2^16.
+// n times the inverse, modulo 2^16, is the quotient where d divides n. d times that has n for its lower half; this is the upper one.
 fn carry(n: u16, d: u16, inverse: u16) -> u16
     ensures { λ r. ⌜ r ≡ carryOf n d inverse ⌝ }
 {
@@ -76,7 +77,7 @@ fn carry(n: u16, d: u16, inverse: u16) -> u16
     (quotient * (d as u32) / 65536) as u16
 }
 
-// By division, of a p that neither 2 nor 3 divides: for those that no modulus can be, or that are soon done.
+// The same by division, where neither 2 nor 3 divides p.
 fn has_divisor_from_5(p: u32) -> bool
     requires { ⌜ (¬ (p % 2 ≡ 0)) × (¬ (p % 3 ≡ 0)) ⌝ }
     ensures { λ r. ⌜ r ≡ hasSmallDivisor p ⌝ }

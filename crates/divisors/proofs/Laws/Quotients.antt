@@ -1,7 +1,7 @@
--- A quotient is a product: where d divides n and d x leaves 1 modulo 2^16, n x = (n / d) d x leaves n / d. So d divides a number
--- below 2^16 just where d times that product, which leaves the number, is no larger than it.
--- A larger p is brought down to one: d m leaves its lower half, for m that half times x, so p and d m differ by a multiple of 2^16,
--- to which d is coprime.
+-- A quotient is a product: where d divides n and d x leaves 1 modulo 2^16, n x = (n / d) d x leaves n / d. So d divides a number n
+-- below 2^16 just where d times what n x leaves is n, and not n and some multiple of 2^16 besides.
+-- A larger p is brought down to such a number: with m for what its lower half times x leaves, p and d m differ by a multiple of
+-- 2^16, to which d is coprime.
 use mathlib.Core.Path.{_≡_, sym, _∙_, ap, subst}
 use Prim.Native.Nat.{ℕ, _+_, _*_, _-_, _/_, _%_, _≤_, _<_, _∣_}
 use native.Mathlib.Nat.{add-mul-mod-self-right, div-eq-of-lt, div-le-of-le-mul, div-le-self, div-mul-cancel, dvd-add, dvd-add-iff-left, dvd-mul-left, dvd-mul-left-of-dvd, dvd-mul-right, dvd-mul-right-of-dvd, le-of-lt, lt-of-le-of-lt, mod-add-div', mod-eq-of-lt, mod-lt, mul-le-mul-left, mul-le-mul-right, mul-lt-mul-of-pos-right}
@@ -18,6 +18,7 @@ pub cofactor-two : (p d q : ℕ) → d < p → q * d ≡ p → 2 ≤ q
 cofactor-two p d q less e =
     elim (decLe 2 q) [ yes l ↦ l | no l ↦ absurd (omega (arith, mul-le-mul-right {m = q} {n = 1} d (omega arith))) ]
 
+-- m d is below 2^16 d
 pub carry-at-most : (n x d : ℕ) → carryOf n d x ≤ d
 carry-at-most n x d = div-le-of-le-mul halfModulus (mul-le-mul-right {m = quotientBy x n} {n = halfModulus} d (le-of-lt (mod-lt (n * x) (omega arith))))
 
@@ -28,6 +29,7 @@ module _ (d x : ℕ) (one : d * x % halfModulus ≡ 1) where
   product : d * x ≡ 1 + turns * halfModulus
   product = omega (arith, mod-add-div' (d * x) halfModulus)
 
+  -- where d divides n
   quotient-is : (n : ℕ) → n < halfModulus → d ∣ n → quotientBy x n ≡ n / d
   quotient-is n small h =
       let q : ℕ = n / d in
