@@ -2,18 +2,14 @@
 -- behind it don't stay in it either; where it doesn't, they go on from where it leads.
 use mathlib.Core.Path.{_≡_, refl, sym, ap, ap₂, _∙_}
 use mathlib.Core.Bool.{true, false, _&&_, true≢false}
-use mathlib.Core.List.{List, [], _∷_}
-use Prim.Native.Nat.{ℕ, zero, suc, _+_, _≤_, _<_}
+use mathlib.Core.List.{List, _∷_}
+use Prim.Native.Nat.{ℕ, suc, _+_, _≤_, _<_}
 use native.Mathlib.Omega.{arith}
-use lib.Dec.{eqb}
 use lib.IntN.{ℤ}
-use lib.ListN.{length, getD, take, drop, drop-of-length-le}
+use lib.ListN.{length, getD, drop, drop-of-length-le}
 use lib.Seq.{drop-cons}
-use borrow.Author.Tests.{eqb-true}
-use Rattle.refusal.proofs.Laws.Tests.{test-false, both}
+use Rattle.refusal.proofs.Laws.Tests.{test-false}
 use Rattle.tape.specs.declared.Step.{Step}
-use Rattle.tape.specs.Words.{decoded}
-use Rattle.tape.specs.Layout.{sortOf, allSteps}
 use Rattle.machine.specs.Exponents.{shift, shiftAll, startExponents, inRange, allInRange, staysInRange, makesInRange, shiftInRange}
 use Rattle.machine.proofs.Laws.Ranges.{stays-first}
 use Rattle.machine.proofs.Laws.Sums.{step-range}

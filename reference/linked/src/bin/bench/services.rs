@@ -54,9 +54,9 @@ pub static SERVICES: &[Service] = &[
     service("listing", NAMED, false, PROGRAM, listing),
     service("inverse", NONE, false, "inverse", inverse),
     service("places", NONE, false, "forms", places),
-    service("number", NONE, false, "weights", number),
+    service("number", NONE, false, "", number),
     service("G", NONE, false, "G", hofstadter),
-    service("fibonacci", NONE, false, "weights", fibonacci),
+    service("fibonacci", NONE, false, "", fibonacci),
 ];
 
 fn build(inputs: &Inputs, variant: u32) -> Pair<'_> {
