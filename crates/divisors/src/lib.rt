@@ -4,7 +4,7 @@ mod table;
 ghost use mathlib.Core.Path.{_≡_};
 ghost use Prim.Native.Nat.{_%_, _<_};
 ghost use Rattle.divisors.specs.Small.{limit, hasSmallDivisor};
-ghost use Rattle.divisors.specs.Inner.Inverted.{tooLarge, carryOf, Inverse, Inverses, ZeroWhereDivided, DividedByOne};
+ghost use Rattle.divisors.specs.Inner.Inverted.{NoneBelow, tooLarge, carryOf, Inverse, Inverses, ZeroWhereDivided, DividedByOne};
 use table::INVERSES_FROM_4096;
 use table::INVERSES_TO_4096;
 use table::PRIMES_FROM_4096;
@@ -34,6 +34,16 @@ pub fn has_small_divisor(p: u32) -> bool
     if p < 16777216 {
         return false;
     }
+    has_divisor_from_4097(p)
+}
+
+// The same by the second table, where the first has no divisor: in a function of its own, since a constant that is lent is written
+// out where its function begins.
+fn has_divisor_from_4097(p: u32) -> bool
+    requires { ⌜ (limit < p) × (p < tooLarge) ⌝ }
+    requires { ⌜ (¬ (p % 2 ≡ 0)) × NoneBelow p 4097 ⌝ }
+    ensures { λ r. ⌜ r ≡ hasSmallDivisor p ⌝ }
+{
     has_divisor_among(p, &PRIMES_FROM_4096, &INVERSES_FROM_4096)
 }
 

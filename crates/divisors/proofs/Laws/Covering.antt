@@ -11,7 +11,7 @@ use lib.Dec.{eqb, ltb}
 use lib.ListN.{length, getD}
 use borrow.Author.Tests.{eqb-true, ltb-true, ltb-false}
 use Rattle.divisors.specs.Small.{limit, SmallDivisor, hasSmallDivisor}
-use Rattle.divisors.specs.Inner.Inverted.{DividedByOne}
+use Rattle.divisors.specs.Inner.Inverted.{NoneBelow, DividedByOne}
 use Rattle.refusal.proofs.Laws.Tests.{by-test, both}
 use Rattle.divisors.proofs.Laws.Quotients.{cofactor-two}
 use Rattle.divisors.proofs.Laws.Small.{small-told}
@@ -34,10 +34,6 @@ covers fs (suc n) e (d ∷ ds) =
 -- the odd primes up to the root of 2^14
 abbrev pub oddPrimes : List ℕ
 oddPrimes = 3 ∷ 5 ∷ 7 ∷ 11 ∷ 13 ∷ 17 ∷ 19 ∷ 23 ∷ 29 ∷ 31 ∷ 37 ∷ 41 ∷ 43 ∷ 47 ∷ 53 ∷ 59 ∷ 61 ∷ 67 ∷ 71 ∷ 73 ∷ 79 ∷ 83 ∷ 89 ∷ 97 ∷ 101 ∷ 103 ∷ 107 ∷ 109 ∷ 113 ∷ 127 ∷ []
-
--- no small divisor of p is below e
-abbrev pub NoneBelow : ℕ → ℕ → Type 0
-NoneBelow p e = (d : ℕ) → d < e → ¬ (SmallDivisor p d)
 
 -- none of the list divides p
 abbrev NoneListed : ℕ → List ℕ → Type 0

@@ -3,8 +3,9 @@ use mathlib.Core.Path.{_≡_, sym}
 use Prim.Native.Nat.{_-_, _%_, _≤_}
 use native.Mathlib.Nat.{dvd-of-mod-eq-zero, mod-eq-zero-of-dvd}
 use native.Mathlib.Omega.{arith}
+use Rattle.divisors.specs.Inner.Inverted.{NoneBelow}
 use Rattle.divisors.proofs.Laws.Small.{small-test, none-told}
-use Rattle.divisors.proofs.Laws.Covering.{NoneBelow, none-below-five, past}
+use Rattle.divisors.proofs.Laws.Covering.{none-below-five, past}
 use Rattle.divisors.proofs.has_divisor_from_5.Statement.{statement}
 use Rattle.divisors.proofs.has_divisor_from_5.Tie as tie
 

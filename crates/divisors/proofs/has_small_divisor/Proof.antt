@@ -1,12 +1,13 @@
--- `has_small_divisor` meets its contract: 2 and 3 are tried by themselves, and the tables cover the odd numbers from 5 to 4095 and
--- from 4097 to 2^14, as antt computes. A p below 2^24 has its root in the first.
+-- `has_small_divisor` meets its contract: 2 and 3 are tried by themselves, and the first table covers the odd numbers from 5 to
+-- 4095, as antt computes. A p below 2^24 has its root among them.
 use mathlib.Core.Path.{_≡_, refl, sym}
 use Prim.Native.Nat.{_%_}
 use native.Mathlib.Omega.{arith}
 use borrow.Author.Needs.{needs}
-use Rattle.divisors.proofs.Laws.Small.{small-test, small-told, none-told}
+use Rattle.divisors.specs.Inner.Inverted.{NoneBelow}
+use Rattle.divisors.proofs.Laws.Small.{small-test, none-told}
 use Rattle.divisors.proofs.Laws.Inverses.{inverted, inverses}
-use Rattle.divisors.proofs.Laws.Covering.{dividedBy, covers, told-by-least, none-below-two, none-below-three, none-below-five, none-listed, none-past-root, NoneBelow}
+use Rattle.divisors.proofs.Laws.Covering.{dividedBy, covers, told-by-least, none-below-two, none-below-three, none-below-five, none-listed, none-past-root}
 use Rattle.divisors.proofs.has_small_divisor.Statement.{statement}
 use Rattle.divisors.proofs.has_small_divisor.Tie as tie
 
@@ -36,17 +37,8 @@ none-to-4096 c =
 returns-6 : tie.Need-returns-6
 returns-6 c = none-told _ (none-past-root _ 4097 (omega arith) (none-to-4096 (c .before)))
 
-has-divisor-among-requires-2 : tie.Need-has-divisor-among-requires-2
-unfolding inverted
-has-divisor-among-requires-2 c κs = (omega arith, inverses _ _ refl)
-
-returns-7 : tie.Need-returns-7
-unfolding covers dividedBy
-returns-7 c =
-    let a = c .has-divisor-among2 .ensures in
-    let before = c .before .before .before .before in
-    small-told _ _ (a .some)
-    (λ e d s. none-listed _ (odd before) 6144 4097 a e refl (omega arith) (none-to-4096 before) d (omega (arith, s .high)) s)
+has-divisor-from-4097-requires : tie.Need-has-divisor-from-4097-requires
+has-divisor-from-4097-requires c κs = ((omega arith, omega arith), (odd (c .before), none-to-4096 (c .before)))
 
 pub has-small-divisor-spec : {M : Type 1} → statement M
 has-small-divisor-spec =
@@ -63,7 +55,5 @@ has-small-divisor-spec =
     has-divisor-among-requires
     returns-5
     returns-6
-    (λ c. search needs)
-    (λ c. search needs)
-    has-divisor-among-requires-2
-    returns-7)
+    has-divisor-from-4097-requires
+    (λ c. search needs))

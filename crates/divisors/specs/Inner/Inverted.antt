@@ -6,6 +6,10 @@ use Prim.Native.Nat.{ℕ, _*_, _/_, _%_, _≤_, _<_, _∣_}
 use lib.ListN.{length, getD}
 use Rattle.divisors.specs.Small.{limit, SmallDivisor}
 
+-- no small divisor of p is below e
+abbrev pub NoneBelow : ℕ → ℕ → Type 0
+NoneBelow p e = (d : ℕ) → d < e → ¬ (SmallDivisor p d)
+
 -- 2^16
 abbrev pub halfModulus : ℕ
 halfModulus = 65536
