@@ -57,20 +57,20 @@ pub(crate) fn step_in(word: u32) -> Step
     }
 }
 
-// The step that a word has in its digits. A run asks it of the words of an accepted tape, where it is their meaning, and tells it by
-// arithmetic alone.
+// The step that a word has in its digits, told by arithmetic alone. A run and a trace ask it of the words of an accepted tape, where it
+// is their meaning.
 pub fn operation_of(word: u32) -> Operation
     ensures { λ op. ⌜ stepFor op ≡ rawStep word ⌝ }
 {
     Operation {
-        kind: step_number(word / NUMBER_LIMIT),
+        opcode: opcode_of(word / NUMBER_LIMIT),
         target: word % REGISTERS,
         source: word / REGISTERS % REGISTERS,
     }
 }
 
 // The kinds from 5 on, counted from 0.
-fn step_number(kind: u32) -> u32
+fn opcode_of(kind: u32) -> u32
     ensures { λ n. ⌜ n ≡ kind - 5 ⌝ }
 {
     if kind < 5 {

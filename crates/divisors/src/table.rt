@@ -1131,7 +1131,7 @@ pub(crate) const INVERSES_TO_4096: [u16; 562] = [
 ];
 
 // The 1336 primes from 4099 to 16381.
-pub(crate) const PRIMES_FROM_4096: [u16; 1336] = [
+pub(crate) const PRIMES_FROM_4097: [u16; 1336] = [
     4099,
     4111,
     4127,
@@ -2471,7 +2471,7 @@ pub(crate) const PRIMES_FROM_4096: [u16; 1336] = [
 ];
 
 // Their inverses modulo 2^16, in the same order.
-pub(crate) const INVERSES_FROM_4096: [u16; 1336] = [
+pub(crate) const INVERSES_FROM_4097: [u16; 1336] = [
     6827,
     57071,
     27615,

@@ -30,10 +30,10 @@ pub fn shift(exponents: &mut [i64], op: Operation) -> bool
     ensures { λ inside. ⌜ inside ≡ makesInRange (stepFor op) (now (exponents .entry)) ⌝ }
     ensures { λ _. ⌜ now (exponents .exit) ≡ shiftInRange (stepFor op) (now (exponents .entry)) ⌝ }
 {
-    if op.kind == 0 {
+    if op.opcode == 0 {
         return add(exponents, op.target, op.source);
     }
-    if op.kind == 1 {
+    if op.opcode == 1 {
         return subtract(exponents, op.target, op.source);
     }
     exchange(exponents, op.target, op.source)

@@ -8,12 +8,12 @@ ghost use Rattle.fibonacci.specs.Services.{fibonacciOrZero, fibonacciOutcome};
 use refusal::NumberAnswer;
 use refusal::Refusal;
 
-// F_47, F_48 and half of L_48.
-const SHORT: u64 = 2971215073;
+const F_47: u64 = 2971215073;
 
-const LONG: u64 = 4807526976;
+const F_48: u64 = 4807526976;
 
-const HALF_LUCAS: u64 = 5374978561;
+// Half of L_48.
+const HALF_L_48: u64 = 5374978561;
 
 // Two neighbouring Fibonacci numbers.
 struct Neighbours(u64, u64);
@@ -29,14 +29,14 @@ pub fn fibonacci(index: u32) -> NumberAnswer
 }
 
 // Hofstadter's G: n + 1 divided by the golden ratio, rounded down. F_48 / F_47 in the ratio's place gives the same or one more, and the
-// remainder tells which (Laws/Quotients of `fibonacci`). Where n + 1 would not fit, its parts do.
+// remainder tells which (Laws/Quotients of `fibonacci`). n + 1 isn't made, since it can be 2^64: n - n / 2 is half of it, rounded down.
 pub fn hofstadter(n: u64) -> u64
     ensures { λ r. ⌜ r ≡ G n ⌝ }
 {
-    let part = (n % LONG + 1) * SHORT;
-    let quotient = n / LONG * SHORT + part / LONG;
+    let part = (n % F_48 + 1) * F_47;
+    let quotient = n / F_48 * F_47 + part / F_48;
     let half = n - n / 2;
-    if part % LONG <= half / HALF_LUCAS {
+    if part % F_48 <= half / HALF_L_48 {
         return quotient - 1;
     }
     quotient

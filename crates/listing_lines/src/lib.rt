@@ -30,6 +30,12 @@ const K: [u8; 2] = *b"k=";
 
 const STEPS: [u8; 6] = *b"steps=";
 
+const MUL: [u8; 3] = *b"mul";
+
+const DIV: [u8; 3] = *b"div";
+
+const SWP: [u8; 3] = *b"swp";
+
 // The line of a refusal, with its number.
 pub fn refused_line(buffer: &mut [u8], at: usize, n: u32) -> usize
     ensures { λ next. ⌜ Put (now (buffer .entry)) at (refusedLine n) next (now (buffer .exit)) ⌝ }
@@ -70,13 +76,13 @@ fn step_line(buffer: &mut [u8], at: usize, n: u64, step: Step) -> usize
     let b = put_count(buffer, at, n);
     let c = put_byte(buffer, b, BLANK);
     match step {
-        Step::Mul(target, source) => named_pair(buffer, c, b'm', b'u', b'l', target, source),
-        Step::Div(target, source) => named_pair(buffer, c, b'd', b'i', b'v', target, source),
-        Step::Swp(target, source) => named_pair(buffer, c, b's', b'w', b'p', target, source),
+        Step::Mul(target, source) => put_rest(buffer, c, MUL, target, source),
+        Step::Div(target, source) => put_rest(buffer, c, DIV, target, source),
+        Step::Swp(target, source) => put_rest(buffer, c, SWP, target, source),
     }
 }
 
-// A step's number. A tape's are of up to three digits, which are put one by one: a row for them costs more than they do.
+// A step's number. A tape's are of up to three digits: a buffer for so few bytes costs more than putting them one by one.
 fn put_count(buffer: &mut [u8], at: usize, n: u64) -> usize
     ensures { λ next. ⌜ Put (now (buffer .entry)) at (decimal n) next (now (buffer .exit)) ⌝ }
 {
@@ -96,33 +102,25 @@ fn put_count(buffer: &mut [u8], at: usize, n: u64) -> usize
     put_number(buffer, at, n)
 }
 
-// The rest of a step's line: the three letters of its name, target and source, which are one digit each.
-fn named_pair(
-    buffer: &mut [u8],
-    at: usize,
-    first: u8,
-    second: u8,
-    third: u8,
-    target: u32,
-    source: u32,
-) -> usize
+// The rest of a step's line: its name, target and source, which are one digit each.
+fn put_rest(buffer: &mut [u8], at: usize, name: [u8; 3], target: u32, source: u32) -> usize
     requires { ⌜ Distinct target source ⌝ }
-    ensures { λ next. ⌜ Put (now (buffer .entry)) at (line ((first ∷ second ∷ third ∷ []) ∷ decimal target ∷ decimal source ∷ [])) next (now (buffer .exit)) ⌝ }
+    ensures { λ next. ⌜ Put (now (buffer .entry)) at (line (name ∷ decimal target ∷ decimal source ∷ [])) next (now (buffer .exit)) ⌝ }
 {
-    let b = put_name(buffer, at, first, second, third);
+    let b = put_name(buffer, at, name);
     let c = put_digit(buffer, b, target as u64);
     let d = put_byte(buffer, c, BLANK);
     let e = put_digit(buffer, d, source as u64);
     put_byte(buffer, e, NEWLINE)
 }
 
-// The name of a step, and a blank, byte by byte: so few are no row.
-fn put_name(buffer: &mut [u8], at: usize, first: u8, second: u8, third: u8) -> usize
-    ensures { λ next. ⌜ Put (now (buffer .entry)) at (first ∷ second ∷ third ∷ blank ∷ []) next (now (buffer .exit)) ⌝ }
+// The name of a step, and a blank.
+fn put_name(buffer: &mut [u8], at: usize, name: [u8; 3]) -> usize
+    ensures { λ next. ⌜ Put (now (buffer .entry)) at (name ++ blank ∷ []) next (now (buffer .exit)) ⌝ }
 {
-    let b = put_byte(buffer, at, first);
-    let c = put_byte(buffer, b, second);
-    let d = put_byte(buffer, c, third);
+    let b = put_byte(buffer, at, name[0]);
+    let c = put_byte(buffer, b, name[1]);
+    let d = put_byte(buffer, c, name[2]);
     put_byte(buffer, d, BLANK)
 }
 

@@ -7,4 +7,3 @@ pub mod Inverses
 pub mod Service
 pub mod Group
 pub mod Powers
-pub mod Squaring

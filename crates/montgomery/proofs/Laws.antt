@@ -2,3 +2,4 @@
 pub mod Newton
 pub mod Forms
 pub mod Squaring
+pub mod FormSquaring

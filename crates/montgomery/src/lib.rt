@@ -9,7 +9,7 @@ use modular::product;
 
 const WORD: u64 = 4294967296;
 
-// A modulus; modulo 2^32 its inverse, where it is odd; and what stands for 2^64 modulo it, from 1 on.
+// A modulus p; its inverse modulo 2^32, where it is odd; and a number from 1 to p that is 2^64 modulo p.
 pub struct Modulus {
     pub value: u32,
     pub inverse: u32,

@@ -48,24 +48,24 @@ pub fn registers_of(m: Modulus, forms: &[u32]) -> Registers
     }
 }
 
-// The inverses of the first four of some forms: one inverse, of their product, and nine products.
+// The inverses of the first four of some forms by Montgomery's trick: one inverse, of their product, and nine products.
 pub fn inverses(m: Modulus, forms: &[u32]) -> [u32; 4]
     ensures { λ r. ⌜ r ≡ inversesWith (formTimes m) (formInverse m) (now (forms .entry)) ⌝ }
 {
-    let a = register(forms, 0);
-    let b = register(forms, 1);
-    let c = register(forms, 2);
-    let d = register(forms, 3);
-    let ab = multiply(m, a, b);
-    let abc = multiply(m, ab, c);
-    let all = invert(m, multiply(m, abc, d));
-    let three = multiply(m, all, d);
-    let two = multiply(m, three, c);
+    let c = register(forms, 0);
+    let d = register(forms, 1);
+    let e = register(forms, 2);
+    let f = register(forms, 3);
+    let cd = multiply(m, c, d);
+    let cde = multiply(m, cd, e);
+    let inverse_of_all = invert(m, multiply(m, cde, f));
+    let inverse_of_cde = multiply(m, inverse_of_all, f);
+    let inverse_of_cd = multiply(m, inverse_of_cde, e);
     [
-        multiply(m, two, b),
-        multiply(m, two, a),
-        multiply(m, three, ab),
-        multiply(m, all, abc),
+        multiply(m, inverse_of_cd, d),
+        multiply(m, inverse_of_cd, c),
+        multiply(m, inverse_of_cde, cd),
+        multiply(m, inverse_of_all, cde),
     ]
 }
 
@@ -99,11 +99,11 @@ fn apply_with(values: &mut [u32], inverses: &mut [u32], m: Modulus, op: Operatio
     ensures { λ _. ⌜ now (values .exit) ≡ applyWith (formTimes m) (stepFor op) (now (values .entry)) (now (inverses .entry)) ⌝ }
     ensures { λ _. ⌜ now (inverses .exit) ≡ applyWith (formTimes m) (stepFor op) (now (inverses .entry)) (now (values .entry)) ⌝ }
 {
-    if 1 < op.kind {
+    if 1 < op.opcode {
         exchange(values, op.target, op.source);
         return exchange(inverses, op.target, op.source);
     }
-    let divides = op.kind == 1;
+    let divides = op.opcode == 1;
     let x = register(values, op.source);
     let y = register(inverses, op.source);
     multiply_register(values, op.target, chosen(divides, y, x), m);
@@ -114,11 +114,11 @@ fn apply_with(values: &mut [u32], inverses: &mut [u32], m: Modulus, op: Operatio
 fn inverse_operation(op: Operation) -> Operation
     ensures { λ r. ⌜ stepFor r ≡ inverseStep (stepFor op) ⌝ }
 {
-    if 1 < op.kind {
+    if 1 < op.opcode {
         return op;
     }
     Operation {
-        kind: 1 - op.kind,
+        opcode: 1 - op.opcode,
         target: op.target,
         source: op.source,
     }

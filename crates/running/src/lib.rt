@@ -121,13 +121,13 @@ fn run_steps(words: &[u32], p: u32, registers: Registers, from: u32, to: u32) ->
 {
     let m = modulus_of(p);
     let mut values = forms_of(m, registers);
-    let mut beside = inverses(m, &values);
+    let mut register_inverses = inverses(m, &values);
     do_steps(
         between(words, from, to),
         to < from,
         m,
         &mut values,
-        &mut beside,
+        &mut register_inverses,
     );
     registers_of(m, &values)
 }

@@ -9,9 +9,9 @@ pub enum Step {
     Swp(u32, u32),
 }
 
-// A step by the number of what it does, with its registers: 0 multiplies, 1 divides, 2 and above exchange.
+// A step by an opcode, with its registers: 0 multiplies, 1 divides, 2 and above exchange.
 pub struct Operation {
-    pub kind: u32,
+    pub opcode: u32,
     pub target: u32,
     pub source: u32,
 }

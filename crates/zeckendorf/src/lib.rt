@@ -15,6 +15,9 @@ use std::num::wrapping_add_u64;
 use weights::high_enough;
 use weights::lower;
 
+// Two above the last place, 92.
+const ABOVE_LAST: u32 = 94;
+
 // The Zeckendorf form of n: from the highest place down, each place taken whose weight is left.
 pub fn zeckendorf(n: u64) -> Form
     ensures { λ f. ⌜ f .count ≡ length (placesOf n) ⌝ }
@@ -74,15 +77,15 @@ pub fn places(n: u64, buffer: &mut [u8]) -> NumberAnswer
     NumberAnswer::Answered(count as u64)
 }
 
-// List to number: the sum of the weights of its places, modulo 2^64. Where the whole sum exceeds 64 bits, that is below the weight of the
-// highest place.
+// List to number: the sum of the weights of its places, modulo 2^64. A sum past 64 bits leaves less than the weight of the highest place.
+// After a place 0 no place can follow, so only the last can be 0, and that is told after the loop.
 pub fn number_of_places(list: &[u8]) -> NumberAnswer
     ensures { λ answer. ⌜ numberOutcomeOf answer ≡ numberOutcome (now (list .entry)) ⌝ }
 {
     if list.len() == 0 {
         return NumberAnswer::Answered(0);
     }
-    let mut above: u32 = 94;
+    let mut above = ABOVE_LAST;
     let mut sum: u64 = 0;
     let mut i: usize = 0;
     while i < list.len() {

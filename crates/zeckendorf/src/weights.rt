@@ -6,7 +6,7 @@ ghost use Rattle.fibonacci.specs.Inner.Weights.{IsWeight};
 use fibonacci::Weight;
 use golden::fibonacci_or_zero;
 
-// A place that is high enough for the form of n, and little higher: as many bits as n has tell it.
+// A place that is high enough for the form of n, and little higher. The count of n's bits tells it: 36 / 25 is about log 2 / log φ.
 pub(crate) fn high_enough(n: u64) -> Weight
     ensures { λ r. ⌜ IsWeight r ⌝ }
     ensures { λ r. ⌜ r .place ≤ 92 ⌝ }

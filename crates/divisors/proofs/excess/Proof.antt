@@ -3,7 +3,7 @@ use mathlib.Core.Path.{_≡_}
 use Prim.Native.Nat.{_%_}
 use native.Mathlib.Omega.{arith}
 use borrow.Author.Needs.{needs}
-use Rattle.divisors.specs.Inner.Inverted.{halfModulus, carryOf}
+use Rattle.divisors.specs.Inner.Inverted.{halfWord, carryOf}
 use Rattle.divisors.proofs.Laws.Quotients.{carry-at-most, restOf, large-divided}
 use Rattle.divisors.proofs.excess.Statement.{statement}
 use Rattle.divisors.proofs.excess.Tie as tie
@@ -11,7 +11,7 @@ use Rattle.divisors.proofs.excess.Tie as tie
 sub-rest : tie.Need-sub-rest
 sub-rest c =
     let a = c .before .args in
-    omega (arith, c .carry .ensures, carry-at-most (a .p % halfModulus) (a .inverse) (a .d))
+    omega (arith, c .carry .ensures, carry-at-most (a .p % halfWord) (a .inverse) (a .d))
 
 returns : tie.Need-returns
 returns c =

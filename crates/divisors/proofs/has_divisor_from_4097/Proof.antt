@@ -3,13 +3,13 @@ use mathlib.Core.Path.{refl}
 use native.Mathlib.Omega.{arith}
 use borrow.Author.Needs.{needs}
 use Rattle.divisors.proofs.Laws.Small.{small-told}
-use Rattle.divisors.proofs.Laws.Inverses.{inverted, inverses}
+use Rattle.divisors.proofs.Laws.Inverses.{areInverses, inverses}
 use Rattle.divisors.proofs.Laws.Covering.{dividedBy, covers, none-listed}
 use Rattle.divisors.proofs.has_divisor_from_4097.Statement.{statement}
 use Rattle.divisors.proofs.has_divisor_from_4097.Tie as tie
 
 has-divisor-among-requires : tie.Need-has-divisor-among-requires
-unfolding inverted
+unfolding areInverses
 has-divisor-among-requires c κs = (c .before .before .pre .0, inverses _ _ refl)
 
 returns : tie.Need-returns

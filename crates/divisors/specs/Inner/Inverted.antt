@@ -11,31 +11,31 @@ abbrev pub NoneBelow : ℕ → ℕ → Type 0
 NoneBelow p e = (d : ℕ) → d < e → ¬ (SmallDivisor p d)
 
 -- 2^16
-abbrev pub halfModulus : ℕ
-halfModulus = 65536
+abbrev pub halfWord : ℕ
+halfWord = 65536
 
--- 2^28, the first number that is too large for a modulus
-abbrev pub tooLarge : ℕ
-tooLarge = 268435456
+-- 3 × 2^30: below it the upper half of a number and a number up to 2^14 have a sum below 2^16
+abbrev pub sumLimit : ℕ
+sumLimit = 3221225472
 
 -- n times x modulo 2^16: the quotient, where x is the inverse of d and d divides n
 abbrev pub quotientBy : ℕ → ℕ → ℕ
-quotientBy x n = n * x % halfModulus
+quotientBy x n = n * x % halfWord
 
 -- the upper half of d times that, of which the lower half is n
 abbrev pub carryOf : ℕ → ℕ → ℕ → ℕ
-carryOf n d x = quotientBy x n * d / halfModulus
+carryOf n d x = quotientBy x n * d / halfWord
 
 -- x is the inverse of d, a number from 2 to 2^14
-pub record Inverse (d x : ℕ) : Type 0 where
+pub record HalfWordInverse (d x : ℕ) : Type 0 where
   pub low : 2 ≤ d
   pub high : d ≤ limit
-  pub one : d * x % halfModulus ≡ 1
+  pub one : d * x % halfWord ≡ 1
 
 -- xs are the inverses of ds
 pub record Inverses (ds xs : List ℕ) : Type 0 where
   pub same : length xs ≡ length ds
-  pub each : (j : ℕ) → j < length ds → Inverse (getD ds j 0) (getD xs j 0)
+  pub each : (j : ℕ) → j < length ds → HalfWordInverse (getD ds j 0) (getD xs j 0)
 
 -- r is zero where d divides p, and only there
 pub record ZeroWhereDivided (p d r : ℕ) : Type 0 where

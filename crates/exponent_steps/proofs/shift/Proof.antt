@@ -1,4 +1,4 @@
--- `shift` meets its contract: what a step does has its own function, by its number.
+-- `shift` meets its contract: what a step does has its own function, by its opcode.
 use native.Mathlib.Omega.{arith}
 use borrow.Author.Needs.{needs}
 use Rattle.tape.specs.Inner.Operations.{stepBy}
@@ -18,7 +18,7 @@ returns-3 : tie.Need-returns-3
 returns-3 c =
     let other = c .before .before .before in
     let op = other .before .before .before .before .args .op in
-    rw (exchanges (op .kind) (op .target) (op .source) (omega (arith, other .before .before .if1 .left, other .if2 .left))) (c .before .exchange .ensures)
+    rw (exchanges (op .opcode) (op .target) (op .source) (omega (arith, other .before .before .if1 .left, other .if2 .left))) (c .before .exchange .ensures)
 
 pub shift-spec : {M : Type 1} → statement M
 shift-spec =

@@ -11,14 +11,14 @@ use Rattle.listing_lines.proofs.step_line.Tie as tie
 sound : (c : tie.After-slice-known3) → Sound (c .before .before .before .before .before .before .before .before .before .args .step)
 sound c = c .before .before .before .before .before .before .before .before .before .pre
 
-named-pair-requires : tie.Need-named-pair-requires
-named-pair-requires c κs = let step = c .before .before in subst Sound (step .step .given .1) (sound (step .before .before))
+put-rest-requires : tie.Need-put-rest-requires
+put-rest-requires c κs = let step = c .before .before in subst Sound (step .step .given .1) (sound (step .before .before))
 
-named-pair-requires-2 : tie.Need-named-pair-requires-2
-named-pair-requires-2 c κs = let step = c .before .before in subst Sound (step .step2 .given .1) (sound (step .before .before))
+put-rest-requires-2 : tie.Need-put-rest-requires-2
+put-rest-requires-2 c κs = let step = c .before .before in subst Sound (step .step2 .given .1) (sound (step .before .before))
 
-named-pair-requires-3 : tie.Need-named-pair-requires-3
-named-pair-requires-3 c κs = let step = c .before .before in subst Sound (step .step3 .given .1) (sound (step .before .before)) .0
+put-rest-requires-3 : tie.Need-put-rest-requires-3
+put-rest-requires-3 c κs = let step = c .before .before in subst Sound (step .step3 .given .1) (sound (step .before .before)) .0
 
 returns : tie.Need-returns
 returns c =
@@ -26,7 +26,7 @@ returns c =
     let step = pair .before .before .before in
     let byte = step .before .before .before .before in
     rw (step .step .given .1)
-    (put-word _ _ _ (puts-join (byte .before .before .before .before .put-count .ensures) (byte .put-byte .ensures)) (pair .named-pair .ensures))
+    (put-word _ _ _ (puts-join (byte .before .before .before .before .put-count .ensures) (byte .put-byte .ensures)) (pair .put-rest .ensures))
 
 returns-2 : tie.Need-returns-2
 returns-2 c =
@@ -34,7 +34,7 @@ returns-2 c =
     let step = pair .before .before .before in
     let byte = step .before .before .before .before in
     rw (step .step2 .given .1)
-    (put-word _ _ _ (puts-join (byte .before .before .before .before .put-count .ensures) (byte .put-byte .ensures)) (pair .named-pair2 .ensures))
+    (put-word _ _ _ (puts-join (byte .before .before .before .before .put-count .ensures) (byte .put-byte .ensures)) (pair .put-rest2 .ensures))
 
 returns-3 : tie.Need-returns-3
 returns-3 c =
@@ -42,7 +42,7 @@ returns-3 c =
     let step = pair .before .before .before in
     let byte = step .before .before .before .before in
     rw (step .step3 .given .1)
-    (put-word _ _ _ (puts-join (byte .before .before .before .before .put-count .ensures) (byte .put-byte .ensures)) (pair .named-pair3 .ensures))
+    (put-word _ _ _ (puts-join (byte .before .before .before .before .put-count .ensures) (byte .put-byte .ensures)) (pair .put-rest3 .ensures))
 
 pub step-line-spec : {M : Type 1} → statement M
 step-line-spec =
@@ -51,11 +51,11 @@ step-line-spec =
     (λ c κs. search needs)
     (λ c κs. search needs)
     (λ c. search needs)
-    named-pair-requires
+    put-rest-requires
     (λ c. search needs)
-    named-pair-requires-2
+    put-rest-requires-2
     (λ c. search needs)
-    named-pair-requires-3
+    put-rest-requires-3
     (λ c. search needs)
     returns
     (λ c. search needs)

@@ -35,9 +35,9 @@ directedSteps undone xs = cond undone (inverted xs) xs
 -- the inverses of four registers, by the inverse of their product and products
 unfoldable pub inversesWith : (ℕ → ℕ → ℕ) → (ℕ → ℕ) → List ℕ → List ℕ
 inversesWith product invert v =
-    let ab : ℕ = product (reg v 0) (reg v 1) in
-    let abc : ℕ = product ab (reg v 2) in
-    let all : ℕ = invert (product abc (reg v 3)) in
-    let three : ℕ = product all (reg v 3) in
-    let two : ℕ = product three (reg v 2) in
-    product two (reg v 1) ∷ product two (reg v 0) ∷ product three ab ∷ product all abc ∷ []
+    let cd : ℕ = product (reg v 0) (reg v 1) in
+    let cde : ℕ = product cd (reg v 2) in
+    let ofAll : ℕ = invert (product cde (reg v 3)) in
+    let ofCde : ℕ = product ofAll (reg v 3) in
+    let ofCd : ℕ = product ofCde (reg v 2) in
+    product ofCd (reg v 1) ∷ product ofCd (reg v 0) ∷ product ofCde cd ∷ product ofAll cde ∷ []

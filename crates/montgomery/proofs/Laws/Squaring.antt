@@ -1,82 +1,67 @@
--- Repeated squaring in the form: result and square are the forms of numbers for which repeated squaring keeps the power.
-use mathlib.Core.Path.{_≡_, refl, sym, _∙_, ap, ap₂}
-use Prim.Native.Nat.{ℕ, _/_, _%_, _^_, _≤_, _<_}
+-- What repeated squaring keeps: the result times the square to the power of what is left of the exponent is the power, modulo m.
+-- A turn takes s ^ n as (s * s) ^ (n / 2), times s where n is odd.
+use mathlib.Core.Path.{_≡_, sym, _∙_, ap}
+use Prim.Native.Nat.{ℕ, suc, _*_, _/_, _%_, _^_, _<_}
+use native.Mathlib.Nat.{mod-eq-of-lt, mod-lt, mul-assoc, mul-one, one-mul, pow-suc, pow-succ', pow-zero}
 use native.Mathlib.Omega.{arith}
-use Rattle.modular.specs.Residues.{remainder, times}
-use Rattle.modular.proofs.Laws.Residues.{mul-mod-left, remainder-is}
-use Rattle.modular.proofs.Laws.Squaring.{Squared, squared-start, squared-even, squared-odd, squared-end}
-use Rattle.montgomery.specs.declared.Modulus.{Modulus}
-use Rattle.montgomery.specs.Inner.Forms.{word, formOf, IsModulus, formTimes, enter, leave}
-use Rattle.montgomery.specs.Inner.Squaring.{FormPower}
-use Rattle.montgomery.proofs.Laws.Forms.{enter-form, form-times, leave-form}
+use Rattle.modular.specs.Residues.{remainder}
+use Rattle.modular.proofs.Laws.Residues.{mul-mod-left, mul-mod-right, remainder-is}
+use Rattle.modular.proofs.Laws.Powers.{pow-mod, pow-mul, pow-one}
 
--- what a number leaves modulo p has its form
-form-mod : (p x : ℕ) → formOf p (x % p) ≡ formOf p x
-unfolding formOf
-form-mod p x = mul-mod-left x word p
+pub record Squared (base exponent m result square rest : ℕ) : Type 0 where
+  pub below : result < m
+  pub power : result * square ^ rest % m ≡ base ^ exponent % m
 
--- the forms of two numbers of which repeated squaring keeps the power
-pub record FormSquared (m : Modulus) (base exponent result square rest : ℕ) : Type 0 where
-  pub of : (p : ℕ) → p % 2 ≡ 1 → p ≤ word → IsModulus p m
-      → (u : ℕ) × (s : ℕ) × (result ≡ formOf p u) × (square ≡ formOf p s) × Squared base exponent p u s rest
+pub squared-start : (base exponent m : ℕ) → 0 < m → Squared base exponent m (1 % m) (base % m) exponent
+squared-start base exponent m some =
+    record {
+      below = mod-lt 1 some;
+      power =
+          mul-mod-left 1 ((base % m) ^ exponent) m
+          ∙ ap (λ (n : ℕ). n % m) (one-mul ((base % m) ^ exponent))
+          ∙ pow-mod m base exponent;
+    }
 
-module _ {m : Modulus} {base exponent r s : ℕ} where
-  pub form-start : base < word → r ≡ enter m 1 → s ≡ enter m base → FormSquared m base exponent r s exponent
-  form-start small er es =
-      record {
-        of = λ p odd fits is. (
-          1 % p,
-          base % p,
-          er ∙ enter-form p m odd fits is 1 (omega arith) ∙ sym (form-mod p 1),
-          es ∙ enter-form p m odd fits is base small ∙ sym (form-mod p base),
-          squared-start base exponent p (omega arith),
-        );
-      }
+square-pow : (m r s h : ℕ) → r * (s * s % m) ^ h % m ≡ r * s ^ (2 * h) % m
+square-pow m r s h =
+    let two : s * s ≡ s ^ 2 = sym (pow-suc s 1 ∙ ap (λ (x : ℕ). x * s) (pow-one s)) in
+    sym (mul-mod-right r ((s * s % m) ^ h) m)
+    ∙ ap (λ (x : ℕ). r * x % m) (pow-mod m (s * s) h ∙ ap (λ (x : ℕ). x ^ h % m) two ∙ ap (λ (x : ℕ). x % m) (pow-mul s 2 h))
+    ∙ mul-mod-right r (s ^ (2 * h)) m
 
-  module _ {n s' : ℕ} (k : FormSquared m base exponent r s n) (square : s' ≡ formTimes m s s) where
-    pub form-even : ¬ (n % 2 ≡ 1) → FormSquared m base exponent r s' (n / 2)
-    unfolding times
-    form-even even =
-        record {
-          of = λ p odd fits is.
-              let at = k .of p odd fits is in (
-                at .0,
-                times p (at .1) (at .1),
-                at .2,
-                square ∙ ap₂ (formTimes m) (at .3) (at .3) ∙ form-times p m odd fits is (at .1) (at .1),
-                squared-even (at .4) refl even,
-              );
-        }
+module _ {base exponent m r s n s' : ℕ} (k : Squared base exponent m r s n) (square : s' ≡ remainder (s * s) m) where
+  some : 0 < m
+  some = omega (arith, k .below)
 
-    pub form-odd : {r' : ℕ} → r' ≡ formTimes m r s → n % 2 ≡ 1 → FormSquared m base exponent r' s' (n / 2)
-    unfolding times
-    form-odd product last =
-        record {
-          of = λ p odd fits is.
-              let at = k .of p odd fits is in (
-                times p (at .0) (at .1),
-                times p (at .1) (at .1),
-                product ∙ ap₂ (formTimes m) (at .2) (at .3) ∙ form-times p m odd fits is (at .0) (at .1),
-                square ∙ ap₂ (formTimes m) (at .3) (at .3) ∙ form-times p m odd fits is (at .1) (at .1),
-                squared-odd (at .4) refl refl last,
-              );
-        }
+  squared : s' ≡ s * s % m
+  squared = square ∙ remainder-is (s * s) m some
 
-  pub form-end : {n : ℕ} → m .value ≤ word → FormSquared m base exponent r s n → n ≡ 0 → FormPower m base exponent r
-  form-end {n} fits k done =
-      record {
-        of = λ p odd is.
-            let at = k .of p odd (omega (arith, is .value-is)) is in
-            at .2
-            ∙ ap (formOf p) (squared-end (at .4) done ∙ remainder-is (base ^ exponent) p (omega arith))
-            ∙ form-mod p (base ^ exponent);
-      }
+  pub squared-even : ¬ (n % 2 ≡ 1) → Squared base exponent m r s' (n / 2)
+  squared-even even =
+      rw squared
+      (record {
+        below = k .below;
+        power = square-pow m r s (n / 2) ∙ ap (λ (x : ℕ). r * s ^ x % m) (omega arith) ∙ k .power;
+      })
 
--- out of the form
-pub power-left : {m : Modulus} {p base exponent r x : ℕ} → p % 2 ≡ 1 → p ≤ word → IsModulus p m → FormPower m base exponent r → x ≡ leave m r
-    → x ≡ remainder (base ^ exponent) p
-power-left {m} {p} {base} {exponent} odd fits is k e =
-    e
-    ∙ ap (leave m) (k .of p odd is)
-    ∙ leave-form p m odd fits is (base ^ exponent)
-    ∙ sym (remainder-is (base ^ exponent) p (omega arith))
+  pub squared-odd : {r' : ℕ} → r' ≡ remainder (r * s) m → n % 2 ≡ 1 → Squared base exponent m r' s' (n / 2)
+  squared-odd {r'} product odd =
+      let h : ℕ = n / 2 in
+      let whole : suc (2 * (n / 2)) ≡ n = omega arith in
+      rw (squared, product ∙ remainder-is (r * s) m some)
+      (record {
+        below = mod-lt (r * s) some;
+        power =
+            mul-mod-left (r * s) ((s * s % m) ^ h) m
+            ∙ square-pow m (r * s) s h
+            ∙ ap (λ (x : ℕ). x % m) (mul-assoc r s (s ^ (2 * h)) ∙ ap (λ (x : ℕ). r * x) (sym (pow-succ' s (2 * h))))
+            ∙ ap (λ (x : ℕ). r * s ^ x % m) whole
+            ∙ k .power;
+      })
+
+pub squared-end : {base exponent m r s n : ℕ} → Squared base exponent m r s n → n ≡ 0 → r ≡ remainder (base ^ exponent) m
+squared-end {base} {exponent} {m} {r} {s} {n} k done =
+    sym (mod-eq-of-lt (k .below))
+    ∙ ap (λ (x : ℕ). x % m) (sym (ap (λ (x : ℕ). r * x) (ap (λ (x : ℕ). s ^ x) done ∙ pow-zero s) ∙ mul-one r))
+    ∙ k .power
+    ∙ sym (remainder-is (base ^ exponent) m (omega (arith, k .below)))

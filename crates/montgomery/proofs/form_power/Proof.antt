@@ -2,7 +2,7 @@
 use mathlib.Core.Logic.{⊎-elim}
 use native.Mathlib.Omega.{arith}
 use borrow.Author.Needs.{needs}
-use Rattle.montgomery.proofs.Laws.Squaring.{FormSquared, form-start, form-even, form-odd, form-end}
+use Rattle.montgomery.proofs.Laws.FormSquaring.{FormSquared, form-start, form-even, form-odd, form-end}
 use Rattle.montgomery.proofs.form_power.Statement.{statement}
 use Rattle.montgomery.proofs.form_power.Tie as tie
 

@@ -4,7 +4,7 @@ use mathlib.Core.Logic.{⊎-elim}
 use native.Mathlib.Omega.{arith}
 use borrow.Author.Needs.{needs}
 use Rattle.modular.proofs.Laws.Residues.{remainder-zero}
-use Rattle.modular.proofs.Laws.Squaring.{Squared, squared-start, squared-even, squared-odd, squared-end}
+use Rattle.montgomery.proofs.Laws.Squaring.{Squared, squared-start, squared-even, squared-odd, squared-end}
 use Rattle.montgomery.proofs.plain_power.Statement.{statement}
 use Rattle.montgomery.proofs.plain_power.Tie as tie
 

@@ -1,7 +1,7 @@
 -- `power` meets its contract: an even modulus has no form, and of an odd one the power leaves it.
 use native.Mathlib.Omega.{arith}
 use borrow.Author.Needs.{needs}
-use Rattle.montgomery.proofs.Laws.Squaring.{power-left}
+use Rattle.montgomery.proofs.Laws.FormSquaring.{power-left}
 use Rattle.montgomery.proofs.power.Statement.{statement}
 use Rattle.montgomery.proofs.power.Tie as tie
 

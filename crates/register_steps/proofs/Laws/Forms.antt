@@ -40,10 +40,10 @@ module _ (p : ℕ) (m : Modulus) (pr : Prime p) (odd : p % 2 ≡ 1) (fits : p �
       ∙ ap (map (formOf p)) (inverses-are p pr v g)
 
   -- so the registers that set out in the form beside their inverses arrive as the steps have it
-  pub arrived : (xs ys : List Step) (v values inverses₀ after : List ℕ) → AllSound xs → Residues p v → values ≡ map (enter m) (firstFour v)
+  pub run-in-forms : (xs ys : List Step) (v values inverses₀ after : List ℕ) → AllSound xs → Residues p v → values ≡ map (enter m) (firstFour v)
       → inverses₀ ≡ inversesWith (formTimes m) (formInverse m) values → ys ≡ xs → after ≡ doAllWith (formTimes m) ys values inverses₀
       → map (leave m) (firstFour after) ≡ doAll p xs v
-  arrived xs ys v values inverses₀ after sound g ev ew same done =
+  run-in-forms xs ys v values inverses₀ after sound g ev ew same done =
       let forms : values ≡ map (formOf p) v = ev ∙ entered v g in
       let beside : inverses₀ ≡ map (formOf p) (inverses p v) = ew ∙ ap (inversesWith (formTimes m) (formInverse m)) forms ∙ forms-inverted v g in
       let there : after ≡ map (formOf p) (doAll p xs v) =

@@ -11,9 +11,9 @@ use Rattle.tape.specs.Layout.{stepsIn}
 use Rattle.tape.specs.Inner.Operations.{rawSteps}
 use Rattle.machine.specs.Machine.{valuesOf}
 use Rattle.machine.specs.Inner.Carried.{directedSteps}
-use Rattle.register_steps.proofs.Laws.Forms.{arrived}
+use Rattle.register_steps.proofs.Laws.Forms.{run-in-forms}
 use Rattle.sequencer.specs.Inner.Runs.{between}
-use Rattle.sequencer.proofs.Laws.Positions.{there, between-raw, directed-sound}
+use Rattle.sequencer.proofs.Laws.Positions.{run-between, between-raw, directed-sound}
 use Rattle.running.proofs.run_steps.Statement.{statement}
 use Rattle.running.proofs.run_steps.Tie as tie
 
@@ -32,10 +32,10 @@ returns c =
     let steps : rawSteps (part .between .result .now) ≡ stepsIn (between words (given .from) (given .to)) =
     ap rawSteps (part .between .ensures) ∙ between-raw words (start .pre .are-steps) (given .from) (given .to) (start .pre .from-inside) (start .pre .goal-inside) in
     c .registers-of .ensures
-    ∙ arrived _ _ (start .pre .prime) (start .pre .odd) (omega arith) (made .modulus-of .ensures) _ _ v _ _ _
+    ∙ run-in-forms _ _ (start .pre .prime) (start .pre .odd) (omega arith) (made .modulus-of .ensures) _ _ v _ _ _
     (directed-sound undone (between words (given .from) (given .to))) (start .pre .residues) (forms .forms-of .ensures) (beside .inverses .ensures)
     (ap (directedSteps undone) steps) (done .do-steps .ensures .0)
-    ∙ there words (given .p) v (given .from) (given .to) (start .pre .from-inside) (start .pre .goal-inside)
+    ∙ run-between words (given .p) v (given .from) (given .to) (start .pre .from-inside) (start .pre .goal-inside)
 
 pub run-steps-spec : {M : Type 1} → statement M
 run-steps-spec =

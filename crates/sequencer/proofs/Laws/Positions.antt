@@ -25,10 +25,10 @@ pub part-steps : (words : List ℕ) (i j : ℕ) → i ≤ j → j ≤ length wor
 part-steps words i j order inside = ap stepsIn (part-inside words i j order inside) ∙ map-slice _ i j words
 
 -- those between two positions, in the direction of the second, are the run
-pub there : (words : List ℕ) (p : ℕ) (v : List ℕ) (i j : ℕ) → i ≤ length words → j ≤ length words
+pub run-between : (words : List ℕ) (p : ℕ) (v : List ℕ) (i j : ℕ) → i ≤ length words → j ≤ length words
     → doAll p (directedSteps (ltb j i) (stepsIn (between words i j))) v ≡ run p (stepsIn words) i j v
 unfolding run between
-there words p v i j from-inside goal-inside =
+run-between words p v i j from-inside goal-inside =
     elim (decLt j i) [
       | yes h ↦ rw (lt-ltb j i h, lt-leb i j h) (do-inverted p _ v ∙ ap (λ (l : List Step). undoAll p l v) (part-steps words j i (omega arith) from-inside))
       | no h ↦

@@ -1,4 +1,4 @@
--- A step by the number of what it does, so that code can choose by arithmetic what it does.
+-- A step by an opcode, so that code can choose by arithmetic what it does.
 use mathlib.Core.List.{List, map}
 use Prim.Native.Nat.{ℕ, zero, suc, _-_, _/_, _%_}
 use Rattle.tape.specs.declared.Step.{Step}
@@ -20,4 +20,4 @@ abbrev pub rawSteps : List ℕ → List Step
 rawSteps words = map rawStep words
 
 abbrev pub stepFor : Operation → Step
-stepFor op = stepBy (op .kind) (op .target) (op .source)
+stepFor op = stepBy (op .opcode) (op .target) (op .source)

@@ -6,7 +6,7 @@ use Rattle.decoding.proofs.steps.operation_of.Tie as tie
 
 returns : tie.Need-returns
 unfolding rawStep
-returns c = rw (c .step-number .ensures)
+returns c = rw (c .opcode-of .ensures)
 
 pub operation-of-spec : {M : Type 1} → statement M
 operation-of-spec = tie.close (tie.spec (λ c κs. search needs) returns)

@@ -1,4 +1,4 @@
--- `named_pair` meets its contract: its words, one after another; a register is below ten, so its last digit is all of it.
+-- `put_rest` meets its contract: its words, one after another; a register is below ten, so its last digit is all of it.
 use mathlib.Core.List.{List, [], _∷_, _++_}
 use Prim.Native.Nat.{ℕ, _%_, _<_}
 use native.Mathlib.Omega.{arith}
@@ -8,8 +8,8 @@ use Rattle.text.specs.Rows.{Put}
 use Rattle.text.proofs.Laws.Decimal.{one-digit}
 use Rattle.text.proofs.Laws.Puts.{puts-join}
 use Rattle.text.proofs.Laws.Lines.{put-word, put-last}
-use Rattle.listing_lines.proofs.named_pair.Statement.{statement}
-use Rattle.listing_lines.proofs.named_pair.Tie as tie
+use Rattle.listing_lines.proofs.put_rest.Statement.{statement}
+use Rattle.listing_lines.proofs.put_rest.Tie as tie
 
 -- a register and the byte behind it
 register : {a b c : List ℕ} {at m n : ℕ} (i byte : ℕ) → i < 4 → Put a at (decimal (i % 10)) m b → Put b m (byte ∷ []) n c → Put a at (decimal i ++ byte ∷ []) n c
@@ -27,8 +27,8 @@ returns c =
     (put-word _ _ _ (register _ _ (pair .target-is-one) (target .put-digit .ensures) (blank .put-byte .ensures))
     (put-last _ (register _ _ (pair .source-is-one) (source .put-digit2 .ensures) (end .put-byte2 .ensures))))
 
-pub named-pair-spec : {M : Type 1} → statement M
-named-pair-spec =
+pub put-rest-spec : {M : Type 1} → statement M
+put-rest-spec =
     tie.close
     (tie.spec
     (λ c κs. search needs)
