@@ -38,13 +38,20 @@ pub fn put_byte(buffer: &mut [u8], at: usize, byte: u8) -> usize
     at + 1
 }
 
-// Puts a number in decimal.
+// Puts a number in decimal. Its digits are found from the last one on, so they fill a row from its end; a u64 has at most 20.
 pub fn put_number(buffer: &mut [u8], at: usize, n: u64) -> usize
     ensures { λ next. ⌜ Put (now (buffer .entry)) at (decimal n) next (now (buffer .exit)) ⌝ }
 {
     let mut digits = [0u8; 20];
-    let count = io::decimal(n, &mut digits);
-    put(buffer, at, &digits[..count])
+    let mut first: usize = 19;
+    let mut rest = n;
+    while rest >= 10 {
+        digits[first] = ZERO + (rest % 10) as u8;
+        rest /= 10;
+        first -= 1;
+    }
+    digits[first] = ZERO + rest as u8;
+    put(buffer, at, &digits[first..])
 }
 
 // Puts the last digit of a number.

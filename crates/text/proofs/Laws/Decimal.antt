@@ -1,5 +1,4 @@
--- Decimal digits: fuel above the number doesn't matter, the fewest digits that hold a number are its decimal digits, and how many
--- there are at most.
+-- Decimal digits: fuel above the number doesn't matter, the last digit stands behind those of a tenth, and how many there are at most.
 use mathlib.Core.Path.{_≡_, sym, ap, ap₂, _∙_}
 use mathlib.Core.Bool.{cond}
 use mathlib.Core.List.{List, [], _∷_, _++_}
@@ -11,7 +10,6 @@ use native.Mathlib.Omega.{arith}
 use lib.Dec.{ltb}
 use lib.ListN.{length, length-append}
 use borrow.Author.Tests.{lt-ltb, le-ltb}
-use Rattle.io.specs.Digits.{glyph, digits, Fewest}
 use Rattle.text.specs.Text.{decimalWithin, decimal}
 
 -- the last digit
@@ -67,39 +65,6 @@ two-digits n low high = digits-then n _ low (one-digit (n / 10) (omega arith))
 
 pub three-digits : (n : ℕ) → 100 ≤ n → n < 1000 → decimal n ≡ decimal (n / 10 / 10 % 10) ++ decimal (n / 10 % 10) ++ decimal (n % 10)
 three-digits n low high = digits-then n _ (omega arith) (two-digits (n / 10) (omega arith) (omega arith))
-
--- ---- the digits of `io`
-
-glyph-digit : (d : ℕ) → d < 10 → glyph d ≡ code "0" + d
-glyph-digit d h = rw (lt-ltb d 10 h)
-
-digits-last : (k n : ℕ) → digits 10 (suc k) n ≡ digits 10 k (n / 10) ++ last n
-digits-last k n = ap (λ (d : ℕ). digits 10 k (n / 10) ++ d ∷ []) (glyph-digit (n % 10) (omega arith))
-
-power-some : (k : ℕ) → 1 ≤ 10 ^ k
-power-some zero = omega arith
-power-some (suc k) = omega (arith, pow-suc 10 k, power-some k)
-
--- a tenth has a digit less
-tenth : (k n : ℕ) → Fewest 10 1 n (suc (suc k)) → (10 ≤ n) × Fewest 10 1 (n / 10) (suc k)
-tenth k n f =
-    let x = 10 ^ k in
-    let y : 10 ^ suc k ≡ x * 10 = pow-suc 10 k in
-    let z : 10 ^ suc (suc k) ≡ 10 ^ suc k * 10 = pow-suc 10 (suc k) in
-    let less : suc (suc k) - 1 ≡ suc k = omega arith in
-    let low : 10 ^ suc k ≤ n = rw less at (f .2 (omega arith)) in
-    let fewer : suc k - 1 ≡ k = omega arith in
-    let some : 1 ≤ x = power-some k in
-    (omega (arith, f .1), (omega arith, omega (arith, f .1), λ h. rw fewer (omega (arith, f .1))))
-
-pub fewest-digits : (k n : ℕ) → Fewest 10 1 n k → digits 10 k n ≡ decimal n
-fewest-digits zero n f = absurd (omega (arith, f .0))
-fewest-digits (suc zero) n f = digits-last 0 n ∙ ap (λ (d : ℕ). (code "0" + d) ∷ []) (small n (f .1)) ∙ sym (decimal-one n (f .1))
-fewest-digits (suc (suc k)) n f =
-    let t = tenth k n f in
-    digits-last (suc k) n
-    ∙ ap (λ (l : List ℕ). l ++ last n) (fewest-digits (suc k) (n / 10) (t .1))
-    ∙ sym (decimal-again n (t .0))
 
 -- ---- their count
 
