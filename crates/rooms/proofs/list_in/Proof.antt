@@ -18,6 +18,9 @@ use Rattle.rooms.proofs.list_in.Tie as tie
 slice-aggregate-tape-bytes-2 : tie.Need-slice-aggregate-tape-bytes-2
 slice-aggregate-tape-bytes-2 c = sym (length-take-le (c .before .before .before .least .result) (c .before .before .before .before .before .before .args .tape .now) (omega (arith, c .before .before .before .least .ensures)))
 
+array-share-prefix-bytes : tie.Need-array-share-prefix-bytes
+array-share-prefix-bytes c = put-inside (c .before .tape-bytes .ensures) (omega arith)
+
 slice-aggregate-list-into : tie.Need-slice-aggregate-list-into
 slice-aggregate-list-into c = sym (length-take-le (c .before .before .tape-bytes .result) (c .before .before .tape-bytes .last .0) (put-inside (c .before .before .tape-bytes .ensures) (omega arith)))
 
@@ -45,7 +48,7 @@ list-in-spec =
     (λ c. search needs)
     slice-aggregate-tape-bytes-2
     (λ c κs. search needs)
-    (λ c. search needs)
+    array-share-prefix-bytes
     slice-aggregate-list-into
     (λ c. search needs)
     slice-aggregate-list-into-2

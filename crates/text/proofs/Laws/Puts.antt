@@ -1,49 +1,44 @@
--- Texts put one after another are one text put: past the row's end nothing changes, so it doesn't matter which of them is cut off.
-use mathlib.Core.Path.{_≡_, refl, sym, ap, _∙_}
+-- Texts put one after another are one text put: what fits of it is what fits of each behind those before.
+use mathlib.Core.Path.{_≡_, refl, ap, _∙_}
 use mathlib.Core.List.{List, [], _∷_, _++_}
-use Prim.Native.Nat.{ℕ, suc, _+_, _≤_, _<_}
-use native.Mathlib.Decide.{decLt}
+use Prim.Native.Nat.{ℕ, zero, suc, _+_, _-_, _≤_, _<_}
+use native.Mathlib.Nat.{sub-zero}
 use native.Mathlib.Omega.{arith}
 use native.Mathlib.Numerals.{add-one}
-use lib.ListN.{length, getD, take, drop, set, length-append, take-append-drop}
-use lib.Seq.{sets, set-out, length-sets, take-suc}
+use lib.ListN.{length, getD, take, drop, set, length-take, take-append-drop}
+use lib.Seq.{take-nil, take-all, take-suc}
 use Rattle.refusal.specs.Rows.{Wrote}
-use Rattle.refusal.proofs.Laws.Rows.{sets-append, wrote-taken}
+use Rattle.refusal.proofs.Laws.Rows.{wrote-none, wrote-length, wrote-next, wrote-taken}
 use Rattle.text.specs.Rows.{Put}
 
--- nothing is stored past the end
-sets-out : (vs l : List ℕ) (i : ℕ) → length l ≤ i → sets l i vs ≡ l
-sets-out [] l i h = refl
-sets-out (v ∷ vs) l i h = ap (λ (r : List ℕ). sets r (suc i) vs) (set-out l i v h) ∙ sets-out vs l (suc i) (omega arith)
-
 pub put-none : (row : List ℕ) (at : ℕ) → Put row at [] at row
-put-none row at = record { next-is = omega arith; after-is = refl }
+put-none row at = record { fitting = rw take-nil (wrote-none row at) }
 
 pub put-one : (row : List ℕ) (at x : ℕ) → at < length row → Put row at (x ∷ []) (at + 1) (set row at x)
-put-one row at x h = record { next-is = omega arith; after-is = refl }
+put-one row at x h = record { fitting = rw (take-all (length row - at) (x ∷ []) (omega arith)) (record { next-is = refl; after-is = refl }) }
 
 -- a row that is full
 pub put-full : (row text : List ℕ) (at : ℕ) → length row ≤ at → Put row at text at row
-put-full row text at h = record { next-is = omega arith; after-is = sym (sets-out text row at h) }
+put-full row text at h =
+    let none : length row - at ≡ 0 = omega arith in
+    record { fitting = rw none (wrote-none row at) }
 
 pub put-length : {a b : List ℕ} {at n : ℕ} {ws : List ℕ} → Put a at ws n b → length b ≡ length a
-put-length {a} {at = at} {ws = ws} w = ap length (w .after-is) ∙ length-sets a at ws
+put-length v = wrote-length (v .fitting)
 
--- where a text was cut off, what comes next is stored nowhere, as it is past the whole text
-past : {a b : List ℕ} {at m : ℕ} {vs : List ℕ} (ws : List ℕ) → Put a at vs m b → sets b m ws ≡ sets b (at + length vs) ws
-past {a} {b} {at} {m} {vs} ws v =
-    let long = put-length v in
-    elim (decLt (length a) (at + length vs)) [
-      | yes h ↦ sets-out ws b m (omega (arith, v .next-is)) ∙ sym (sets-out ws b (at + length vs) (omega arith))
-      | no h ↦ ap (λ (i : ℕ). sets b i ws) (let e : m ≡ at + length vs = omega (arith, v .next-is) in e)
-    ]
+-- what fits of two texts: what fits of the first, and of the second what fits behind it
+fitting-both : (room : ℕ) (vs ws : List ℕ) → take room (vs ++ ws) ≡ take room vs ++ take (room - length (take room vs)) ws
+fitting-both room [] ws = rw (take-nil {A = ℕ} room, sub-zero room)
+fitting-both zero (v ∷ vs) ws = refl
+fitting-both (suc room) (v ∷ vs) ws =
+    let e : room - length (take room vs) ≡ suc room - suc (length (take room vs)) = omega arith in
+    ap (λ (l : List ℕ). v ∷ l) (fitting-both room vs ws ∙ ap (λ (k : ℕ). take room vs ++ take k ws) e)
 
 pub puts-join : {a b c : List ℕ} {at m n : ℕ} {vs ws : List ℕ} → Put a at vs m b → Put b m ws n c → Put a at (vs ++ ws) n c
-puts-join {a} {b} {c} {at} {m} {n} {vs} {ws} v w =
-    record {
-      next-is = omega (arith, v .next-is, w .next-is, put-length v, length-append vs ws);
-      after-is = w .after-is ∙ past ws v ∙ rw (v .after-is) (sets-append vs ws a at);
-    }
+puts-join {a} {b} {at = at} {m} {vs = vs} {ws} v w =
+    let first = take (length a - at) vs in
+    let left : length a - at - length first ≡ length b - m = omega (arith, v .fitting .next-is, put-length v) in
+    record { fitting = wrote-next (v .fitting) (w .fitting) (fitting-both (length a - at) vs ws ∙ ap (λ (k : ℕ). first ++ take k ws) left) }
 
 -- ---- a loop that puts a text byte by byte
 
@@ -76,7 +71,7 @@ module _ {before : List ℕ} {at : ℕ} {text : List ℕ} {next : ℕ} {now : Li
 -- ---- a text that fits
 
 pub put-fits : {a b : List ℕ} {at n : ℕ} {text : List ℕ} → Put a at text n b → at + length text ≤ length a → Wrote a at text n b
-put-fits v h = record { next-is = omega (arith, v .next-is); after-is = v .after-is }
+put-fits {a} {at = at} {text = text} v h = rw (take-all (length a - at) text (omega arith)) at (v .fitting)
 
 -- from the start on, the row then begins with it
 pub put-taken : {a b : List ℕ} {n : ℕ} {text : List ℕ} → Put a 0 text n b → length text ≤ length a → take n b ≡ text
@@ -84,4 +79,4 @@ put-taken v h = wrote-taken (put-fits v (omega arith)) h
 
 -- and `next` is never past the row, where `at` isn't
 pub put-inside : {a b : List ℕ} {at n : ℕ} {text : List ℕ} → Put a at text n b → at ≤ length a → n ≤ length b
-put-inside v h = omega (arith, v .next-is, put-length v)
+put-inside {a} {at = at} {text = text} v h = omega (arith, v .fitting .next-is, length-take (length a - at) text, put-length v)
