@@ -11,18 +11,6 @@ use Rattle.refusal.specs.Rows.{Wrote}
 use Rattle.refusal.proofs.Laws.Rows.{wrote-none, wrote-length, wrote-next, wrote-taken}
 use Rattle.text.specs.Rows.{Put}
 
-pub put-none : (row : List ℕ) (at : ℕ) → Put row at [] at row
-put-none row at = record { fitting = rw take-nil (wrote-none row at) }
-
-pub put-one : (row : List ℕ) (at x : ℕ) → at < length row → Put row at (x ∷ []) (at + 1) (set row at x)
-put-one row at x h = record { fitting = rw (take-all (length row - at) (x ∷ []) (omega arith)) (record { next-is = refl; after-is = refl }) }
-
--- a row that is full
-pub put-full : (row text : List ℕ) (at : ℕ) → length row ≤ at → Put row at text at row
-put-full row text at h =
-    let none : length row - at ≡ 0 = omega arith in
-    record { fitting = rw none (wrote-none row at) }
-
 pub put-length : {a b : List ℕ} {at n : ℕ} {ws : List ℕ} → Put a at ws n b → length b ≡ length a
 put-length v = wrote-length (v .fitting)
 
@@ -39,6 +27,18 @@ puts-join {a} {b} {at = at} {m} {vs = vs} {ws} v w =
     let first = take (length a - at) vs in
     let left : length a - at - length first ≡ length b - m = omega (arith, v .fitting .next-is, put-length v) in
     record { fitting = wrote-next (v .fitting) (w .fitting) (fitting-both (length a - at) vs ws ∙ ap (λ (k : ℕ). first ++ take k ws) left) }
+
+pub put-none : (row : List ℕ) (at : ℕ) → Put row at [] at row
+put-none row at = record { fitting = rw take-nil (wrote-none row at) }
+
+pub put-one : (row : List ℕ) (at x : ℕ) → at < length row → Put row at (x ∷ []) (at + 1) (set row at x)
+put-one row at x h = record { fitting = rw (take-all (length row - at) (x ∷ []) (omega arith)) (record { next-is = refl; after-is = refl }) }
+
+-- a row that is full
+pub put-full : (row text : List ℕ) (at : ℕ) → length row ≤ at → Put row at text at row
+put-full row text at h =
+    let none : length row - at ≡ 0 = omega arith in
+    record { fitting = rw none (wrote-none row at) }
 
 -- ---- a loop that puts a text byte by byte
 
