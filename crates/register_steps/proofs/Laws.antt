@@ -1,3 +1,2 @@
--- Laws that belong to no one function, in reading order.
+-- Laws that belong to no one function.
 pub mod Going
-pub mod Forms

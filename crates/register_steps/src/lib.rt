@@ -1,73 +1,21 @@
-// Steps on registers modulo an odd prime p. The registers stand in Montgomery's form, so that a product takes no division, and beside
-// the forms of their inverses, so that a division is a product. They lie in a row because a register's number is then its place.
+// Steps on registers modulo an odd prime p, which stand in Montgomery's form beside the forms of their inverses.
 mod row;
 
 ghost use mathlib.Core.Path.{_≡_};
-ghost use mathlib.Core.List.{map};
 ghost use Prim.Native.Nat.{_<_};
 ghost use lib.ListN.{length};
 ghost use Rattle.tape.specs.Inner.Operations.{rawSteps, stepFor};
-ghost use Rattle.montgomery.specs.Inner.Forms.{formTimes, enter, leave, formInverse};
-ghost use Rattle.machine.specs.Machine.{valuesOf, inverseStep};
-ghost use Rattle.machine.specs.Inner.Carried.{firstFour, applyWith, doAllWith, inversesWith, directedSteps};
+ghost use Rattle.montgomery.specs.Inner.Forms.{formTimes};
+ghost use Rattle.machine.specs.Machine.{inverseStep};
+ghost use Rattle.machine.specs.Inner.Carried.{applyWith, doAllWith, directedSteps};
 ghost use Rattle.register_steps.specs.Inner.Ways.{directedStep};
 use decoding::operation_of;
-use machine::Registers;
 use montgomery::Modulus;
-use montgomery::enter;
-use montgomery::invert;
-use montgomery::leave;
-use montgomery::multiply;
+use register_forms::register;
 use row::chosen;
 use row::exchange;
 use row::multiply_register;
-use row::register;
 use tape::Operation;
-
-// The forms of the registers.
-pub fn forms_of(m: Modulus, registers: Registers) -> [u32; 4]
-    ensures { λ r. ⌜ r ≡ map (enter m) (valuesOf registers) ⌝ }
-{
-    [
-        enter(m, registers.c),
-        enter(m, registers.d),
-        enter(m, registers.e),
-        enter(m, registers.f),
-    ]
-}
-
-// The registers of the first four of some forms; 0 stands for one that is missing.
-pub fn registers_of(m: Modulus, forms: &[u32]) -> Registers
-    ensures { λ r. ⌜ valuesOf r ≡ map (leave m) (firstFour (now (forms .entry))) ⌝ }
-{
-    Registers {
-        c: leave(m, register(forms, 0)),
-        d: leave(m, register(forms, 1)),
-        e: leave(m, register(forms, 2)),
-        f: leave(m, register(forms, 3)),
-    }
-}
-
-// The inverses of the first four of some forms by Montgomery's trick: one inverse, of their product, and nine products.
-pub fn inverses(m: Modulus, forms: &[u32]) -> [u32; 4]
-    ensures { λ r. ⌜ r ≡ inversesWith (formTimes m) (formInverse m) (now (forms .entry)) ⌝ }
-{
-    let c = register(forms, 0);
-    let d = register(forms, 1);
-    let e = register(forms, 2);
-    let f = register(forms, 3);
-    let cd = multiply(m, c, d);
-    let cde = multiply(m, cd, e);
-    let inverse_of_all = invert(m, multiply(m, cde, f));
-    let inverse_of_cde = multiply(m, inverse_of_all, f);
-    let inverse_of_cd = multiply(m, inverse_of_cde, e);
-    [
-        multiply(m, inverse_of_cd, d),
-        multiply(m, inverse_of_cd, c),
-        multiply(m, inverse_of_cde, cd),
-        multiply(m, inverse_of_all, cde),
-    ]
-}
 
 // The steps that some words have in their digits, done from the first to the last, or undone from the last to the first. There is one loop for both, so that
 // the compiler has one place where a step is done and puts it there in full.

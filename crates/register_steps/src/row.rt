@@ -6,17 +6,7 @@ ghost use Rattle.montgomery.specs.Inner.Forms.{formTimes};
 ghost use Rattle.machine.specs.Machine.{reg};
 use montgomery::Modulus;
 use montgomery::multiply;
-
-// The register of a number; past the last there is none, and 0 stands for it.
-pub(crate) fn register(values: &[u32], i: u32) -> u32
-    ensures { λ x. ⌜ x ≡ reg (now (values .entry)) i ⌝ }
-{
-    let at = i as usize;
-    if at < values.len() {
-        return values[at];
-    }
-    0
-}
+use register_forms::register;
 
 // One register multiplied.
 pub(crate) fn multiply_register(values: &mut [u32], t: u32, y: u32, m: Modulus)

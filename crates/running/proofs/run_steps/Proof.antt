@@ -11,7 +11,7 @@ use Rattle.tape.specs.Layout.{stepsIn}
 use Rattle.tape.specs.Inner.Operations.{rawSteps}
 use Rattle.machine.specs.Machine.{valuesOf}
 use Rattle.machine.specs.Inner.Carried.{directedSteps}
-use Rattle.register_steps.proofs.Laws.Forms.{run-in-forms}
+use Rattle.register_forms.proofs.Laws.Forms.{run-in-forms}
 use Rattle.sequencer.specs.Inner.Runs.{between}
 use Rattle.sequencer.proofs.Laws.Positions.{run-between, between-raw, directed-sound}
 use Rattle.running.proofs.run_steps.Statement.{statement}

@@ -1,4 +1,5 @@
 -- `row::exchange` meets its contract: both registers are read before one is set.
+use mathlib.Core.Path.{_∙_}
 use borrow.Author.Needs.{needs}
 use Rattle.register_steps.proofs.row.exchange.Statement.{statement}
 use Rattle.register_steps.proofs.row.exchange.Tie as tie
@@ -8,7 +9,8 @@ returns c =
     let after = c .before .before in
     let once = after .before .before .before .before in
     let second = once .before .before in
-    cc (second .before .before .register .ensures, second .register2 .ensures, once .set-register .ensures, after .set-register2 .ensures)
+    after .set-register2 .ensures
+    ∙ rw (once .set-register .ensures, second .before .before .register .ensures, second .register2 .ensures)
 
 pub exchange-spec : {M : Type 1} → statement M
 exchange-spec =

@@ -1,7 +1,7 @@
 -- `registers_of` meets its contract: each register leaves the form.
 use borrow.Author.Needs.{needs}
-use Rattle.register_steps.proofs.registers_of.Statement.{statement}
-use Rattle.register_steps.proofs.registers_of.Tie as tie
+use Rattle.register_forms.proofs.registers_of.Statement.{statement}
+use Rattle.register_forms.proofs.registers_of.Tie as tie
 
 returns : tie.Need-returns
 returns c =
@@ -12,7 +12,7 @@ returns c =
     let three = four .before in
     let two = three .before in
     let one = two .before in
-    cc (one .register .ensures, two .leave .ensures, three .register2 .ensures, four .leave2 .ensures, five .register3 .ensures, six .leave3 .ensures, seven .register4 .ensures, c .leave4 .ensures)
+    rw (c .leave4 .ensures, seven .register4 .ensures, six .leave3 .ensures, five .register3 .ensures, four .leave2 .ensures, three .register2 .ensures, two .leave .ensures, one .register .ensures)
 
 pub registers-of-spec : {M : Type 1} → statement M
 registers-of-spec =

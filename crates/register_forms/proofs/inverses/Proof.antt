@@ -5,8 +5,8 @@ use Prim.Native.Nat.{ℕ}
 use borrow.Author.Needs.{needs}
 use Rattle.machine.specs.Machine.{reg}
 use Rattle.machine.specs.Inner.Carried.{inversesWith}
-use Rattle.register_steps.proofs.inverses.Statement.{statement}
-use Rattle.register_steps.proofs.inverses.Tie as tie
+use Rattle.register_forms.proofs.inverses.Statement.{statement}
+use Rattle.register_forms.proofs.inverses.Tie as tie
 
 module _ (product : ℕ → ℕ → ℕ) (invert : ℕ → ℕ) (v : List ℕ) {a b c d ab abc abcd all three two i j k l : ℕ} where
   by-products : a ≡ reg v 0 → b ≡ reg v 1 → c ≡ reg v 2 → d ≡ reg v 3 → ab ≡ product a b → abc ≡ product ab c → abcd ≡ product abc d
