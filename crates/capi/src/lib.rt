@@ -41,7 +41,7 @@ pub extern "C" fn fibexp_places(n: u64, places: &mut [u8], count: &mut u32) -> u
     ensures { λ _. ⌜ now (places .exit) ≡ placesBuffer n (now (places .entry)) ⌝ }
     ensures { λ _. ⌜ now (count .exit) ≡ after (placesOutcome n (length (now (places .entry)))) (now (count .entry)) ⌝ }
 {
-    store_u32(zeckendorf::places(n, places), count)
+    store_u32(places::places(n, places), count)
 }
 
 // List to number: 13, 12.
@@ -50,7 +50,7 @@ pub extern "C" fn fibexp_number(places: &[u8], n: &mut u64) -> u32
     ensures { λ number. ⌜ number ≡ refusalNumber (numberOutcome (now (places .entry))) ⌝ }
     ensures { λ _. ⌜ now (n .exit) ≡ after (numberOutcome (now (places .entry))) (now (n .entry)) ⌝ }
 {
-    store_u64(zeckendorf::number_of_places(places), n)
+    store_u64(places::number_of_places(places), n)
 }
 
 // Hofstadter's G, which refuses nothing: the answer is G(n) itself.

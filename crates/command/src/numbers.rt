@@ -108,5 +108,5 @@ fn number_of(own: u32, values: &[u64], text: &mut [u8]) -> Reply
 {
     let mut row = [0u8; MAX_PARAMETERS];
     let count = bytes(values, &mut row);
-    answer(text, own, zeckendorf::number_of_places(&row[..count]))
+    answer(text, own, places::number_of_places(&row[..count]))
 }

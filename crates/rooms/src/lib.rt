@@ -47,7 +47,7 @@ fn places_into(own: u32, n: u64, row: &mut [u8], text: &mut [u8]) -> usize
     ensures { λ length. ⌜ Put (now (text .entry)) 0 (placesInto (now (row .entry)) own (n ∷ [])) length (now (text .exit)) ⌝ }
     ensures { λ _. ⌜ length (placesInto (now (row .entry)) own (n ∷ [])) ≤ maxCommanded ⌝ }
 {
-    let found = zeckendorf::places(n, row);
+    let found = places::places(n, row);
     let next = answer(text, own, found).length;
     bytes_line(text, next, row)
 }

@@ -6,12 +6,12 @@ use native.Mathlib.Omega.{arith}
 use borrow.Author.Needs.{needs}
 use borrow.Author.Tests.{lt-ltb, le-ltb}
 use lib.ListN.{length, take, drop, length-append}
-use lib.Seq.{take-at, take-length}
+use lib.Seq.{take-at}
 use Rattle.refusal.specs.declared.Refusal.the-variants.{Room}
 use Rattle.refusal.specs.Outcomes.{refused, answered, gives, passes, answers, row-kept, row-written}
 use Rattle.fibonacci.specs.Services.{placesOf, formRow, placesOutcome, placesBuffer}
-use Rattle.zeckendorf.proofs.places.Statement.{statement}
-use Rattle.zeckendorf.proofs.places.Tie as tie
+use Rattle.places.proofs.places.Statement.{statement}
+use Rattle.places.proofs.places.Tie as tie
 
 short : (n room : ℕ) → room < length (placesOf n) → placesOutcome n room ≡ refused 5
 unfolding placesOutcome
@@ -24,10 +24,6 @@ enough n room h = passes Room [] (length (placesOf n)) (le-ltb room (length (pla
 -- the list stands at the front of the buffer that holds the form
 front : (n count : ℕ) (buffer : List ℕ) → count ≡ length (placesOf n) → buffer ≡ formRow n → take count buffer ≡ placesOf n
 front n count buffer e f = rw f (take-at (placesOf n) _ count (sym e))
-
--- what copying a list into a buffer leaves there
-copied : {src after : List ℕ} (list buffer : List ℕ) → src ≡ list → after ≡ take (length src) src ++ drop (length src) buffer → after ≡ list ++ drop (length list) buffer
-copied list buffer e f = f ∙ rw e (ap (λ (l : List ℕ). l ++ drop (length list) buffer) (take-length list))
 
 -- what the form's buffer holds up to its count
 listed : (c : tie.After-zeckendorf) → take (c .zeckendorf .result .count) (c .zeckendorf .result .places) ≡ placesOf (c .before .before .args .n)
@@ -46,11 +42,11 @@ array-share-prefix-list c =
     let n = c .before .before .before .before .args .n in
     omega (arith, c .before .before .zeckendorf .ensures .0, ap length (c .before .before .zeckendorf .ensures .1) ∙ length-append (placesOf n) _)
 
-slice-aggregate-copy : tie.Need-slice-aggregate-copy
-slice-aggregate-copy c = c .before .before .before .zeckendorf .ensures .0 ∙ sym (ap length (listed (c .before .before .before)))
+slice-aggregate-copy-to-front : tie.Need-slice-aggregate-copy-to-front
+slice-aggregate-copy-to-front c = c .before .before .before .zeckendorf .ensures .0 ∙ sym (ap length (listed (c .before .before .before)))
 
-copy-requires : tie.Need-copy-requires
-copy-requires c κs = omega (arith, c .before .before .before .before .zeckendorf .ensures .0, ap length (listed (c .before .before .before .before)))
+copy-to-front-requires : tie.Need-copy-to-front-requires
+copy-to-front-requires c κs = omega (arith, c .before .before .before .before .zeckendorf .ensures .0, ap length (listed (c .before .before .before .before)))
 
 returns-2 : tie.Need-returns-2
 unfolding placesBuffer
@@ -59,8 +55,7 @@ returns-2 c =
     let n = z .before .before .args .n in
     let buffer = z .before .before .args .buffer .now in
     let e = enough n (length buffer) (omega (arith, z .zeckendorf .ensures .0)) in
-    let w = c .before .before .copy .ensures .1 in
-    (ap answered (z .zeckendorf .ensures .0) ∙ sym e, copied (placesOf n) buffer (listed z) w ∙ sym (row-written (placesOf n) buffer e))
+    (ap answered (z .zeckendorf .ensures .0) ∙ sym e, c .before .before .copy-to-front .ensures ∙ ap (λ (l : List ℕ). l ++ drop (length l) buffer) (listed z) ∙ sym (row-written (placesOf n) buffer e))
 
 pub places-spec : {M : Type 1} → statement M
 places-spec =
@@ -69,7 +64,7 @@ places-spec =
     (λ c κs. search needs)
     returns
     array-share-prefix-list
-    slice-aggregate-copy
-    copy-requires
+    slice-aggregate-copy-to-front
+    copy-to-front-requires
     (λ c. search needs)
     returns-2)

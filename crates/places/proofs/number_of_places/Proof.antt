@@ -16,8 +16,8 @@ use Rattle.fibonacci.specs.Services.{lastPlace, numberOutcome}
 use Rattle.fibonacci.proofs.Laws.Fibonacci.{fibonacci-below-94}
 use Rattle.fibonacci.proofs.Laws.Places.{test-places, places-at}
 use Rattle.fibonacci.proofs.Laws.Summing.{Summing, summing-starts, summing-next, summing-stops, summing-ends, summing-sum, sum-short, sum-whole}
-use Rattle.zeckendorf.proofs.number_of_places.Statement.{statement}
-use Rattle.zeckendorf.proofs.number_of_places.Tie as tie
+use Rattle.places.proofs.number_of_places.Statement.{statement}
+use Rattle.places.proofs.number_of_places.Tie as tie
 
 -- ---- each return is a case of the list of refusals
 
