@@ -60,11 +60,11 @@ fn write(p: u32, r: u32, k: u32, variant: u32, forms: FormRows, buffer: &mut [u3
         exponent: k,
         steps: steps as u32,
     };
-    let total = layout::word_count(header);
+    let total = laying::word_count(header);
     if buffer.len() < total {
         return NumberAnswer::Refused(Refusal::Room);
     }
-    let at = layout::lay_out(buffer, header);
+    let at = laying::lay_out(buffer, header);
     draw(buffer, at, forms);
     NumberAnswer::Answered(total as u64)
 }

@@ -3,18 +3,14 @@ ghost use mathlib.Core.Path.{_≡_};
 ghost use Prim.Native.Nat.{_≤_};
 ghost use lib.ListN.{length};
 ghost use Rattle.tape.specs.Words.{decoded};
-ghost use Rattle.tape.specs.Layout.{maxWords, stepCount, endAt, sortOf, valueOf, meansAt, headerOf, isLength, isHeader, isFreeOrNamed, allSteps, isEnd, numbersFit};
+ghost use Rattle.tape.specs.Layout.{maxWords, stepCount, endAt, sortOf, valueOf, meansAt, headerOf, isLength, isHeader, isFreeOrNamed, allSteps, isEnd};
 use decoding::decode;
 use decoding::is_step;
 use tape::Decoded;
 use tape::HEADER_WORDS;
 use tape::Header;
 use tape::MAX_WORDS;
-use tape::NUMBER_LIMIT;
 use tape::OTHER_WORDS;
-
-// Variants are below this.
-const VARIANT_LIMIT: u32 = 16;
 
 // 5 to 512 words.
 pub(crate) fn is_length(tape: &[u32]) -> bool
@@ -143,23 +139,4 @@ pub(crate) fn value_of(d: Decoded) -> u32
         Decoded::End(count) => count,
         Decoded::Bad => 0,
     }
-}
-
-// Each number fits its word.
-pub(crate) fn numbers_fit(h: Header) -> bool
-    ensures { λ r. ⌜ r ≡ numbersFit h ⌝ }
-{
-    if VARIANT_LIMIT <= h.variant {
-        return false;
-    }
-    if NUMBER_LIMIT <= h.modulus {
-        return false;
-    }
-    if NUMBER_LIMIT <= h.order {
-        return false;
-    }
-    if NUMBER_LIMIT <= h.exponent {
-        return false;
-    }
-    h.steps < NUMBER_LIMIT
 }

@@ -11,8 +11,8 @@ use Rattle.tape.specs.Words.{encoded}
 use Rattle.tape.specs.Layout.{wordCount, numbersFit}
 use Rattle.tape.proofs.Laws.Layout.{HeaderFits}
 use Rattle.tape.proofs.Laws.Writing.{numbers-fit, place-short, place-unfit, place-there, none-laid, laid-there}
-use Rattle.layout.proofs.lay_out.Statement.{statement}
-use Rattle.layout.proofs.lay_out.Tie as tie
+use Rattle.laying.proofs.lay_out.Statement.{statement}
+use Rattle.laying.proofs.lay_out.Tie as tie
 
 long : (c : tie.Else1) → let args = c .before .before .before .args in wordCount (args .header) ≤ length (args .buffer .now)
 long c = omega (arith, c .before .word-count .ensures, c .if1 .left)

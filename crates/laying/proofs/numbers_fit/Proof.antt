@@ -1,8 +1,8 @@
--- `rules::numbers_fit` meets its contract: each return is a case of the definition by its tests.
+-- `numbers_fit` meets its contract: each return is a case of the definition by its tests.
 use borrow.Author.Tests.{lt-ltb, le-ltb}
 use Rattle.tape.specs.Layout.{numbersFit}
-use Rattle.layout.proofs.rules.numbers_fit.Statement.{statement}
-use Rattle.layout.proofs.rules.numbers_fit.Tie as tie
+use Rattle.laying.proofs.numbers_fit.Statement.{statement}
+use Rattle.laying.proofs.numbers_fit.Tie as tie
 
 returns : tie.Need-returns
 unfolding numbersFit
