@@ -1,48 +1,28 @@
 -- `add` meets its contract: the number that a mul makes is tested, and where it is in the range set, as the definition has it.
-use mathlib.Core.Path.{_≡_, refl, sym, _∙_}
+use mathlib.Core.Path.{refl}
 use lib.IntN.{_+ℤ_}
 use borrow.Author.Needs.{needs}
-use borrow.Author.Tests.{not-true, not-false}
-use mir.Syntax.{w64}
-use mir.Val.{toZ, ofZ}
 use Rattle.tape.specs.declared.Step.the-variants.{Mul}
-use Rattle.machine.specs.Exponents.{inRange}
-use Rattle.machine.proofs.Laws.Sums.{Makes, from-bits, range-fits, mul-makes, step-stops, step-done}
+use Rattle.machine.proofs.Laws.Sums.{mul-makes}
+use Rattle.exponent_steps.proofs.Laws.Bits.{Arm, arm}
 use Rattle.exponent_steps.proofs.add.Statement.{statement}
 use Rattle.exponent_steps.proofs.add.Tie as tie
 
--- the number, and what the code's test says of it
-module _ (c : tie.After-is-sum-in-range) where
-  made : let second = c .before in let first = second .before .before in let args = first .before .before .args in
-      Makes (Mul (args .target) (args .source)) (args .exponents .now) (args .target) (first .exponent .result +ℤ second .exponent2 .result)
-  made =
-      let second = c .before in
-      let first = second .before .before in
-      mul-makes _ _ _ _ _ _ (first .exponent .ensures) (second .exponent2 .ensures) refl
-
-  X : toZ w64 (ofZ w64 (c .before .before .before .exponent .result)) ≡ c .before .before .before .exponent .result
-  X = from-bits _ (c .before .before .before .exponent .ok)
-
-  Y : toZ w64 (ofZ w64 (c .before .exponent2 .result)) ≡ c .before .exponent2 .result
-  Y = from-bits _ (c .before .exponent2 .ok)
-
-  tested : inRange (c .before .before .before .exponent .result +ℤ c .before .exponent2 .result) ≡ c .is-sum-in-range .result
-  tested = sym (c .is-sum-in-range .ensures ∙ rw (X, Y))
+sum : (c : tie.After-is-sum-in-range) → let second = c .before in let first = second .before .before in let args = first .before .before .args in
+    Arm _+ℤ_ (Mul (args .target) (args .source)) (args .exponents .now) (args .target) (first .exponent .result) (second .exponent2 .result) (c .is-sum-in-range .result)
+sum c =
+    let second = c .before in
+    let first = second .before .before in
+    arm _+ℤ_ _ _ (first .exponent .ok) (second .exponent2 .ok) _ _ _ _ (mul-makes _ _ _ _ _ _ (first .exponent .ensures) (second .exponent2 .ensures) refl) (c .is-sum-in-range .ensures)
 
 returns : tie.Need-returns
-returns c = step-stops _ _ _ _ (made (c .before)) (tested (c .before) ∙ not-true _ (c .if1 .taken))
+returns c = sum (c .before) .stops (c .if1 .taken)
 
 add-set-exponent : tie.Need-add-set-exponent
-add-set-exponent c =
-    let test = c .before .before in
-    rw (X test, Y test) (range-fits _ (tested test ∙ not-false _ (c .before .if1 .left)))
+add-set-exponent c = sum (c .before .before) .fits (c .before .if1 .left)
 
 returns-2 : tie.Need-returns-2
-returns-2 c =
-    let inside = c .before .before .before in
-    let test = inside .before in
-    let r = tested test ∙ not-false _ (inside .if1 .left) in
-    step-done _ _ _ _ (made test) _ r (c .before .set-exponent .ensures ∙ rw (X test, Y test, from-bits _ (range-fits _ r .sfits)))
+returns-2 c = let inside = c .before .before .before in sum (inside .before) .done (inside .if1 .left) _ (c .before .set-exponent .ensures)
 
 pub add-spec : {M : Type 1} → statement M
 add-spec =

@@ -10,7 +10,7 @@ returns c =
     let second = third .before in
     let first = second .before in
     rw (from-bits _ (first .exponent .ok), from-bits _ (second .exponent2 .ok), from-bits _ (third .exponent3 .ok), from-bits _ (c .exponent4 .ok))
-    (cc (first .exponent .ensures, second .exponent2 .ensures, third .exponent3 .ensures, c .exponent4 .ensures))
+    (rw (first .exponent .ensures, second .exponent2 .ensures, third .exponent3 .ensures, c .exponent4 .ensures))
 
 pub exponents-of-spec : {M : Type 1} → statement M
 exponents-of-spec =

@@ -1,68 +1,31 @@
 -- `whole::is_sum_in_range` meets its contract: near 0 both are in half of the range; else above 0 a sum is told by what is left of the range above, else by what is left
 -- below.
-use mathlib.Core.Path.{_≡_, sym}
 use lib.IntN.{_+ℤ_, _-ℤ_}
 use lib.Signed.{leZ}
 use borrow.Author.Needs.{needs}
-use mir.Syntax.{w64}
-use mir.Val.{toZ, ofZ}
-use Rattle.machine.proofs.Laws.Sums.{RangeTested, lowest, highest, from-bits, sum-above, sum-below}
+use Rattle.machine.proofs.Laws.Sums.{lowest, highest, from-bits, sum-above, sum-below}
+use Rattle.exponent_steps.proofs.Laws.Bits.{TestedBack, near-back, tested-back}
 use Rattle.exponent_steps.proofs.whole.is_sum_in_range.Statement.{statement}
 use Rattle.exponent_steps.proofs.whole.is_sum_in_range.Tie as tie
 
--- a parameter comes back from its bits
-X : (c : tie.After-are-near) → toZ w64 (ofZ w64 (c .before .args .x)) ≡ c .before .args .x
-X c = from-bits (c .before .args .x) (c .before .fits .x .sfits)
-
-Y : (c : tie.After-are-near) → toZ w64 (ofZ w64 (c .before .args .y)) ≡ c .before .args .y
-Y c = from-bits (c .before .args .y) (c .before .fits .y .sfits)
-
 returns : tie.Need-returns
-returns c = sym (rw (X (c .before), Y (c .before)) at (c .before .are-near .ensures (c .if1 .taken) .0))
+returns c =
+    let s = c .before .before in
+    near-back _+ℤ_ (s .args .x) (s .args .y) (s .fits .x .sfits) (s .fits .y .sfits) (c .before .are-near .ensures (c .if1 .taken) .0)
 
-above : (c : tie.Then2) → let start = c .before .before .before in let x = start .args .x in let y = start .args .y in RangeTested (highest -ℤ y) (leZ x (highest -ℤ y)) (x +ℤ y) (leZ lowest (x +ℤ y))
-above c = let s = c .before .before in sum-above _ _ (s .before .fits .x) (s .before .fits .y) (rw (Y s) at (c .if2 .taken))
-
-below : (c : tie.Else2) → let start = c .before .before .before in let x = start .args .x in let y = start .args .y in RangeTested (lowest -ℤ y) (leZ (lowest -ℤ y) x) (x +ℤ y) (leZ (x +ℤ y) highest)
-below c = let s = c .before .before in sum-below _ _ (s .before .fits .x) (s .before .fits .y) (rw (Y s) at (c .if2 .left))
-
-sub-if3 : tie.Need-sub-if3
-sub-if3 c = rw (Y (c .before .before)) (above c .left-fits)
-
-add-result : tie.Need-add-result
-add-result c =
-    let t = above (c .before) in
+above : (c : tie.Then2) → let args = c .before .before .before .args in TestedBack (λ y. highest -ℤ y) leZ _+ℤ_ (leZ lowest) (args .x) (args .y)
+above c =
     let s = c .before .before .before in
-    rw (X s, Y s) (t .made-fits (rw (X s, Y s, from-bits _ (t .left-fits .sfits)) at (c .if3 .taken)))
+    let x = s .fits .x in
+    let y = s .fits .y in
+    tested-back _+ℤ_ _ _ (x .sfits) (y .sfits) _ _ _ (sum-above _ _ x y (rw (from-bits _ (y .sfits)) at (c .if2 .taken)))
 
-returns-2 : tie.Need-returns-2
-returns-2 c =
-    let t = above (c .before) in
+below : (c : tie.Else2) → let args = c .before .before .before .args in TestedBack (λ y. lowest -ℤ y) (λ x l. leZ l x) _+ℤ_ (λ e. leZ e highest) (args .x) (args .y)
+below c =
     let s = c .before .before .before in
-    let first = rw (X s, Y s, from-bits _ (t .left-fits .sfits)) at (c .if3 .taken) in
-    rw (X s, Y s, from-bits _ (t .made-fits first .sfits)) (t .tested first)
-
-returns-3 : tie.Need-returns-3
-returns-3 c = let t = above (c .before) in let s = c .before .before .before in t .outside (rw (X s, Y s, from-bits _ (t .left-fits .sfits)) at (c .if3 .left))
-
-sub-if4 : tie.Need-sub-if4
-sub-if4 c = rw (Y (c .before .before)) (below c .left-fits)
-
-add-result-2 : tie.Need-add-result-2
-add-result-2 c =
-    let t = below (c .before) in
-    let s = c .before .before .before in
-    rw (X s, Y s) (t .made-fits (rw (X s, Y s, from-bits _ (t .left-fits .sfits)) at (c .if4 .taken)))
-
-returns-4 : tie.Need-returns-4
-returns-4 c =
-    let t = below (c .before) in
-    let s = c .before .before .before in
-    let first = rw (X s, Y s, from-bits _ (t .left-fits .sfits)) at (c .if4 .taken) in
-    rw (X s, Y s, from-bits _ (t .made-fits first .sfits)) (t .tested first)
-
-returns-5 : tie.Need-returns-5
-returns-5 c = let t = below (c .before) in let s = c .before .before .before in t .outside (rw (X s, Y s, from-bits _ (t .left-fits .sfits)) at (c .if4 .left))
+    let x = s .fits .x in
+    let y = s .fits .y in
+    tested-back _+ℤ_ _ _ (x .sfits) (y .sfits) _ _ _ (sum-below _ _ x y (rw (from-bits _ (y .sfits)) at (c .if2 .left)))
 
 pub is-sum-in-range-spec : {M : Type 1} → statement M
 is-sum-in-range-spec =
@@ -70,11 +33,11 @@ is-sum-in-range-spec =
     (tie.spec
     (λ c κs. search needs)
     returns
-    sub-if3
-    add-result
-    returns-2
-    returns-3
-    sub-if4
-    add-result-2
-    returns-4
-    returns-5)
+    (λ c. above c .left-fits)
+    (λ c. above (c .before) .made-fits (c .if3 .taken))
+    (λ c. above (c .before) .tested (c .if3 .taken))
+    (λ c. above (c .before) .outside (c .if3 .left))
+    (λ c. below c .left-fits)
+    (λ c. below (c .before) .made-fits (c .if4 .taken))
+    (λ c. below (c .before) .tested (c .if4 .taken))
+    (λ c. below (c .before) .outside (c .if4 .left)))
