@@ -15,7 +15,7 @@ returns c =
     let first = second .before in
     record {
       value-is = refl;
-      inverse-is = cc (first .lifted .ensures, second .lifted2 .ensures, third .lifted3 .ensures, fourth .lifted4 .ensures, fifth .lifted5 .ensures);
+      inverse-is = rw (fifth .lifted5 .ensures, fourth .lifted4 .ensures, third .lifted3 .ensures, second .lifted2 .ensures, first .lifted .ensures);
       square-is = c .square-of .ensures;
     }
 
