@@ -3,8 +3,8 @@ mod table;
 
 ghost use mathlib.Core.Path.{_≡_};
 ghost use Prim.Native.Nat.{_%_, _<_};
-ghost use Rattle.divisors.specs.Small.{limit, hasSmallDivisor};
-ghost use Rattle.divisors.specs.Inner.Inverted.{NoneBelow, sumLimit, carryOf, HalfWordInverse, Inverses, ZeroWhereDivided, DividedByOne};
+ghost use Rattle.divisors.specs.Small.{hasSmallDivisor};
+ghost use Rattle.divisors.specs.Inner.Inverted.{sumLimit, carryOf, HalfWordInverse, Table, LeftOver, ZeroWhereDivided, DividedByOne};
 use table::INVERSES_FROM_4097;
 use table::INVERSES_TO_4096;
 use table::PRIMES_FROM_4097;
@@ -47,8 +47,7 @@ pub fn has_small_divisor(p: u32) -> bool
 // The same by the second table, where the first has no divisor: in a function of its own, since a constant that is lent is written
 // out where its function begins.
 fn has_divisor_from_4097(p: u32) -> bool
-    requires { ⌜ (limit < p) × (p < sumLimit) ⌝ }
-    requires { ⌜ (¬ (p % 2 ≡ 0)) × NoneBelow p 4097 ⌝ }
+    requires { ⌜ LeftOver p ⌝ }
     ensures { λ r. ⌜ r ≡ hasSmallDivisor p ⌝ }
 {
     has_divisor_among(p, &PRIMES_FROM_4097, &INVERSES_FROM_4097)
@@ -57,8 +56,7 @@ fn has_divisor_from_4097(p: u32) -> bool
 // Whether one of the primes divides p. The loop does not end early, and keeps the least excess rather than whether one was zero:
 // that is a form of which the compiler makes one over eight entries at a time.
 fn has_divisor_among(p: u32, primes: &[u16], inverses: &[u16]) -> bool
-    requires { ⌜ (limit < p) × (p < sumLimit) ⌝ }
-    requires { ⌜ Inverses (now primes) (now inverses) ⌝ }
+    requires { ⌜ Table p (now primes) (now inverses) ⌝ }
     ensures { λ r. ⌜ DividedByOne (now (primes .entry)) p r ⌝ }
 {
     let mut least: u16 = 65535;

@@ -1,10 +1,9 @@
 -- `excess` meets its contract: it computes what `large-divided` speaks of.
-use mathlib.Core.Path.{_≡_}
 use Prim.Native.Nat.{_%_}
 use native.Mathlib.Omega.{arith}
 use borrow.Author.Needs.{needs}
-use Rattle.divisors.specs.Inner.Inverted.{halfWord, carryOf}
-use Rattle.divisors.proofs.Laws.Quotients.{carry-at-most, restOf, large-divided}
+use Rattle.divisors.specs.Inner.Inverted.{halfWord}
+use Rattle.divisors.proofs.Laws.Quotients.{carry-at-most, large-divided}
 use Rattle.divisors.proofs.excess.Statement.{statement}
 use Rattle.divisors.proofs.excess.Tie as tie
 
@@ -15,10 +14,9 @@ sub-rest c =
 
 returns : tie.Need-returns
 returns c =
-    let start = c .before .before in
-    let a = start .args in
-    let e : c .carry2 .result ≡ carryOf (restOf (a .p) (a .d) (a .inverse)) (a .d) (a .inverse) = cc in
-    rw e (large-divided _ _ _ (start .pre .0) (start .pre .1))
+    let first = c .before in
+    let start = first .before in
+    rw (c .carry2 .ensures, first .carry .ensures) (large-divided _ _ _ (start .pre .0) (start .pre .1))
 
 pub excess-spec : {M : Type 1} → statement M
 excess-spec =

@@ -18,12 +18,12 @@ loop-holds : tie.Need-loop-holds Inv-loop μ-loop
 loop-holds c = (omega arith, least-start _ _)
 
 shared-slice-read-excess-2 : tie.Need-shared-slice-read-excess-2 Inv-loop μ-loop
-shared-slice-read-excess-2 c = omega (arith, c .before .before .before .before .before .before .pre .1 .same)
+shared-slice-read-excess-2 c = omega (arith, c .before .before .before .before .before .before .pre .inverses .same)
 
 excess-requires : tie.Need-excess-requires Inv-loop μ-loop
 excess-requires c κs =
     let start = c .before .before .before .before .before .before in
-    (start .pre .0 .1, start .pre .1 .each _ (omega arith))
+    (start .pre .reach .below, start .pre .inverses .each _ (omega arith))
 
 loop-less : tie.Need-loop-less Inv-loop μ-loop
 loop-less c = omega arith
@@ -42,7 +42,7 @@ loop-again c =
 returns : tie.Need-returns Inv-loop μ-loop
 returns c =
     let start = c .before .before .before .before in
-    least-end _ _ _ _ (start .pre .0 .0) (start .pre .1) (omega arith) (c .before .loop .inv .1)
+    least-end _ _ _ _ (start .pre .reach .above) (start .pre .inverses) (omega arith) (c .before .loop .inv .1)
 
 pub has-divisor-among-spec : {M : Type 1} → statement M
 has-divisor-among-spec =

@@ -10,7 +10,7 @@ use Rattle.divisors.proofs.has_divisor_from_4097.Tie as tie
 
 has-divisor-among-requires : tie.Need-has-divisor-among-requires
 unfolding areInverses
-has-divisor-among-requires c κs = (c .before .before .pre .0, inverses _ _ refl)
+has-divisor-among-requires c κs = record { reach = c .before .before .pre .reach; inverses = inverses _ _ refl }
 
 returns : tie.Need-returns
 unfolding covers dividedBy
@@ -18,7 +18,7 @@ returns c =
     let a = c .has-divisor-among .ensures in
     let start = c .before .before .before in
     small-told _ _ (a .some)
-    (λ e d s. none-listed _ (start .pre .1 .0) 6144 4097 a e refl (omega arith) (start .pre .1 .1) d (omega (arith, s .high)) s)
+    (λ e d s. none-listed _ (start .pre .odd) 6144 4097 a e refl (omega arith) (start .pre .none-below) d (omega (arith, s .high)) s)
 
 pub has-divisor-from-4097-spec : {M : Type 1} → statement M
 has-divisor-from-4097-spec =

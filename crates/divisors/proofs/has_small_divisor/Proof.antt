@@ -19,7 +19,7 @@ returns-2 c = told-by-least _ 3 (omega arith) (omega arith) (c .if2 .taken) (non
 
 has-divisor-among-requires : tie.Need-has-divisor-among-requires
 unfolding areInverses
-has-divisor-among-requires c κs = (omega arith, inverses _ _ refl)
+has-divisor-among-requires c κs = record { reach = record { above = omega arith; below = omega arith }; inverses = inverses _ _ refl }
 
 returns-5 : tie.Need-returns-5
 returns-5 c = let s = c .before .has-divisor-among .ensures .some (c .if5 .taken) in sym (small-test _ (s .0) (s .1))
@@ -38,7 +38,8 @@ returns-6 : tie.Need-returns-6
 returns-6 c = none-told _ (none-past-root _ 4097 (omega arith) (none-below-4097 (c .before)))
 
 has-divisor-from-4097-requires : tie.Need-has-divisor-from-4097-requires
-has-divisor-from-4097-requires c κs = ((omega arith, omega arith), (odd (c .before), none-below-4097 (c .before)))
+has-divisor-from-4097-requires c κs =
+    record { reach = record { above = omega arith; below = omega arith }; odd = odd (c .before); none-below = none-below-4097 (c .before) }
 
 pub has-small-divisor-spec : {M : Type 1} → statement M
 has-small-divisor-spec =

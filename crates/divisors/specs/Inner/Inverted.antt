@@ -37,6 +37,22 @@ pub record Inverses (ds xs : List ℕ) : Type 0 where
   pub same : length xs ≡ length ds
   pub each : (j : ℕ) → j < length ds → HalfWordInverse (getD ds j 0) (getD xs j 0)
 
+-- p is above every entry, and no sum of `excess` is too large for it
+pub record InReach (p : ℕ) : Type 0 where
+  pub above : limit < p
+  pub below : p < sumLimit
+
+-- a table for p: the entries ds and their inverses xs
+pub record Table (p : ℕ) (ds xs : List ℕ) : Type 0 where
+  pub reach : InReach p
+  pub inverses : Inverses ds xs
+
+-- p is left for the second table: the first has told that no number below 4097 divides it
+pub record LeftOver (p : ℕ) : Type 0 where
+  pub reach : InReach p
+  pub odd : ¬ (p % 2 ≡ 0)
+  pub none-below : NoneBelow p 4097
+
 -- r is zero where d divides p, and only there
 pub record ZeroWhereDivided (p d r : ℕ) : Type 0 where
   pub divides : r ≡ 0 → d ∣ p
