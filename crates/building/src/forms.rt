@@ -1,13 +1,13 @@
 // The forms that a variant's program is drawn from, as rows of bits; apart from how their steps are written.
 ghost use mathlib.Core.Path.{_≡_};
 ghost use mathlib.Core.Bool.{false};
-ghost use Prim.Native.Nat.{_*_, _≤_};
+ghost use Prim.Native.Nat.{_*_};
 ghost use Rattle.modular.specs.Residues.{remainder};
 ghost use Rattle.fibonacci.specs.Forms.{zeckendorf};
 ghost use Rattle.named.specs.Generators.{lone, stepsFrom};
 ghost use Rattle.named.specs.Named.{dualForms, hybridForms};
 ghost use Rattle.named.specs.Parameters.{badVariant};
-ghost use Rattle.program.specs.Inner.Forms.{Invertible, BitsOf, rowsOf, RowsFromTable};
+ghost use Rattle.program.specs.Inner.Forms.{Invertible, BitsOf, rowsOf, Few, RowsFromTable};
 use fibonacci::BitString;
 use golden::fibonacci_or_zero;
 use modular::product;
@@ -31,7 +31,7 @@ pub(crate) fn forms(variant: u32, r: u32, k: u32, inverse: u32) -> FormRows
 // How many steps a figure draws, from the lengths of its first and its last form and how many places are set: two for each place, one
 // for each that is set, and the swaps. Figure 2 goes along its chains twice.
 pub(crate) fn step_count(figure: Figure, first: usize, last: usize, count: usize) -> usize
-    requires { ⌜ (first ≤ 92) × (last ≤ 92) × (count ≤ 368) ⌝ }
+    requires { ⌜ Few first last count ⌝ }
     ensures { λ steps. ⌜ steps ≡ stepsFrom figure first last count ⌝ }
 {
     let chains = 2 * (first + last);

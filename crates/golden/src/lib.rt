@@ -1,10 +1,10 @@
 // Numbers of the golden ratio: Fibonacci numbers, Hofstadter's G and h.
 ghost use mathlib.Core.Path.{_≡_};
-ghost use Prim.Native.Nat.{_+_, _*_};
 ghost use Rattle.refusal.specs.Outcomes.{numberOutcomeOf};
 ghost use Rattle.fibonacci.specs.Hofstadter.{G};
 ghost use Rattle.fibonacci.specs.Height.{height};
 ghost use Rattle.fibonacci.specs.Services.{fibonacciOrZero, fibonacciOutcome};
+ghost use Rattle.fibonacci.specs.Inner.Pairs.{PairAt};
 use refusal::NumberAnswer;
 use refusal::Refusal;
 
@@ -73,7 +73,7 @@ pub fn fibonacci_or_zero(index: u32) -> u64
 // An even index's Fibonacci number and the next, from half the index. Of the arms the compiler makes tables in read-only memory, and it puts
 // the look-up in the caller's place, since they are few enough; a constant array it would write out on the stack at each use.
 fn pair_at(half: u32) -> Neighbours
-    ensures { λ r. ⌜ (r .0 ≡ fibonacciOrZero (2 * half)) × (r .1 ≡ fibonacciOrZero (2 * half + 1)) ⌝ }
+    ensures { λ r. ⌜ PairAt half (r .0) (r .1) ⌝ }
 {
     match half {
         0 => Neighbours(0, 1),

@@ -9,7 +9,7 @@ use Rattle.tape.specs.declared.Header.{Header}
 use Rattle.tape.specs.Layout.{headerFor}
 use Rattle.tape.proofs.Laws.Layout.{program-length}
 use Rattle.named.specs.Named.{namedProgram}
-use Rattle.program.proofs.Laws.Building.{named-short, whole, small, count-is, built-short, steps-room, built-written}
+use Rattle.program.proofs.Laws.Building.{named-short, whole, few, count-is, built-short, steps-room, built-written}
 use Rattle.building.proofs.write.Statement.{statement}
 use Rattle.building.proofs.write.Tie as tie
 
@@ -24,7 +24,7 @@ header-is c =
     ap (λ (n : ℕ). record { variant = a .variant; modulus = a .p; order = a .r; exponent = a .k; steps = n }) (count-is (s .pre .0) (s .pre .1) (c .step-count .ensures))
 
 step-count-requires : tie.Need-step-count-requires
-step-count-requires c κs = let a = c .before in small (a .pre .0) (a .pre .1)
+step-count-requires c κs = let a = c .before in few (a .pre .0) (a .pre .1)
 
 cast-t12 : tie.Need-cast-t12
 cast-t12 c =

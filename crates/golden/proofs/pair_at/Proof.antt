@@ -6,11 +6,13 @@ use native.Mathlib.Omega.{arith}
 use borrow.Author.Tests.{lt-leb}
 use Rattle.fibonacci.specs.Fibonacci.{fib}
 use Rattle.fibonacci.specs.Services.{fibonacciOrZero}
+use Rattle.fibonacci.specs.Inner.Pairs.{PairAt}
 use Rattle.golden.proofs.pair_at.Statement.{statement}
 use Rattle.golden.proofs.pair_at.Tie as tie
 
-entry : {j k : ℕ} → j ≡ k → (fibonacciOrZero (2 * k) ≡ fibonacciOrZero (2 * j)) × (fibonacciOrZero (2 * k + 1) ≡ fibonacciOrZero (2 * j + 1))
-entry e = (sym (ap (λ (n : ℕ). fibonacciOrZero (2 * n)) e), sym (ap (λ (n : ℕ). fibonacciOrZero (2 * n + 1)) e))
+entry : {j k : ℕ} → j ≡ k → PairAt j (fibonacciOrZero (2 * k)) (fibonacciOrZero (2 * k + 1))
+entry e =
+    record { even-is = sym (ap (λ (n : ℕ). fibonacciOrZero (2 * n)) e); odd-is = sym (ap (λ (n : ℕ). fibonacciOrZero (2 * n + 1)) e) }
 
 -- j is none of the numbers below n
 abbrev Missed : ℕ → ℕ → Type 0
@@ -25,7 +27,10 @@ rest : tie.Need-returns-48
 unfolding fibonacciOrZero
 rest c =
     let high = missed 47 (c .match .rest) in
-    (rw (lt-leb (2 * c .before .args .half) 93 (omega arith)), rw (lt-leb (2 * c .before .args .half + 1) 93 (omega arith)))
+    record {
+      even-is = rw (lt-leb (2 * c .before .args .half) 93 (omega arith));
+      odd-is = rw (lt-leb (2 * c .before .args .half + 1) 93 (omega arith));
+    }
 
 pub pair-at-spec : {M : Type 1} → statement M
 unfolding fibonacciOrZero fib

@@ -24,7 +24,7 @@ use Rattle.named.proofs.Laws.Parameters.{named-some, named-most}
 use Rattle.named.proofs.Laws.Table.{member-fits, named-program}
 use Rattle.program.specs.declared.FormRows.{FormRows}
 use Rattle.program.specs.Services.{roomOutcome}
-use Rattle.program.specs.Inner.Forms.{RowsFromTable, Whole}
+use Rattle.program.specs.Inner.Forms.{Whole, Few, RowsFromTable}
 use Rattle.program.specs.Inner.Writing.{drawnWords}
 use Rattle.program.specs.Inner.Building.{Writable, Built}
 use Rattle.program.proofs.Laws.Forms.{rows-words, rows-whole, few-ones, rows-count}
@@ -82,8 +82,8 @@ module _ {p r k variant : ℕ} {rows : FormRows} (w : Writable p r k variant) (g
   pub whole : Whole rows
   whole = rw (g .rows-are) (rows-whole (g .forms) fits)
 
-  pub small : (rows .«first_length» ≤ 92) × (rows .«last_length» ≤ 92) × (rows .count ≤ 368)
-  small = rw (g .rows-are) (fits .first, fits .last, few-ones (g .forms) fits)
+  pub few : Few (rows .«first_length») (rows .«last_length») (rows .count)
+  few = rw (g .rows-are) (record { first-most = fits .first; last-most = fits .last; count-most = few-ones (g .forms) fits })
 
   pub count-is : {n : ℕ} → n ≡ stepsFrom (rows .figure) (rows .«first_length») (rows .«last_length») (rows .count) → n ≡ length (namedSteps variant r k)
   count-is e =

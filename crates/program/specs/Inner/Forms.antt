@@ -49,6 +49,12 @@ pub record Whole (rows : FormRows) : Type 0 where
   pub last : rows .«last_length» ≤ length (rows .last)
   pub besideLast : rows .«last_length» ≤ length (rows .«beside_last»)
 
+-- lengths of a first and a last form, and a count of places that are set, as a named program's forms have them at most
+pub record Few (first last count : ℕ) : Type 0 where
+  pub first-most : first ≤ 92
+  pub last-most : last ≤ 92
+  pub count-most : count ≤ 368
+
 -- the rows of the forms that the table gives
 pub record RowsFromTable (variant r k : ℕ) (rows : FormRows) : Type 0 where
   pub forms : Forms
