@@ -1,10 +1,10 @@
 // A command line is read: its verb and its parameters.
 ghost use mathlib.Core.Path.{_≡_};
-ghost use Prim.Native.Nat.{_-_, _≤_};
-ghost use lib.ListN.{length};
+ghost use Prim.Native.Nat.{_+_, _-_, _≤_, _<_};
+ghost use lib.ListN.{length, getD};
 ghost use Rattle.text.specs.Reading.{splitWords};
-ghost use Rattle.tool.specs.Verbs.{indexIn, rowNamed, limitOf, variantIn, parameterIn, maxParameters};
-ghost use Rattle.tool.specs.Rows.{Understood, Gathered};
+ghost use Rattle.tool.specs.Verbs.{indexIn, noRow, rowNamed, limitOf, variantIn, parameterIn, maxParameters};
+ghost use Rattle.tool.specs.Rows.{plainCount, tapeCount, numberCount, scriptCount, kindRows, Understood, Gathered};
 use named::VARIANT_NAMES;
 use parsing::nth_word;
 use parsing::parse_number;
@@ -16,9 +16,15 @@ use tool::LARGEST_32;
 use tool::MAX_PARAMETERS;
 use tool::NAMES;
 use tool::NO_ROW;
-use tool::ROWS;
+use tool::NUMBER_ROWS;
+use tool::NUMBER_TABLE;
+use tool::PLAIN_ROWS;
+use tool::PLAIN_TABLE;
 use tool::Row;
-use tool::TABLE;
+use tool::SCRIPT_ROWS;
+use tool::SCRIPT_TABLE;
+use tool::TAPE_ROWS;
+use tool::TAPE_TABLE;
 use verbs::is_hidden;
 use verbs::is_variant;
 
@@ -107,10 +113,51 @@ fn row_named(name: &[u8]) -> Row
     ensures { λ r. ⌜ r ≡ rowNamed (now (name .entry)) ⌝ }
 {
     let index = find(name, &NAMES);
-    if ROWS <= index {
-        return NO_ROW;
+    if index < PLAIN_ROWS {
+        return plain_row(index);
     }
-    TABLE[index]
+    let on_tape = index - PLAIN_ROWS;
+    if on_tape < TAPE_ROWS {
+        return tape_row(on_tape);
+    }
+    let on_numbers = on_tape - TAPE_ROWS;
+    if on_numbers < NUMBER_ROWS {
+        return number_row(on_numbers);
+    }
+    let in_script = on_numbers - NUMBER_ROWS;
+    if in_script < SCRIPT_ROWS {
+        return script_row(in_script);
+    }
+    NO_ROW
+}
+
+// A row by its place among those of its kind: a function for each, because a body that builds the whole table takes the prover ten seconds.
+fn plain_row(place: usize) -> Row
+    requires { ⌜ place < plainCount ⌝ }
+    ensures { λ r. ⌜ r ≡ getD (kindRows 0 plainCount) place noRow ⌝ }
+{
+    PLAIN_TABLE[place]
+}
+
+fn tape_row(place: usize) -> Row
+    requires { ⌜ place < tapeCount ⌝ }
+    ensures { λ r. ⌜ r ≡ getD (kindRows plainCount tapeCount) place noRow ⌝ }
+{
+    TAPE_TABLE[place]
+}
+
+fn number_row(place: usize) -> Row
+    requires { ⌜ place < numberCount ⌝ }
+    ensures { λ r. ⌜ r ≡ getD (kindRows (plainCount + tapeCount) numberCount) place noRow ⌝ }
+{
+    NUMBER_TABLE[place]
+}
+
+fn script_row(place: usize) -> Row
+    requires { ⌜ place < scriptCount ⌝ }
+    ensures { λ r. ⌜ r ≡ getD (kindRows (plainCount + tapeCount + numberCount) scriptCount) place noRow ⌝ }
+{
+    SCRIPT_TABLE[place]
 }
 
 // The index of the first name that is the word; past the last where there is none.

@@ -9,7 +9,7 @@ use Rattle.tool.specs.declared.Row.{Row}
 use Rattle.tool.specs.declared.Reply.{Reply}
 use Rattle.tool.specs.declared.Call.{Call}
 use Rattle.tool.specs.declared.Call.the-variants.{NoWord, NoVerb, WrongCount, Unread, Known}
-use Rattle.tool.specs.Verbs.{maxParameters, largest64, limitOf}
+use Rattle.tool.specs.Verbs.{maxParameters, largest64, rows, limitOf}
 use Rattle.tool.specs.Calls.{Asked, noWord, noVerb, wrongCount, unread, known, numbersFrom, withNumbers, askedBy}
 use Rattle.tool.specs.Replies.{Replied}
 
@@ -27,6 +27,23 @@ pub record Told (before : List ℕ) (r : Replied) (told : Reply) (after : List �
 -- all of a row are at most a number
 abbrev pub AllAtMost : ℕ → List ℕ → Type 0
 AllAtMost most values = (i : ℕ) → getD values i 0 ≤ most
+
+-- how many rows the table of verbs has of each kind, in its order: plain verbs, on a tape, on numbers, in a script
+abbrev pub plainCount : ℕ
+plainCount = 7
+
+abbrev pub tapeCount : ℕ
+tapeCount = 8
+
+abbrev pub numberCount : ℕ
+numberCount = 10
+
+abbrev pub scriptCount : ℕ
+scriptCount = 6
+
+-- the rows of a kind: so many behind the first of other kinds
+abbrev pub kindRows : ℕ → ℕ → List Row
+kindRows before count = take count (drop before rows)
 
 -- what a call of the code asks for, with the words and the row of parameters beside it
 abbrev pub askedFor : Call → List (List ℕ) → List ℕ → Asked

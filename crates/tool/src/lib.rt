@@ -104,8 +104,6 @@ pub const LARGEST_64: u64 = 18446744073709551615;
 pub const NAMES: [u8; 200] =
     *b"build\0script\0help\0--help\0-h\0version\0--version\0check\0list\0load\0run\0power\0trace\0cut\0play\0decode\0fibonacci\0places\0number\0hofstadter\0inverse\0height\0prime\0mulmod\0powmod\0tape\0append\0change\0drop\0behind\0room\0";
 
-pub const ROWS: usize = 31;
-
 pub const NO_ROW: Row = Row {
     verb: Verb::Unknown,
     least: 0,
@@ -114,8 +112,10 @@ pub const NO_ROW: Row = Row {
     own: 0,
 };
 
-// A row for each name, in the names' order.
-pub const TABLE: [Row; ROWS] = [
+// A row for each name, in the names' order: a table for each kind of verb, first that of the plain ones.
+pub const PLAIN_ROWS: usize = 7;
+
+pub const PLAIN_TABLE: [Row; PLAIN_ROWS] = [
     Row {
         verb: Verb::Build,
         least: 4,
@@ -165,6 +165,12 @@ pub const TABLE: [Row; ROWS] = [
         largest: LARGEST_32,
         own: 0,
     },
+];
+
+// On a tape.
+pub const TAPE_ROWS: usize = 8;
+
+pub const TAPE_TABLE: [Row; TAPE_ROWS] = [
     Row {
         verb: Verb::OnTape(TapeVerb::Check),
         least: 0,
@@ -221,6 +227,12 @@ pub const TABLE: [Row; ROWS] = [
         largest: LARGEST_32,
         own: 0,
     },
+];
+
+// On numbers alone.
+pub const NUMBER_ROWS: usize = 10;
+
+pub const NUMBER_TABLE: [Row; NUMBER_ROWS] = [
     Row {
         verb: Verb::OnNumbers(NumberVerb::Decode),
         least: 1,
@@ -291,6 +303,12 @@ pub const TABLE: [Row; ROWS] = [
         largest: LARGEST_32,
         own: 0,
     },
+];
+
+// In a script alone.
+pub const SCRIPT_ROWS: usize = 6;
+
+pub const SCRIPT_TABLE: [Row; SCRIPT_ROWS] = [
     Row {
         verb: Verb::InScript(ScriptVerb::Tape),
         least: 0,

@@ -7,6 +7,7 @@ use native.Mathlib.Omega.{arith}
 use borrow.Author.Tests.{leb-true, ltb-true, ltb-false}
 use lib.Dec.{leb, ltb}
 use lib.ListN.{length, getD, drop, drop-of-length-le, List·getD-eq-default}
+use lib.Seq.{getD-take, getD-drop}
 use Rattle.refusal.proofs.Laws.Tests.{test-false, by-test, both}
 use Rattle.text.specs.declared.Parsed.{Parsed}
 use Rattle.text.specs.declared.Parsed.the-variants.{Number, NoNumber}
@@ -24,7 +25,7 @@ use Rattle.tool.specs.declared.Verb.{Verb}
 use Rattle.tool.specs.declared.Verb.the-variants.{Unknown, Build, Script, Help, Version, OnTape, OnNumbers, InScript}
 use Rattle.tool.specs.declared.Row.{Row}
 use Rattle.tool.specs.Verbs.{maxParameters, largest32, largest64, entries, names, rows, indexIn, noRow, rowNamed, isHidden, limitOn, limitIn, limitOf, isVariant, variantIn, parameterIn}
-use Rattle.tool.specs.Rows.{longestName}
+use Rattle.tool.specs.Rows.{longestName, kindRows}
 
 -- ---- where a name stands
 
@@ -118,6 +119,10 @@ names-short = refl
 as-many : length names ≡ length rows
 unfolding names rows entries
 as-many = refl
+
+-- a row of a kind is the table's
+pub kind-row : (before count : ℕ) {place i : ℕ} → place < count → before + place ≡ i → getD (kindRows before count) place noRow ≡ getD rows i noRow
+kind-row before count {place} h e = rw (← e, getD-take, getD-drop)
 
 -- a word that is no name has no verb
 pub row-nowhere : (name : List ℕ) → length names ≤ indexIn name names → rowNamed name ≡ noRow
