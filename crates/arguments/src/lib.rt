@@ -1,10 +1,10 @@
 // A command line is read: its verb and its parameters.
 ghost use mathlib.Core.Path.{_≡_};
-ghost use Prim.Native.Nat.{_+_, _-_, _≤_, _<_};
-ghost use lib.ListN.{length, getD};
+ghost use Prim.Native.Nat.{_+_, _<_};
+ghost use lib.ListN.{getD};
 ghost use Rattle.text.specs.Reading.{splitWords};
-ghost use Rattle.tool.specs.Verbs.{indexIn, noRow, rowNamed, limitOf, variantIn, parameterIn, maxParameters};
-ghost use Rattle.tool.specs.Rows.{plainCount, tapeCount, numberCount, scriptCount, kindRows, Understood, Gathered};
+ghost use Rattle.tool.specs.Verbs.{indexIn, noRow, rowNamed, variantIn, parameterIn};
+ghost use Rattle.tool.specs.Rows.{plainCount, tapeCount, numberCount, scriptCount, kindRows, Understood, Bare, Countable, Gathered};
 use named::VARIANT_NAMES;
 use parsing::nth_word;
 use parsing::parse_number;
@@ -52,7 +52,7 @@ pub fn understand(arguments: &[u8], in_script: bool) -> CommandLine
 }
 
 fn without_parameters(call: Call) -> CommandLine
-    ensures { λ r. ⌜ (r .call ≡ call) × (length (r .values) ≡ maxParameters) ⌝ }
+    ensures { λ r. ⌜ Bare call r ⌝ }
 {
     CommandLine {
         call,
@@ -62,7 +62,7 @@ fn without_parameters(call: Call) -> CommandLine
 
 // The numbers of the words after the verb, up to the first that is none.
 fn parameters(arguments: &[u8], row: Row, count: usize) -> CommandLine
-    requires { ⌜ (count ≤ maxParameters) × (count ≡ length (splitWords (now arguments)) - 1) × (row .largest ≤ limitOf (row .verb)) ⌝ }
+    requires { ⌜ Countable row (splitWords (now arguments)) count ⌝ }
     ensures { λ r. ⌜ Gathered row (splitWords (now (arguments .entry))) (r .call) (r .values) ⌝ }
 {
     let mut values = [0u64; MAX_PARAMETERS];

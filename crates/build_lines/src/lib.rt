@@ -10,8 +10,9 @@ ghost use Rattle.text.specs.Text.{numberLine, numbersLine};
 ghost use Rattle.tape.specs.Layout.{maxWords};
 ghost use Rattle.tool.specs.Verbs.{largest32, maxRoom};
 ghost use Rattle.tool.specs.Replies.{printed};
+ghost use Rattle.tool.specs.Rows.{heldTo};
 ghost use Rattle.scripting.specs.Script.{withTape, builtAs, buildInto, buildLine, buildIn, buildBy};
-ghost use Rattle.scripting.specs.States.{roomIn, stateIn, Inside, capacityOf, insideOf, countIn, heldTo, Did};
+ghost use Rattle.scripting.specs.States.{roomIn, stateIn, Inside, capacityOf, insideOf, countIn, Did};
 use lines::number_line;
 use lines::numbers_line;
 use printing::refuse;
@@ -24,8 +25,8 @@ use tape::MAX_WORDS;
 use tape_row::ending;
 use tape_row::inside;
 use tape_row::least;
-use tape_row::parameter;
 use tape_row::put_full;
+use widths::small;
 
 // What a word of a buffer holds before a call.
 const HELD: u32 = 255;
@@ -69,10 +70,10 @@ fn build_line(own: u32, values: &[u64], tapes: &mut [u32], marks: Marks, text: &
     ensures { λ r. ⌜ Did (buildLine (length (now (tapes .entry))) own (heldTo largest32 (now (values .entry))) (stateIn marks (now (tapes .entry)))) (now (text .entry)) r (now (tapes .exit)) (now (text .exit)) ⌝ }
 {
     let mut row = [0u32; MAX_WORDS];
-    let p = parameter(values, 0);
-    let r = parameter(values, 1);
-    let k = parameter(values, 2);
-    let answer = building::build(p, r, k, parameter(values, 3), &mut row);
+    let p = small(values, 0);
+    let r = small(values, 1);
+    let k = small(values, 2);
+    let answer = building::build(p, r, k, small(values, 3), &mut row);
     built(own, answer, &row, tapes, marks, text)
 }
 
@@ -154,10 +155,10 @@ fn build_into(
     requires { ⌜ Inside marks (now tapes) × (length (now row) ≤ maxRoom) ⌝ }
     ensures { λ r. ⌜ Did (buildInto (length (now (tapes .entry))) (now (row .entry)) own (heldTo largest32 (now (values .entry))) (stateIn marks (now (tapes .entry)))) (now (text .entry)) r (now (tapes .exit)) (now (text .exit)) ⌝ }
 {
-    let p = parameter(values, 0);
-    let r = parameter(values, 1);
-    let k = parameter(values, 2);
-    let answer = building::build(p, r, k, parameter(values, 3), row);
+    let p = small(values, 0);
+    let r = small(values, 1);
+    let k = small(values, 2);
+    let answer = building::build(p, r, k, small(values, 3), row);
     show(own, answer, row, tapes, marks, text)
 }
 

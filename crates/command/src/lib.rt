@@ -1,16 +1,12 @@
 // The command-line tool: its reply to a command line.
-mod numbers;
-mod values;
-
 ghost use mathlib.Core.Path.{_≡_};
-ghost use Prim.Native.Nat.{_≤_};
-ghost use lib.ListN.{length};
+ghost use lib.ListN.{take};
 ghost use Rattle.text.specs.Reading.{splitWords};
 ghost use Rattle.tool.specs.Verbs.{largest32, maxParameters, limitOf};
 ghost use Rattle.tool.specs.Calls.{askedBy};
 ghost use Rattle.tool.specs.Replies.{tapeReply, means, ownIn, replyTo, reply, answers, verbIn, readsTape, readsScript, writesTape};
 ghost use Rattle.tool.specs.Texts.{usage, versionLine};
-ghost use Rattle.tool.specs.Rows.{Told, AllAtMost};
+ghost use Rattle.tool.specs.Rows.{Told, Usable, heldTo};
 use arguments::understand;
 use complaints::put_no_verb;
 use complaints::put_unread;
@@ -18,8 +14,8 @@ use complaints::put_usage;
 use complaints::put_wrong_count;
 use encoding::WORD_BYTES;
 use encoding::tape_words;
-use numbers::build;
-use numbers::on_numbers;
+use number_verbs::build;
+use number_verbs::on_numbers;
 use parsing::nth_word;
 use putting::put;
 use refusal::Refusal;
@@ -33,10 +29,10 @@ use tool::Reply;
 use tool::Row;
 use tool::TapeVerb;
 use tool::Verb;
-use values::words;
 use verbs::gives_tape;
 use verbs::takes_lines;
 use verbs::takes_tape;
+use widths::words;
 
 // The tool's reply to a command line and standard input. The arguments are the words after the tool's name, a zero byte after each. The
 // text is put from the buffer's start; in a row of `tool::MAX_TEXT` bytes or more it stands whole.
@@ -115,7 +111,7 @@ fn verb_in(arguments: &[u8]) -> Verb
 }
 
 fn complaint(length: usize) -> Reply
-    ensures { λ r. ⌜ (r .status ≡ 2) × (r .length ≡ length) ⌝ }
+    ensures { λ r. ⌜ r ≡ record { status = 2; length = length } ⌝ }
 {
     Reply {
         status: NOT_UNDERSTOOD,
@@ -132,7 +128,7 @@ fn perform(
     tapes: &[u32],
     text: &mut [u8],
 ) -> Reply
-    requires { ⌜ (length (now values) ≤ maxParameters) × AllAtMost (limitOf (row .verb)) (now values) ⌝ }
+    requires { ⌜ Usable (limitOf (row .verb)) (now values) ⌝ }
     ensures { λ r. ⌜ Told (now (text .entry)) (means (row .verb) (ownIn row whole) (now (values .entry)) (now (tape .entry)) (now (tapes .entry))) r (now (text .exit)) ⌝ }
 {
     let own = own_in(row, whole);
@@ -162,11 +158,10 @@ fn perform_on_tape(
     tapes: &[u32],
     text: &mut [u8],
 ) -> Reply
-    requires { ⌜ (length (now values) ≤ maxParameters) × AllAtMost largest32 (now values) ⌝ }
-    ensures { λ r. ⌜ Told (now (text .entry)) (tapeReply verb own (now (values .entry)) (now (tape .entry)) (now (tapes .entry))) r (now (text .exit)) ⌝ }
+    ensures { λ r. ⌜ Told (now (text .entry)) (tapeReply verb own (take maxParameters (heldTo largest32 (now (values .entry)))) (now (tape .entry)) (now (tapes .entry))) r (now (text .exit)) ⌝ }
 {
     let mut row = [0u32; MAX_PARAMETERS];
-    let count = words(values, &mut row);
+    let count = words(values, &mut row, 0);
     on_tape(verb, own, &row[..count], tape, tapes, text)
 }
 

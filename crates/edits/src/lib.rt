@@ -3,12 +3,12 @@ ghost use mathlib.Core.Path.{_≡_};
 ghost use mathlib.Core.List.{[], _++_};
 ghost use Prim.Native.Nat.{_+_, _-_, _≤_};
 ghost use lib.ListN.{length, take, drop};
-ghost use Rattle.refusal.specs.Rows.{Wrote};
 ghost use Rattle.text.specs.Text.{numberLine};
 ghost use Rattle.text.specs.Rows.{Put};
 ghost use Rattle.tool.specs.Verbs.{maxRoom, largest32, limitIn};
+ghost use Rattle.tool.specs.Rows.{heldTo};
 ghost use Rattle.scripting.specs.Script.{edited, inScript};
-ghost use Rattle.scripting.specs.States.{capacityOf, stateIn, Inside, insideOf, heldTo, Did};
+ghost use Rattle.scripting.specs.States.{capacityOf, stateIn, Inside, insideOf, Did};
 use lines::number_line;
 use putting::put_byte;
 use putting::put_then;
@@ -17,13 +17,13 @@ use scripting::MAX_TAPES;
 use scripting::Marks;
 use scripting::Printed;
 use tape_row::ending;
-use tape_row::held_word;
 use tape_row::inside;
 use tape_row::least;
-use tape_row::parameter;
 use tape_row::put_full;
 use text::NEWLINE;
 use tool::ScriptVerb;
+use widths::small;
+use widths::words;
 
 // A verb on its parameters, of which none counts for more than the verb can do with. Of the row of tapes the first `MAX_TAPES` words are
 // used, and the marks are brought into them.
@@ -78,21 +78,8 @@ fn put_words(values: &[u64], tapes: &mut [u32], marks: Marks, at: usize, text: &
             length: put_full(text, tapes.len()),
         };
     }
-    store(values, tapes, at);
+    words(values, tapes, at);
     count_words(ending(marks, at + values.len()), text)
-}
-
-// Words at a place of the row.
-fn store(values: &[u64], row: &mut [u32], at: usize) -> usize
-    requires { ⌜ at + length (now values) ≤ length (now row) ⌝ }
-    ensures { λ next. ⌜ Wrote (now (row .entry)) at (heldTo largest32 (now (values .entry))) next (now (row .exit)) ⌝ }
-{
-    let mut i: usize = 0;
-    while i < values.len() {
-        row[at + i] = held_word(values[i]);
-        i += 1;
-    }
-    at + i
 }
 
 // How many words the tape at hand has.
@@ -111,7 +98,7 @@ fn change(values: &[u64], tapes: &mut [u32], marks: Marks, text: &mut [u8]) -> P
     requires { ⌜ Inside marks (now tapes) ⌝ }
     ensures { λ r. ⌜ Did (inScript (length (now (tapes .entry))) ScriptVerb.Change (heldTo largest32 (now (values .entry))) (stateIn marks (now (tapes .entry)))) (now (text .entry)) r (now (tapes .exit)) (now (text .exit)) ⌝ }
 {
-    let index = parameter(values, 0) as usize;
+    let index = small(values, 0) as usize;
     if marks.end - marks.begin <= index {
         return Printed {
             marks,
@@ -119,7 +106,7 @@ fn change(values: &[u64], tapes: &mut [u32], marks: Marks, text: &mut [u8]) -> P
         };
     }
     let at = marks.begin + index;
-    tapes[at] = parameter(values, 1);
+    tapes[at] = small(values, 1);
     count_words(marks, text)
 }
 
@@ -128,7 +115,7 @@ fn drop_words(values: &[u64], tapes: &[u32], marks: Marks, text: &mut [u8]) -> P
     requires { ⌜ Inside marks (now tapes) ⌝ }
     ensures { λ r. ⌜ Did (inScript (length (now (tapes .entry))) ScriptVerb.Drop (heldTo largest32 (now (values .entry))) (stateIn marks (now (tapes .entry)))) (now (text .entry)) r (now (tapes .entry)) (now (text .exit)) ⌝ }
 {
-    let count = parameter(values, 0) as usize;
+    let count = small(values, 0) as usize;
     if marks.end - marks.begin < count {
         return count_words(ending(marks, marks.begin), text);
     }

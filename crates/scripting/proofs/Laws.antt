@@ -1,7 +1,6 @@
--- The words of a row that are used, parameters held to a limit, another tape at hand, what each verb of a script does, a line by what it is, what is
--- put into a room, lines one after another, and a line of each verb.
+-- The words of a row that are used, another tape at hand, what each verb of a script does, a line by what it is, what is put into a room,
+-- lines one after another, and a line of each verb.
 pub mod Used
-pub mod Held
 pub mod Tapes
 pub mod Edits
 pub mod Equals

@@ -1,7 +1,7 @@
 -- The state of a script as the code holds it: a row of words, and marks in it; for contracts.
 use mathlib.Core.Path.{_≡_}
 use mathlib.Core.Bool.{cond}
-use mathlib.Core.List.{List, [], _∷_, _++_, map}
+use mathlib.Core.List.{List, [], _∷_, _++_}
 use Prim.Native.Nat.{ℕ, min, _≤_}
 use lib.ListN.{length, take}
 use Rattle.refusal.specs.declared.NumberAnswer.{NumberAnswer}
@@ -34,10 +34,6 @@ unfoldable pub insideOf : Marks → ℕ → Marks
 insideOf m capacity =
     let end = min (m .end) capacity in
     record { begin = min (m .begin) end; end = end; room = min (m .room) maxRoom; roomed = m .roomed }
-
--- parameters, each held to a limit
-unfoldable pub heldTo : ℕ → List ℕ → List ℕ
-heldTo limit values = map (λ (n : ℕ). min n limit) values
 
 -- the words that an answer counts
 abbrev pub countIn : NumberAnswer → ℕ

@@ -24,7 +24,7 @@ as-read : (c : tie.After-parameter Inv-loop μ-loop)
 as-read c = rw (← c .before .nth-word .ensures) (sym (c .parameter .ensures))
 
 inside : (c : tie.After-parameter Inv-loop μ-loop) → c .before .before .before .loop .i + 1 < length (splitWords (c .before .before .before .before .before .args .arguments .now))
-inside c = omega (arith, c .before .before .before .before .before .pre .1)
+inside c = omega (arith, c .before .before .before .before .before .pre .all)
 
 loop-holds : tie.Need-loop-holds Inv-loop μ-loop
 loop-holds c = (omega arith, refl, at-first (c .before .args .row) (splitWords (c .before .args .arguments .now)) [])
@@ -46,7 +46,7 @@ returns c =
     let e = no-number row words i (c .before .before .before .before .before .loop .values) (c .before .before .before .before .before .loop .inv .2) (inside (c .before .before)) (as-read (c .before .before) ∙ c .enum-told .given .1) in
     record {
       asked = rw e (unread-at row words i);
-      inRange = (omega arith, omega (arith, c .before .before .before .before .before .before .before .pre .2, limit-most (row .verb)));
+      inRange = record { behind = omega arith; largest = omega (arith, c .before .before .before .before .before .before .before .pre .largest, limit-most (row .verb)) };
       size = c .before .before .before .before .before .loop .inv .1;
     }
 
@@ -61,8 +61,8 @@ loop-again c =
     let row = c .before .before .before .before .before .before .before .before .args .row in
     let words = splitWords (c .before .before .before .before .before .before .before .before .args .arguments .now) in
     let e = as-read (c .before .before .before) ∙ c .before .n .given .1 in
-    let small = rw e at (parameter-small row (c .before .before .before .before .before .before .loop .i) (getD words (c .before .before .before .before .before .before .loop .i + 1) []) (c .before .before .before .before .before .before .before .before .pre .2)) in
-    let next = a-number row words (c .before .before .before .before .before .before .loop .i) (c .before .before .before .before .before .before .loop .values) (c .before .before .before .before .before .before .loop .inv .2) _ (inside (c .before .before .before)) (omega (arith, c .before .before .before .before .before .before .loop .inv .1, c .before .before .before .before .before .before .before .before .pre .0)) e small in
+    let small = rw e at (parameter-small row (c .before .before .before .before .before .before .loop .i) (getD words (c .before .before .before .before .before .before .loop .i + 1) []) (c .before .before .before .before .before .before .before .before .pre .largest)) in
+    let next = a-number row words (c .before .before .before .before .before .before .loop .i) (c .before .before .before .before .before .before .loop .values) (c .before .before .before .before .before .before .loop .inv .2) _ (inside (c .before .before .before)) (omega (arith, c .before .before .before .before .before .before .loop .inv .1, c .before .before .before .before .before .before .before .before .pre .few)) e small in
     (omega arith, rw length-set (c .before .before .before .before .before .before .loop .inv .1), next)
 
 returns-2 : tie.Need-returns-2 Inv-loop μ-loop
@@ -70,10 +70,10 @@ returns-2 c =
     let row = c .before .before .before .args .row in
     let words = splitWords (c .before .before .before .args .arguments .now) in
     let all-read : c .before .loop .i ≡ c .before .before .before .args .count = omega arith in
-    let e = no-more row words (c .before .loop .i) (c .before .loop .values) (c .before .loop .inv .2) (omega (arith, c .before .before .before .pre .1)) in
+    let e = no-more row words (c .before .loop .i) (c .before .loop .values) (c .before .loop .inv .2) (omega (arith, c .before .before .before .pre .all)) in
     record {
       asked = rw e (rw all-read refl);
-      inRange = (c .before .before .before .pre .0, rw all-read at (c .before .loop .inv .2 .1));
+      inRange = record { few = c .before .before .before .pre .few; within = rw all-read at (c .before .loop .inv .2 .1) };
       size = c .before .loop .inv .1;
     }
 

@@ -7,7 +7,7 @@ use native.Mathlib.Omega.{arith}
 use lib.ListN.{length, getD}
 use Rattle.text.specs.Reading.{splitWords}
 use Rattle.tool.specs.Verbs.{rowNamed, isHidden, limitOf, maxParameters, largest64}
-use Rattle.tool.specs.Rows.{longestName}
+use Rattle.tool.specs.Rows.{longestName, Miscounted}
 use Rattle.tool.proofs.Laws.Verbs.{row-largest, row-least, row-most, name-short}
 use Rattle.tool.proofs.Laws.Calls.{asked-none, asked-hidden, asked-few, asked-many, asked-taken}
 use borrow.Author.Needs.{needs}
@@ -47,35 +47,38 @@ module _ (c : tie.Else2) where
   short : length (getD (wordsAt (c .before)) 0 []) ≤ longestName
   short = name-short _ (getD (wordsAt (c .before)) 0 []) (rw (row (c .before)) at seen)
 
+  miscounted : Miscounted (getD (wordsAt (c .before)) 0 []) (c .before .before .row-named .result) (c .before .before .before .before .before .word-count .result - 1)
+  miscounted = record { name = short; least = least (c .before); most = most (c .before); count = given (c .before) }
+
 returns : tie.Need-returns
 returns c =
     let none = sym (c .before .before .word-count .ensures) ∙ c .before .if1 .taken in
-    rw (c .without-parameters .ensures .0) (record { asked = sym (asked-none _ _ none); inRange = omega arith; size = c .without-parameters .ensures .1 })
+    rw (c .without-parameters .ensures .is) (record { asked = sym (asked-none _ _ none); inRange = omega arith; size = c .without-parameters .ensures .size })
 
 returns-2 : tie.Need-returns-2
 returns-2 c =
     let h = c .before .before in
     let hidden = sym (h .is-hidden .ensures) ∙ c .before .if2 .taken in
-    rw (c .without-parameters2 .ensures .0) (record { asked = sym (asked-hidden _ (wordsAt h) (some h) _ (row h) hidden); inRange = omega arith; size = c .without-parameters2 .ensures .1 })
+    rw (c .without-parameters2 .ensures .is) (record { asked = sym (asked-hidden _ (wordsAt h) (some h) _ (row h) hidden); inRange = omega arith; size = c .without-parameters2 .ensures .size })
 
 returns-3 : tie.Need-returns-3
 returns-3 c =
     let e = c .before .before .before in
     let h = e .before in
     let few = asked-few _ (wordsAt h) (some h) _ (row h) (seen e) (rw (← count h) (c .before .if3 .taken)) in
-    rw (c .without-parameters3 .ensures .0) (record { asked = rw (count h) (sym few); inRange = (short e, least h, most h, given h); size = c .without-parameters3 .ensures .1 })
+    rw (c .without-parameters3 .ensures .is) (record { asked = rw (count h) (sym few); inRange = miscounted e; size = c .without-parameters3 .ensures .size })
 
 returns-4 : tie.Need-returns-4
 returns-4 c =
     let e = c .before .before .before .before .before in
     let h = e .before in
     let many = asked-many _ (wordsAt h) (some h) _ (row h) (seen e) (rw (← count h) (c .before .before .before .if3 .left)) (rw (← count h) (c .before .if4 .taken)) in
-    rw (c .without-parameters4 .ensures .0) (record { asked = rw (count h) (sym many); inRange = (short e, least h, most h, given h); size = c .without-parameters4 .ensures .1 })
+    rw (c .without-parameters4 .ensures .is) (record { asked = rw (count h) (sym many); inRange = miscounted e; size = c .without-parameters4 .ensures .size })
 
 parameters-requires : tie.Need-parameters-requires
 parameters-requires c κs =
     let h = c .before .before .before .before .before in
-    (omega (arith, most h), count h, largest h)
+    record { few = omega (arith, most h); all = count h; largest = largest h }
 
 returns-5 : tie.Need-returns-5
 returns-5 c =

@@ -1,27 +1,29 @@
--- `perform` meets its contract: each arm is its verb's meaning.
+-- `perform` meets its contract: each arm is its verb's meaning, on parameters that it can do with, which stay as they are where they are held.
+use Rattle.tool.specs.Verbs.{largest32}
+use Rattle.tool.proofs.Laws.Held.{held-within, held-usable}
 use Rattle.tool.proofs.Laws.Lengths.{script-most, usage-most}
 use Rattle.tool.proofs.Laws.Parts.{complained}
 use borrow.Author.Needs.{needs}
 use Rattle.command.proofs.perform.Statement.{statement}
 use Rattle.command.proofs.perform.Tie as tie
 
-build-requires : tie.Need-build-requires
-build-requires c κs = rw (c .before .enum-told .given .1) at (c .before .before .before .before .before .before .before .before .pre .1)
-
-perform-on-tape-requires : tie.Need-perform-on-tape-requires
-perform-on-tape-requires c κs = (c .before .before .before .before .before .before .before .before .before .pre .0, rw (c .before .before .verb .given .1) at (c .before .before .before .before .before .before .before .before .before .pre .1))
-
-on-numbers-requires : tie.Need-on-numbers-requires
-on-numbers-requires c κs = (c .before .before .before .before .before .before .before .before .before .pre .0, rw (c .before .before .verb2 .given .1) at (c .before .before .before .before .before .before .before .before .before .pre .1))
-
 returns : tie.Need-returns
-returns c = rw (← c .before .before .before .before .before .before .own-in .ensures, c .before .before .before .before .enum-told .given .1) (c .before .before .build .ensures)
+returns c =
+    let told = c .before .before .before .before .enum-told .given .1 in
+    let u = rw told at (c .before .before .before .before .before .before .before .before .before .before .before .pre) in
+    rw (← c .before .before .before .before .before .before .own-in .ensures, told) (rw (held-within largest32 _ (u .within)) at (c .before .before .build .ensures))
 
 returns-2 : tie.Need-returns-2
-returns-2 c = rw (← c .before .before .before .before .before .before .before .own-in .ensures, c .before .before .before .before .before .verb .given .1) (c .before .before .perform-on-tape .ensures)
+returns-2 c =
+    let told = c .before .before .before .before .before .verb .given .1 in
+    let u = rw told at (c .before .before .before .before .before .before .before .before .before .before .before .before .pre) in
+    rw (← c .before .before .before .before .before .before .before .own-in .ensures, told) (rw (held-usable largest32 u) at (c .before .before .perform-on-tape .ensures))
 
 returns-3 : tie.Need-returns-3
-returns-3 c = rw (← c .before .before .before .before .before .before .before .own-in .ensures, c .before .before .before .before .before .verb2 .given .1) (c .before .before .on-numbers .ensures)
+returns-3 c =
+    let told = c .before .before .before .before .before .verb2 .given .1 in
+    let u = rw told at (c .before .before .before .before .before .before .before .before .before .before .before .before .pre) in
+    rw (← c .before .before .before .before .before .before .before .own-in .ensures, told) (rw (held-usable _ u) at (c .before .before .on-numbers .ensures))
 
 returns-4 : tie.Need-returns-4
 returns-4 c = rw (c .before .before .before .before .enum-told2 .given .1) (c .before .before .help .ensures)
@@ -44,11 +46,11 @@ perform-spec =
     (tie.spec
     (λ c κs. search needs)
     (λ c. search needs)
-    build-requires
+    (λ c κs. search needs)
     (λ c. search needs)
-    perform-on-tape-requires
+    (λ c κs. search needs)
     (λ c. search needs)
-    on-numbers-requires
+    (λ c κs. search needs)
     (λ c. search needs)
     (λ c κs. search needs)
     (λ c. search needs)

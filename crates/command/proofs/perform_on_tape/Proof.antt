@@ -1,32 +1,38 @@
--- `perform_on_tape` meets its contract: the parameters at 32 bits are the same numbers, and no more than a verb can have.
+-- `perform_on_tape` meets its contract: the row has the parameters at 32 bits, and no more than a verb can have.
 use mathlib.Core.Path.{_≡_}
 use mathlib.Core.List.{List}
-use Prim.Native.Nat.{ℕ}
+use Prim.Native.Nat.{ℕ, _≤_}
 use native.Mathlib.Omega.{arith}
-use lib.ListN.{take}
+use lib.ListN.{length, take, length-take}
 use lib.Seq.{take-all}
-use Rattle.refusal.proofs.Laws.Rows.{wrote-taken}
-use Rattle.tool.specs.Verbs.{maxParameters}
+use Rattle.refusal.proofs.Laws.Rows.{wrote-length, wrote-taken}
+use Rattle.tool.specs.Verbs.{largest32, maxParameters}
+use Rattle.tool.specs.Rows.{heldTo}
 use borrow.Author.Needs.{needs}
 use Rattle.command.proofs.perform_on_tape.Statement.{statement}
 use Rattle.command.proofs.perform_on_tape.Tie as tie
 
 module _ (c : tie.After-words) where
   abbrev values : List ℕ
-  values = c .before .before .before .before .before .before .args .values .now
+  values = heldTo largest32 (c .before .before .before .before .before .before .args .values .now)
+
+  few : length (take maxParameters values) ≤ maxParameters
+  few = omega (arith, length-take maxParameters values)
 
   -- the row's numbers are the parameters
-  taken : take (c .words .result) (c .words .last .1 .0) ≡ values
-  taken = wrote-taken (c .words .ensures) (omega arith)
+  taken : take (c .words .result) (c .words .last .1 .0) ≡ take maxParameters values
+  taken = wrote-taken (c .words .ensures) few
 
-  all : take maxParameters values ≡ values
-  all = take-all maxParameters values (omega arith)
+array-share-prefix-row : tie.Need-array-share-prefix-row
+array-share-prefix-row c = let w = c .before in omega (arith, few w, w .words .ensures .next-is, wrote-length (w .words .ensures))
 
 slice-aggregate-on-tape : tie.Need-slice-aggregate-on-tape
 slice-aggregate-on-tape c = rw (taken (c .before .before)) (omega (arith, c .before .before .words .ensures .next-is))
 
 returns : tie.Need-returns
-returns c = let w = c .before .before .before .before .before .before in rw (taken w, all w) at (c .before .before .on-tape .ensures)
+returns c =
+    let w = c .before .before .before .before .before .before in
+    rw (taken w, take-all maxParameters (take maxParameters (values w)) (few w)) at (c .before .before .on-tape .ensures)
 
 pub perform-on-tape-spec : {M : Type 1} → statement M
 perform-on-tape-spec =
@@ -34,7 +40,7 @@ perform-on-tape-spec =
     (tie.spec
     (λ c. search needs)
     (λ c κs. search needs)
-    (λ c. search needs)
+    array-share-prefix-row
     slice-aggregate-on-tape
     (λ c κs. search needs)
     (λ c. search needs)

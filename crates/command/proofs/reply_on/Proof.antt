@@ -14,10 +14,10 @@ use Rattle.command.proofs.reply_on.Tie as tie
 few : (c : tie.After-call3) → c .call3 .given .0 .1 .0 ≤ length (c .before .before .before .understand .result .values)
 few c =
     let r = rw (c .call3 .given .1) at (c .before .before .before .understand .ensures .inRange) in
-    omega (arith, r .0, c .before .before .before .understand .ensures .size)
+    omega (arith, r .few, c .before .before .before .understand .ensures .size)
 
 sub-put-unread : tie.Need-sub-put-unread
-sub-put-unread c = let r = rw (c .before .before .before .call2 .given .1) at (c .before .before .before .before .before .before .understand .ensures .inRange) in omega (arith, r .0)
+sub-put-unread c = let r = rw (c .before .before .before .call2 .given .1) at (c .before .before .before .before .before .before .understand .ensures .inRange) in omega (arith, r .behind)
 
 array-share-prefix-values : tie.Need-array-share-prefix-values
 array-share-prefix-values c = few (c .before)
@@ -29,7 +29,7 @@ perform-requires : tie.Need-perform-requires
 perform-requires c κs =
     let k = c .before .before .before in
     let r = rw (k .call3 .given .1) at (k .before .before .before .understand .ensures .inRange) in
-    (rw (length-take-le (k .call3 .given .0 .1 .0) (k .before .before .before .understand .result .values) (few k)) (r .0), r .1)
+    record { few = rw (length-take-le (k .call3 .given .0 .1 .0) (k .before .before .before .understand .result .values) (few k)) (r .few); within = r .within }
 
 returns : tie.Need-returns
 returns c = rw (← (rw (c .before .before .before .before .before .enum-told .given .1) at (c .before .before .before .before .before .before .before .before .understand .ensures .asked))) (complained (c .before .before .before .put-usage .ensures) usage-most (c .complaint .ensures))
@@ -40,13 +40,13 @@ returns-2 c = rw (← (rw (c .before .before .before .before .before .before .en
 returns-3 : tie.Need-returns-3
 returns-3 c =
     let r = rw (c .before .before .before .before .before .before .before .call .given .1) at (c .before .before .before .before .before .before .before .before .before .before .understand .ensures .inRange) in
-    let name = rw (← c .before .before .before .before .nth-word2 .ensures) at (r .0) in
-    rw (← (rw (c .before .before .before .before .before .before .before .call .given .1) at (c .before .before .before .before .before .before .before .before .before .before .understand .ensures .asked)), ← c .before .before .before .before .nth-word2 .ensures) (complained (c .before .before .before .put-wrong-count .ensures) (wrong-count-most _ _ _ name (omega (arith, r .1)) (omega (arith, r .2)) (omega (arith, r .3))) (c .complaint3 .ensures))
+    let name = rw (← c .before .before .before .before .nth-word2 .ensures) at (r .name) in
+    rw (← (rw (c .before .before .before .before .before .before .before .call .given .1) at (c .before .before .before .before .before .before .before .before .before .before .understand .ensures .asked)), ← c .before .before .before .before .nth-word2 .ensures) (complained (c .before .before .before .put-wrong-count .ensures) (wrong-count-most _ _ _ name (omega (arith, r .least)) (omega (arith, r .most)) (omega (arith, r .count))) (c .complaint3 .ensures))
 
 returns-4 : tie.Need-returns-4
 returns-4 c =
     let r = rw (c .before .before .before .before .before .before .before .call2 .given .1) at (c .before .before .before .before .before .before .before .before .before .before .understand .ensures .inRange) in
-    rw (← (rw (c .before .before .before .before .before .before .before .call2 .given .1) at (c .before .before .before .before .before .before .before .before .before .before .understand .ensures .asked)), ← c .before .before .before .before .nth-word3 .ensures) (complained (c .before .before .before .put-unread .ensures) (unread-most _ _ _ (omega (arith, r .1))) (c .complaint4 .ensures))
+    rw (← (rw (c .before .before .before .before .before .before .before .call2 .given .1) at (c .before .before .before .before .before .before .before .before .before .before .understand .ensures .asked)), ← c .before .before .before .before .nth-word3 .ensures) (complained (c .before .before .before .put-unread .ensures) (unread-most _ _ _ (omega (arith, r .largest))) (c .complaint4 .ensures))
 
 returns-5 : tie.Need-returns-5
 returns-5 c = rw (← (rw (c .before .before .before .before .before .before .call3 .given .1) at (c .before .before .before .before .before .before .before .before .before .understand .ensures .asked))) (c .before .before .perform .ensures)

@@ -5,18 +5,18 @@ use lib.ListN.{getD}
 use borrow.Author.Needs.{needs}
 use Rattle.tool.specs.Verbs.{largest32}
 use Rattle.scripting.specs.Script.{noWordLine}
-use Rattle.scripting.specs.States.{heldTo}
+use Rattle.tool.specs.Rows.{heldTo}
 use Rattle.scripting.proofs.Laws.Tapes.{did-print}
 use Rattle.scripting.proofs.Laws.Edits.{did-changed, did-not-change}
 use Rattle.edits.proofs.change.Statement.{statement}
 use Rattle.edits.proofs.change.Tie as tie
 
 returns : tie.Need-returns
-returns c = did-not-change (c .before .before .before .before .before .before .before .before .before .before .before .pre) (heldTo largest32 (c .before .before .before .before .before .before .before .before .before .before .before .args .values .now)) (omega (arith, c .before .before .before .before .before .before .before .parameter .ensures, c .before .before .before .before .before .if1 .taken)) (did-print noWordLine (c .before .before .before .before .before .before .before .before .before .before .before .pre) refl (c .before .before .put-then .ensures) (omega arith))
+returns c = did-not-change (c .before .before .before .before .before .before .before .before .before .before .before .pre) (heldTo largest32 (c .before .before .before .before .before .before .before .before .before .before .before .args .values .now)) (omega (arith, c .before .before .before .before .before .before .before .small .ensures, c .before .before .before .before .before .if1 .taken)) (did-print noWordLine (c .before .before .before .before .before .before .before .before .before .before .before .pre) refl (c .before .before .put-then .ensures) (omega arith))
 
 returns-2 : tie.Need-returns-2
-returns-2 c = let n : c .before .before .before .before .before .before .before .before .parameter .result ≡ getD (heldTo largest32 (c .before .before .before .before .before .before .before .before .before .before .before .before .args .values .now)) 0 0 = c .before .before .before .before .before .before .before .before .parameter .ensures in
-    rw (n, c .before .before .before .before .parameter2 .ensures) (did-changed (c .before .before .before .before .before .before .before .before .before .before .before .before .pre) (heldTo largest32 (c .before .before .before .before .before .before .before .before .before .before .before .before .args .values .now)) (omega (arith, n, c .before .before .before .before .before .before .if1 .left)) (c .before .before .count-words .ensures))
+returns-2 c = let n : c .before .before .before .before .before .before .before .before .small .result ≡ getD (heldTo largest32 (c .before .before .before .before .before .before .before .before .before .before .before .before .args .values .now)) 0 0 = c .before .before .before .before .before .before .before .before .small .ensures in
+    rw (n, c .before .before .before .before .small2 .ensures) (did-changed (c .before .before .before .before .before .before .before .before .before .before .before .before .pre) (heldTo largest32 (c .before .before .before .before .before .before .before .before .before .before .before .before .args .values .now)) (omega (arith, n, c .before .before .before .before .before .before .if1 .left)) (c .before .before .count-words .ensures))
 
 pub change-spec : {M : Type 1} → statement M
 change-spec =

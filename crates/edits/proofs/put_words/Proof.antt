@@ -1,12 +1,14 @@
 -- `put_words` meets its contract: the words stand behind those that the tape keeps, or the row has no room for them.
 use mathlib.Core.Path.{refl, sym, ap, _∙_}
-use Prim.Native.Nat.{ℕ, _+_}
+use Prim.Native.Nat.{ℕ, _+_, _-_}
 use native.Mathlib.Omega.{arith}
+use lib.ListN.{length}
+use lib.Seq.{take-all}
 use borrow.Author.Needs.{needs}
 use Rattle.tool.specs.Verbs.{largest32}
 use Rattle.scripting.specs.declared.Marks.{Marks}
-use Rattle.scripting.specs.States.{heldTo}
-use Rattle.scripting.proofs.Laws.Held.{held-length}
+use Rattle.tool.specs.Rows.{heldTo}
+use Rattle.tool.proofs.Laws.Held.{held-length}
 use Rattle.scripting.proofs.Laws.Tapes.{ended}
 use Rattle.scripting.proofs.Laws.Edits.{did-no-words, did-words}
 use Rattle.edits.proofs.put_words.Statement.{statement}
@@ -26,7 +28,7 @@ returns-2 c =
     let s = c .before .before .before .before .before .before .before .before .before .before .before .before .before in
     let values = s .args .values .now in
     let same = held-length largest32 values in
-    did-words (s .pre .0) (s .pre .1) (omega (arith, same, c .before .before .before .before .before .before .before .before .before .if1 .left, s .pre .2, s .pre .0 .end)) (c .before .before .before .before .before .before .before .store .ensures)
+    did-words (s .pre .0) (s .pre .1) (omega (arith, same, c .before .before .before .before .before .before .before .before .before .if1 .left, s .pre .2, s .pre .0 .end)) (rw (take-all (length (s .args .tapes .now) - s .args .at) (heldTo largest32 values) (omega (arith, same, c .before .before .before .before .before .before .before .before .before .if1 .left))) at (c .before .before .before .before .before .before .before .words .ensures))
     (c .before .before .before .before .ending .ensures ∙ ap (λ (n : ℕ). ended (s .args .marks) (s .args .at + n)) (sym same)) (c .before .before .count-words .ensures)
 
 pub put-words-spec : {M : Type 1} → statement M

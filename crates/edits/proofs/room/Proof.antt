@@ -4,8 +4,8 @@ use native.Mathlib.Omega.{arith}
 use lib.ListN.{getD}
 use borrow.Author.Needs.{needs}
 use Rattle.tool.specs.Verbs.{maxRoom}
-use Rattle.scripting.specs.States.{heldTo}
-use Rattle.scripting.proofs.Laws.Held.{held-length, held-at}
+use Rattle.tool.specs.Rows.{heldTo}
+use Rattle.tool.proofs.Laws.Held.{held-length, held-at}
 use Rattle.scripting.proofs.Laws.Edits.{did-unroom, did-room}
 use Rattle.edits.proofs.room.Statement.{statement}
 use Rattle.edits.proofs.room.Tie as tie

@@ -72,7 +72,7 @@ module _ (capacity : ℕ) (m : Marks) (tapes : List ℕ) where
 -- ---- the parameters
 
 pub count-few : (call : Call) (words : List (List ℕ)) (values : List ℕ) → InRange call words values → countOf call ≤ maxParameters
-count-few (Known row count) words values r = r .0
+count-few (Known row count) words values r = r .few
 count-few NoWord words values r = omega arith
 count-few NoVerb words values r = omega arith
 count-few (WrongCount row given) words values r = omega arith
@@ -103,7 +103,7 @@ verb-within Version roomed own v h = omega arith
 
 pub act-within : {act : Act} (call : Call) (roomed : Bool) (words : List (List ℕ)) (values : List ℕ) → InRange call words values → actOf call roomed ≡ act
     → ActWithin act (take (countOf call) values)
-act-within (Known row count) roomed words values r e = rw e at (verb-within (row .verb) roomed (row .own) (take count values) (r .1))
+act-within (Known row count) roomed words values r e = rw e at (verb-within (row .verb) roomed (row .own) (take count values) (r .within))
 act-within NoWord roomed words values r e = rw (← e) (omega arith)
 act-within NoVerb roomed words values r e = rw (← e) (omega arith)
 act-within (WrongCount row given) roomed words values r e = rw (← e) (omega arith)

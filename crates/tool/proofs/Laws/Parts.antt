@@ -1,6 +1,6 @@
 -- Replies put part by part: a part with its last byte behind it, lines of a name and numbers, lines of exponents, and how long they are;
 -- a complaint whose line was put.
-use mathlib.Core.Path.{_≡_}
+use mathlib.Core.Path.{_≡_, refl}
 use mathlib.Core.List.{List, [], _∷_, _++_, map, append-assoc}
 use Prim.Native.Nat.{ℕ, suc, _^_, _≤_, _<_}
 use native.Mathlib.Omega.{arith}
@@ -57,5 +57,5 @@ four-short w x y z a b c d = omega (arith, line-length (whole w) (whole x ∷ wh
 -- ---- complaints
 
 pub complained : {before after text : List ℕ} {length′ : ℕ} {r : Reply} → Put before 0 text length′ after → length text ≤ maxText
-    → (r .status ≡ 2) × (r .length ≡ length′) → Told before (complains text) r after
-complained w short e = record { status = e .0; text = rw (e .1) w; short = short }
+    → r ≡ record { status = 2; length = length′ } → Told before (complains text) r after
+complained w short e = rw e (record { status = refl; text = w; short = short })

@@ -13,7 +13,7 @@ use Rattle.scripting.specs.declared.Act.{Act}
 use Rattle.scripting.specs.Script.{State, inScript, buildBy, commanded}
 use Rattle.scripting.specs.States.{stateIn}
 use Rattle.scripting.proofs.Laws.Used.{did-kept}
-use Rattle.scripting.proofs.Laws.Held.{held-within}
+use Rattle.tool.proofs.Laws.Held.{held-within}
 use Rattle.scripting.proofs.Laws.Tapes.{did-print}
 use Rattle.scripting.proofs.Laws.Commands.{list-whole}
 use Rattle.scripting.proofs.Laws.Acts.{byAct, commanded-act, count-few, ActWithin, act-within}

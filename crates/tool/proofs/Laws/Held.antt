@@ -4,9 +4,10 @@ use mathlib.Core.List.{List, [], _∷_}
 use Prim.Native.Nat.{ℕ, zero, suc, min}
 use native.Mathlib.Nat.{min-eq-left}
 use native.Mathlib.Omega.{arith}
-use lib.ListN.{length, getD, length-map}
-use Rattle.tool.specs.Rows.{AllAtMost}
-use Rattle.scripting.specs.States.{heldTo}
+use lib.ListN.{length, getD, take, length-map}
+use lib.Seq.{take-all}
+use Rattle.tool.specs.Verbs.{maxParameters}
+use Rattle.tool.specs.Rows.{AllAtMost, Usable, heldTo}
 
 module _ (limit : ℕ) where
   pub held-length : (values : List ℕ) → length (heldTo limit values) ≡ length values
@@ -23,3 +24,7 @@ module _ (limit : ℕ) where
   unfolding heldTo
   held-within [] within = refl
   held-within (n ∷ values) within = rw (min-eq-left (within zero), held-within values (λ i. within (suc i)))
+
+  -- of usable parameters all are the first, and held
+  pub held-usable : {values : List ℕ} → Usable limit values → take maxParameters (heldTo limit values) ≡ values
+  held-usable {values} u = rw (held-within values (u .within)) (take-all maxParameters values (u .few))

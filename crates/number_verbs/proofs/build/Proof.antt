@@ -1,4 +1,4 @@
--- `numbers::build` meets its contract: what build answers stands in the buffer's front, and its bytes are put.
+-- `build` meets its contract: what build answers stands in the buffer's front, and its bytes are put.
 use mathlib.Core.Path.{_≡_, refl, sym, ap, _∙_}
 use Prim.Native.Nat.{_≤_}
 use native.Mathlib.Omega.{arith}
@@ -14,8 +14,8 @@ use Rattle.program.proofs.Laws.Checking.{build-count, build-words}
 use Rattle.tool.specs.Replies.{built}
 use Rattle.tool.specs.Rows.{maxText}
 use borrow.Author.Needs.{needs}
-use Rattle.command.proofs.numbers.build.Statement.{statement}
-use Rattle.command.proofs.numbers.build.Tie as tie
+use Rattle.number_verbs.proofs.build.Statement.{statement}
+use Rattle.number_verbs.proofs.build.Tie as tie
 
 made : (c : tie.After-answer) → buildOutcome (c .before .before .before .before .before .before .before .before .small .result) (c .before .before .before .before .before .before .before .small2 .result) (c .before .before .before .before .before .before .small3 .result) (c .before .before .before .before .before .small4 .result) maxWords ≡ answered (c .answer .given .0 .0)
 made c = sym (c .before .before .before .build .ensures .0) ∙ ap numberOutcomeOf (c .answer .given .1)

@@ -1,4 +1,4 @@
--- `numbers::places` meets its contract: the front of the row is the list of n, which has at most 46 places.
+-- `places` meets its contract: the front of the row is the list of n, which has at most 46 places.
 use mathlib.Core.Path.{_≡_, refl, sym, ap, _∙_}
 use Prim.Native.Nat.{_≤_}
 use native.Mathlib.Omega.{arith}
@@ -8,8 +8,8 @@ use Rattle.fibonacci.specs.Services.{placesOf}
 use Rattle.fibonacci.proofs.Laws.Zeckendorf.{zeckendorf-count-64}
 use Rattle.tool.specs.Replies.{numberReply}
 use borrow.Author.Needs.{needs}
-use Rattle.command.proofs.numbers.places.Statement.{statement}
-use Rattle.command.proofs.numbers.places.Tie as tie
+use Rattle.number_verbs.proofs.places.Statement.{statement}
+use Rattle.number_verbs.proofs.places.Tie as tie
 
 few : (c : tie.After-zeckendorf) → c .zeckendorf .result .count ≤ 46
 few c = omega (arith, c .zeckendorf .ensures .0, zeckendorf-count-64 (c .before .before .args .n) (c .before .before .fits .n .fits))

@@ -1,15 +1,11 @@
-// The verbs on numbers alone, and build.
+// The verbs on numbers alone, and build: what is replied to each. A parameter above what a verb can do with counts as the largest that it can.
 ghost use mathlib.Core.Path.{_≡_};
 ghost use mathlib.Core.List.{[], _∷_};
-ghost use Prim.Native.Nat.{_≤_};
-ghost use lib.ListN.{length};
+ghost use lib.ListN.{take};
 ghost use Rattle.tool.specs.Verbs.{largest8, largest32, maxParameters, limitOn};
 ghost use Rattle.fibonacci.specs.Services.{bit};
 ghost use Rattle.tool.specs.Replies.{built, numberReply};
-ghost use Rattle.tool.specs.Rows.{Told, AllAtMost};
-use crate::values::bytes;
-use crate::values::large;
-use crate::values::small;
+ghost use Rattle.tool.specs.Rows.{Told, heldTo};
 use encoding::tape_bytes;
 use lines::bytes_line;
 use meanings::meaning;
@@ -22,11 +18,13 @@ use tool::ANSWERED;
 use tool::MAX_PARAMETERS;
 use tool::NumberVerb;
 use tool::Reply;
+use widths::bytes;
+use widths::large;
+use widths::small;
 
-// A verb on its parameters.
-pub(crate) fn on_numbers(verb: NumberVerb, own: u32, values: &[u64], text: &mut [u8]) -> Reply
-    requires { ⌜ (length (now values) ≤ maxParameters) × AllAtMost (limitOn verb) (now values) ⌝ }
-    ensures { λ r. ⌜ Told (now (text .entry)) (numberReply verb own (now (values .entry))) r (now (text .exit)) ⌝ }
+// A verb on its parameters. No verb has more of them than `tool::MAX_PARAMETERS`: what stands behind that many isn't looked at.
+pub fn on_numbers(verb: NumberVerb, own: u32, values: &[u64], text: &mut [u8]) -> Reply
+    ensures { λ r. ⌜ Told (now (text .entry)) (numberReply verb own (take maxParameters (heldTo (limitOn verb) (now (values .entry))))) r (now (text .exit)) ⌝ }
 {
     match verb {
         NumberVerb::Decode => meaning(text, decoding::decode(small(values, 0))),
@@ -67,9 +65,8 @@ fn bit(truth: bool) -> u64
 }
 
 // The tape of a named program.
-pub(crate) fn build(own: u32, values: &[u64], text: &mut [u8]) -> Reply
-    requires { ⌜ AllAtMost largest32 (now values) ⌝ }
-    ensures { λ r. ⌜ Told (now (text .entry)) (built own (now (values .entry))) r (now (text .exit)) ⌝ }
+pub fn build(own: u32, values: &[u64], text: &mut [u8]) -> Reply
+    ensures { λ r. ⌜ Told (now (text .entry)) (built own (heldTo largest32 (now (values .entry)))) r (now (text .exit)) ⌝ }
 {
     let mut row = [0u32; MAX_WORDS];
     let p = small(values, 0);
@@ -103,10 +100,9 @@ fn places(n: u64, text: &mut [u8]) -> Reply
 
 // The number of a list of places.
 fn number_of(own: u32, values: &[u64], text: &mut [u8]) -> Reply
-    requires { ⌜ (length (now values) ≤ maxParameters) × AllAtMost largest8 (now values) ⌝ }
-    ensures { λ r. ⌜ Told (now (text .entry)) (numberReply NumberVerb.NumberOf own (now (values .entry))) r (now (text .exit)) ⌝ }
+    ensures { λ r. ⌜ Told (now (text .entry)) (numberReply NumberVerb.NumberOf own (take maxParameters (heldTo largest8 (now (values .entry))))) r (now (text .exit)) ⌝ }
 {
     let mut row = [0u8; MAX_PARAMETERS];
-    let count = bytes(values, &mut row);
+    let count = bytes(values, &mut row, 0);
     answer(text, own, places::number_of_places(&row[..count]))
 }

@@ -1,0 +1,47 @@
+-- `number_of` meets its contract: the bytes are the parameters.
+use mathlib.Core.Path.{_≡_}
+use mathlib.Core.List.{List}
+use Prim.Native.Nat.{ℕ, _≤_}
+use native.Mathlib.Omega.{arith}
+use lib.ListN.{length, take, length-take}
+use Rattle.refusal.proofs.Laws.Rows.{wrote-length, wrote-taken}
+use Rattle.tool.specs.Verbs.{largest8, maxParameters}
+use Rattle.tool.specs.Replies.{numberReply}
+use Rattle.tool.specs.Rows.{heldTo}
+use borrow.Author.Needs.{needs}
+use Rattle.number_verbs.proofs.number_of.Statement.{statement}
+use Rattle.number_verbs.proofs.number_of.Tie as tie
+
+module _ (c : tie.After-bytes) where
+  abbrev values : List ℕ
+  values = heldTo largest8 (c .before .before .before .before .args .values .now)
+
+  few : length (take maxParameters values) ≤ maxParameters
+  few = omega (arith, length-take maxParameters values)
+
+  -- the row's bytes are the parameters
+  taken : take (c .bytes .result) (c .bytes .last .1 .0) ≡ take maxParameters values
+  taken = wrote-taken (c .bytes .ensures) few
+
+array-share-prefix-row : tie.Need-array-share-prefix-row
+array-share-prefix-row c = let b = c .before .before in omega (arith, few b, b .bytes .ensures .next-is, wrote-length (b .bytes .ensures))
+
+slice-aggregate-number-of-places : tie.Need-slice-aggregate-number-of-places
+slice-aggregate-number-of-places c = rw (taken (c .before .before .before)) (omega (arith, c .before .before .before .bytes .ensures .next-is))
+
+returns : tie.Need-returns
+unfolding numberReply
+returns c = rw (← taken (c .before .before .before .before .before .before .before), ← c .before .before .before .number-of-places .ensures) (c .before .before .answer .ensures)
+
+pub number-of-spec : {M : Type 1} → statement M
+number-of-spec =
+    tie.close
+    (tie.spec
+    (λ c. search needs)
+    (λ c κs. search needs)
+    array-share-prefix-row
+    slice-aggregate-number-of-places
+    (λ c κs. search needs)
+    (λ c κs. search needs)
+    (λ c. search needs)
+    returns)
