@@ -10,7 +10,7 @@ ghost use Rattle.text.specs.Text.{numberLine, numbersLine};
 ghost use Rattle.tape.specs.Layout.{maxWords};
 ghost use Rattle.tool.specs.Verbs.{largest32, maxRoom};
 ghost use Rattle.tool.specs.Replies.{printed};
-ghost use Rattle.tool.specs.Rows.{heldTo};
+ghost use Rattle.tool.specs.Inner.Held.{heldTo};
 ghost use Rattle.scripting.specs.Script.{withTape, builtAs, buildInto, buildLine, buildIn, buildBy};
 ghost use Rattle.scripting.specs.States.{roomIn, stateIn, Inside, capacityOf, insideOf, countIn, Did};
 use lines::number_line;

@@ -6,7 +6,7 @@ ghost use lib.ListN.{length, take, drop};
 ghost use Rattle.text.specs.Text.{numberLine};
 ghost use Rattle.text.specs.Rows.{Put};
 ghost use Rattle.tool.specs.Verbs.{maxRoom, largest32, limitIn};
-ghost use Rattle.tool.specs.Rows.{heldTo};
+ghost use Rattle.tool.specs.Inner.Held.{heldTo};
 ghost use Rattle.scripting.specs.Script.{edited, inScript};
 ghost use Rattle.scripting.specs.States.{capacityOf, stateIn, Inside, insideOf, Did};
 use lines::number_line;

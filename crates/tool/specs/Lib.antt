@@ -4,3 +4,4 @@ pub mod Texts
 pub mod Calls
 pub mod Replies
 pub mod Rows
+pub mod Inner

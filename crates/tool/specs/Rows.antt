@@ -1,17 +1,10 @@
--- What the code's answers stand for; for contracts.
+-- What the code's replies stand for; for contracts.
 use mathlib.Core.Path.{_≡_}
-use mathlib.Core.Bool.{Bool}
-use mathlib.Core.List.{List, [], map}
-use Prim.Native.Nat.{ℕ, min, _≤_, _-_}
-use lib.ListN.{length, getD, take, drop}
+use mathlib.Core.List.{List}
+use Prim.Native.Nat.{ℕ, _≤_}
+use lib.ListN.{length}
 use Rattle.text.specs.Rows.{Put}
-use Rattle.tool.specs.declared.Row.{Row}
 use Rattle.tool.specs.declared.Reply.{Reply}
-use Rattle.tool.specs.declared.CommandLine.{CommandLine}
-use Rattle.tool.specs.declared.Call.{Call}
-use Rattle.tool.specs.declared.Call.the-variants.{NoWord, NoVerb, WrongCount, Unread, Known}
-use Rattle.tool.specs.Verbs.{maxParameters, largest64, rows, limitOf}
-use Rattle.tool.specs.Calls.{Asked, noWord, noVerb, wrongCount, unread, known, numbersFrom, withNumbers, askedBy}
 use Rattle.tool.specs.Replies.{Replied}
 
 -- no text of a reply is longer
@@ -24,91 +17,3 @@ pub record Told (before : List ℕ) (r : Replied) (told : Reply) (after : List �
   pub status : told .status ≡ r .status
   pub text : Put before 0 (r .text) (told .length) after
   pub short : length (r .text) ≤ maxText
-
--- all of a row are at most a number
-abbrev pub AllAtMost : ℕ → List ℕ → Type 0
-AllAtMost most values = (i : ℕ) → getD values i 0 ≤ most
-
--- parameters that a verb can do with: no more than there is room for, and none above its limit
-pub record Usable (limit : ℕ) (values : List ℕ) : Type 0 where
-  pub few : length values ≤ maxParameters
-  pub within : AllAtMost limit values
-
--- parameters, each held to a limit
-unfoldable pub heldTo : ℕ → List ℕ → List ℕ
-heldTo limit values = map (λ (n : ℕ). min n limit) values
-
--- how many rows the table of verbs has of each kind, in its order: plain verbs, on a tape, on numbers, in a script
-abbrev pub plainCount : ℕ
-plainCount = 7
-
-abbrev pub tapeCount : ℕ
-tapeCount = 8
-
-abbrev pub numberCount : ℕ
-numberCount = 10
-
-abbrev pub scriptCount : ℕ
-scriptCount = 6
-
--- the rows of a kind: so many behind the first of other kinds
-abbrev pub kindRows : ℕ → ℕ → List Row
-kindRows before count = take count (drop before rows)
-
--- what a call of the code asks for, with the words and the row of parameters beside it
-abbrev pub askedFor : Call → List (List ℕ) → List ℕ → Asked
-askedFor NoWord words values = noWord
-askedFor NoVerb words values = noVerb (getD words 0 [])
-askedFor (WrongCount row given) words values = wrongCount (getD words 0 []) row given
-askedFor (Unread row index) words values = unread (getD words index []) row (index - 1)
-askedFor (Known row count) words values = known row (take count values)
-
--- the bytes of the longest name
-abbrev pub longestName : ℕ
-longestName = 10
-
--- what a complaint tells of: a name as short as those of the table, counts that there is room for
-pub record Miscounted (word : List ℕ) (row : Row) (given : ℕ) : Type 0 where
-  pub name : length word ≤ longestName
-  pub least : row .least ≤ maxParameters
-  pub most : row .most ≤ maxParameters
-  pub count : given ≤ largest64
-
--- a word behind the verb, and a limit of 64 bits
-pub record Misread (row : Row) (index : ℕ) : Type 0 where
-  pub behind : 1 ≤ index
-  pub largest : row .largest ≤ largest64
-
--- parameters that are in the row and in their range
-pub record Ranged (row : Row) (count : ℕ) (values : List ℕ) : Type 0 where
-  pub few : count ≤ maxParameters
-  pub within : AllAtMost (limitOf (row .verb)) (take count values)
-
-abbrev pub InRange : Call → List (List ℕ) → List ℕ → Type 0
-InRange NoWord words values = 0 ≤ 0
-InRange NoVerb words values = 0 ≤ 0
-InRange (WrongCount row given) words values = Miscounted (getD words 0 []) row given
-InRange (Unread row index) words values = Misread row index
-InRange (Known row count) words values = Ranged row count values
-
-pub record Understood (inScript : Bool) (words : List (List ℕ)) (r : Call) (values : List ℕ) : Type 0 where
-  pub asked : askedFor r words values ≡ askedBy inScript words
-  pub inRange : InRange r words values
-  pub size : length values ≡ maxParameters
-
--- a call whose parameters aren't looked at
-pub record Bare (call : Call) (line : CommandLine) : Type 0 where
-  pub is : line .call ≡ call
-  pub size : length (line .values) ≡ maxParameters
-
--- the words after a verb, whose count is right
-pub record Countable (row : Row) (words : List (List ℕ)) (count : ℕ) : Type 0 where
-  pub few : count ≤ maxParameters
-  pub all : count ≡ length words - 1
-  pub largest : row .largest ≤ limitOf (row .verb)
-
--- the same as `Understood` of a verb whose count of parameters is right
-pub record Gathered (row : Row) (words : List (List ℕ)) (r : Call) (values : List ℕ) : Type 0 where
-  pub asked : askedFor r words values ≡ withNumbers row (drop 1 words) (numbersFrom row 0 (drop 1 words))
-  pub inRange : InRange r words values
-  pub size : length values ≡ maxParameters

@@ -1,10 +1,10 @@
 // A command line's parameters at the widths that the services take: one that is too large counts as the largest number of its width.
 ghost use mathlib.Core.Path.{_≡_};
-ghost use Prim.Native.Nat.{min, _-_};
-ghost use lib.ListN.{length, getD, take};
-ghost use Rattle.refusal.specs.Rows.{Wrote};
+ghost use Prim.Native.Nat.{min};
+ghost use lib.ListN.{getD};
+ghost use Rattle.text.specs.Rows.{Put};
 ghost use Rattle.tool.specs.Verbs.{largest8, largest32, largest64};
-ghost use Rattle.tool.specs.Rows.{heldTo};
+ghost use Rattle.tool.specs.Inner.Held.{heldTo};
 use tool::LARGEST_8;
 use tool::LARGEST_32;
 
@@ -30,7 +30,7 @@ pub fn small(values: &[u64], place: usize) -> u32
 
 // All of them at 32 bits into a row from a place on, as many as it has room for.
 pub fn words(values: &[u64], row: &mut [u32], at: usize) -> usize
-    ensures { λ next. ⌜ Wrote (now (row .entry)) at (take (length (now (row .entry)) - at) (heldTo largest32 (now (values .entry)))) next (now (row .exit)) ⌝ }
+    ensures { λ next. ⌜ Put (now (row .entry)) at (heldTo largest32 (now (values .entry))) next (now (row .exit)) ⌝ }
 {
     let mut next = at;
     let mut i: usize = 0;
@@ -47,7 +47,7 @@ pub fn words(values: &[u64], row: &mut [u32], at: usize) -> usize
 
 // All of them as bytes.
 pub fn bytes(values: &[u64], row: &mut [u8], at: usize) -> usize
-    ensures { λ next. ⌜ Wrote (now (row .entry)) at (take (length (now (row .entry)) - at) (heldTo largest8 (now (values .entry)))) next (now (row .exit)) ⌝ }
+    ensures { λ next. ⌜ Put (now (row .entry)) at (heldTo largest8 (now (values .entry))) next (now (row .exit)) ⌝ }
 {
     let mut next = at;
     let mut i: usize = 0;

@@ -5,7 +5,7 @@ use native.Mathlib.Omega.{arith}
 use lib.ListN.{length, getD}
 use Rattle.text.specs.Reading.{splitWords}
 use Rattle.tool.specs.Verbs.{entries, names, indexIn, noRow, rowNamed}
-use Rattle.tool.specs.Rows.{plainCount, tapeCount, numberCount, scriptCount, kindRows}
+use Rattle.tool.specs.Inner.Kinds.{plainCount, tapeCount, numberCount, scriptCount, kindRows}
 use Rattle.tool.proofs.Laws.Verbs.{kind-row, row-nowhere}
 use borrow.Author.Needs.{needs}
 use Rattle.arguments.proofs.row_named.Statement.{statement}

@@ -7,7 +7,7 @@ use native.Mathlib.Omega.{arith}
 use lib.ListN.{length, getD}
 use Rattle.text.specs.Reading.{splitWords}
 use Rattle.tool.specs.Verbs.{rowNamed, isHidden, limitOf, maxParameters, largest64}
-use Rattle.tool.specs.Rows.{longestName, Miscounted}
+use Rattle.tool.specs.Inner.Understood.{longestName, Miscounted}
 use Rattle.tool.proofs.Laws.Verbs.{row-largest, row-least, row-most, name-short}
 use Rattle.tool.proofs.Laws.Calls.{asked-none, asked-hidden, asked-few, asked-many, asked-taken}
 use borrow.Author.Needs.{needs}

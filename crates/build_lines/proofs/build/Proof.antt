@@ -6,7 +6,7 @@ use lib.Seq.{length-take-le}
 use borrow.Author.Needs.{needs}
 use Rattle.tool.specs.Verbs.{largest32}
 use Rattle.scripting.specs.Script.{State, buildBy}
-use Rattle.tool.specs.Rows.{heldTo}
+use Rattle.tool.specs.Inner.Held.{heldTo}
 use Rattle.scripting.proofs.Laws.Used.{inside-used, did-used}
 use Rattle.build_lines.proofs.build.Statement.{statement}
 use Rattle.build_lines.proofs.build.Tie as tie

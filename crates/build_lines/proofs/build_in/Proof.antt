@@ -7,7 +7,7 @@ use lib.Seq.{length-take-le}
 use borrow.Author.Needs.{needs}
 use Rattle.tool.specs.Verbs.{largest32, maxRoom}
 use Rattle.scripting.specs.Script.{filled}
-use Rattle.tool.specs.Rows.{heldTo}
+use Rattle.tool.specs.Inner.Held.{heldTo}
 use Rattle.scripting.proofs.Laws.Rooms.{filled-part, did-built-in}
 use Rattle.build_lines.proofs.build_in.Statement.{statement}
 use Rattle.build_lines.proofs.build_in.Tie as tie

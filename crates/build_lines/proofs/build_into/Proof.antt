@@ -2,7 +2,7 @@
 use native.Mathlib.Omega.{arith}
 use borrow.Author.Needs.{needs}
 use Rattle.tool.specs.Verbs.{largest32}
-use Rattle.tool.specs.Rows.{heldTo}
+use Rattle.tool.specs.Inner.Held.{heldTo}
 use Rattle.scripting.proofs.Laws.Rooms.{built-count, did-built-into}
 use Rattle.build_lines.proofs.build_into.Statement.{statement}
 use Rattle.build_lines.proofs.build_into.Tie as tie

@@ -5,7 +5,7 @@ use lib.ListN.{replicate, length-replicate}
 use borrow.Author.Needs.{needs}
 use Rattle.tape.specs.Layout.{maxWords}
 use Rattle.tool.specs.Verbs.{largest32}
-use Rattle.tool.specs.Rows.{heldTo}
+use Rattle.tool.specs.Inner.Held.{heldTo}
 use Rattle.scripting.proofs.Laws.Rooms.{built-count, did-built-line}
 use Rattle.build_lines.proofs.build_line.Statement.{statement}
 use Rattle.build_lines.proofs.build_line.Tie as tie

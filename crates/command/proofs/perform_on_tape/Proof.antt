@@ -5,9 +5,10 @@ use Prim.Native.Nat.{ℕ, _≤_}
 use native.Mathlib.Omega.{arith}
 use lib.ListN.{length, take, length-take}
 use lib.Seq.{take-all}
-use Rattle.refusal.proofs.Laws.Rows.{wrote-length, wrote-taken}
+use Rattle.refusal.proofs.Laws.Rows.{wrote-taken}
+use Rattle.text.proofs.Laws.Puts.{put-inside}
 use Rattle.tool.specs.Verbs.{largest32, maxParameters}
-use Rattle.tool.specs.Rows.{heldTo}
+use Rattle.tool.specs.Inner.Held.{heldTo}
 use borrow.Author.Needs.{needs}
 use Rattle.command.proofs.perform_on_tape.Statement.{statement}
 use Rattle.command.proofs.perform_on_tape.Tie as tie
@@ -21,13 +22,13 @@ module _ (c : tie.After-words) where
 
   -- the row's numbers are the parameters
   taken : take (c .words .result) (c .words .last .1 .0) ≡ take maxParameters values
-  taken = wrote-taken (c .words .ensures) few
+  taken = wrote-taken (c .words .ensures .fitting) few
 
 array-share-prefix-row : tie.Need-array-share-prefix-row
-array-share-prefix-row c = let w = c .before in omega (arith, few w, w .words .ensures .next-is, wrote-length (w .words .ensures))
+array-share-prefix-row c = put-inside (c .before .words .ensures) (omega arith)
 
 slice-aggregate-on-tape : tie.Need-slice-aggregate-on-tape
-slice-aggregate-on-tape c = rw (taken (c .before .before)) (omega (arith, c .before .before .words .ensures .next-is))
+slice-aggregate-on-tape c = rw (taken (c .before .before)) (omega (arith, c .before .before .words .ensures .fitting .next-is))
 
 returns : tie.Need-returns
 returns c =

@@ -5,7 +5,7 @@ use lib.ListN.{getD}
 use borrow.Author.Needs.{needs}
 use Rattle.tool.specs.Verbs.{largest32}
 use Rattle.scripting.specs.Script.{noWordLine}
-use Rattle.tool.specs.Rows.{heldTo}
+use Rattle.tool.specs.Inner.Held.{heldTo}
 use Rattle.scripting.proofs.Laws.Tapes.{did-print}
 use Rattle.scripting.proofs.Laws.Edits.{did-changed, did-not-change}
 use Rattle.edits.proofs.change.Statement.{statement}

@@ -6,7 +6,7 @@ use lib.ListN.{getD}
 use borrow.Author.Needs.{needs}
 use Rattle.tool.specs.Verbs.{largest32}
 use Rattle.scripting.specs.declared.Marks.{Marks}
-use Rattle.tool.specs.Rows.{heldTo}
+use Rattle.tool.specs.Inner.Held.{heldTo}
 use Rattle.scripting.proofs.Laws.Edits.{did-dropped}
 use Rattle.edits.proofs.drop_words.Statement.{statement}
 use Rattle.edits.proofs.drop_words.Tie as tie

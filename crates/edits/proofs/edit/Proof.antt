@@ -6,7 +6,7 @@ use lib.Seq.{length-take-le}
 use borrow.Author.Needs.{needs}
 use Rattle.tool.specs.Verbs.{limitIn}
 use Rattle.scripting.specs.Script.{State, inScript}
-use Rattle.tool.specs.Rows.{heldTo}
+use Rattle.tool.specs.Inner.Held.{heldTo}
 use Rattle.scripting.proofs.Laws.Used.{inside-used, did-used}
 use Rattle.edits.proofs.edit.Statement.{statement}
 use Rattle.edits.proofs.edit.Tie as tie

@@ -3,7 +3,7 @@ use native.Mathlib.Omega.{arith}
 use borrow.Author.Needs.{needs}
 use Rattle.tool.specs.Verbs.{largest32}
 use Rattle.scripting.specs.Script.{inScript}
-use Rattle.tool.specs.Rows.{heldTo}
+use Rattle.tool.specs.Inner.Held.{heldTo}
 use Rattle.scripting.proofs.Laws.Edits.{did-set, did-appended}
 use Rattle.edits.proofs.edit_inside.Statement.{statement}
 use Rattle.edits.proofs.edit_inside.Tie as tie

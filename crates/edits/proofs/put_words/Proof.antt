@@ -3,11 +3,11 @@ use mathlib.Core.Path.{refl, sym, ap, _∙_}
 use Prim.Native.Nat.{ℕ, _+_, _-_}
 use native.Mathlib.Omega.{arith}
 use lib.ListN.{length}
-use lib.Seq.{take-all}
 use borrow.Author.Needs.{needs}
+use Rattle.text.proofs.Laws.Puts.{put-fits}
 use Rattle.tool.specs.Verbs.{largest32}
 use Rattle.scripting.specs.declared.Marks.{Marks}
-use Rattle.tool.specs.Rows.{heldTo}
+use Rattle.tool.specs.Inner.Held.{heldTo}
 use Rattle.tool.proofs.Laws.Held.{held-length}
 use Rattle.scripting.proofs.Laws.Tapes.{ended}
 use Rattle.scripting.proofs.Laws.Edits.{did-no-words, did-words}
@@ -28,7 +28,8 @@ returns-2 c =
     let s = c .before .before .before .before .before .before .before .before .before .before .before .before .before in
     let values = s .args .values .now in
     let same = held-length largest32 values in
-    did-words (s .pre .0) (s .pre .1) (omega (arith, same, c .before .before .before .before .before .before .before .before .before .if1 .left, s .pre .2, s .pre .0 .end)) (rw (take-all (length (s .args .tapes .now) - s .args .at) (heldTo largest32 values) (omega (arith, same, c .before .before .before .before .before .before .before .before .before .if1 .left))) at (c .before .before .before .before .before .before .before .words .ensures))
+    let room = omega (arith, same, c .before .before .before .before .before .before .before .before .before .if1 .left, s .pre .2, s .pre .0 .end) in
+    did-words (s .pre .0) (s .pre .1) room (put-fits (c .before .before .before .before .before .before .before .words .ensures) room)
     (c .before .before .before .before .ending .ensures ∙ ap (λ (n : ℕ). ended (s .args .marks) (s .args .at + n)) (sym same)) (c .before .before .count-words .ensures)
 
 pub put-words-spec : {M : Type 1} → statement M

@@ -4,7 +4,7 @@ use native.Mathlib.Omega.{arith}
 use lib.ListN.{getD}
 use borrow.Author.Needs.{needs}
 use Rattle.tool.specs.Verbs.{maxRoom}
-use Rattle.tool.specs.Rows.{heldTo}
+use Rattle.tool.specs.Inner.Held.{heldTo}
 use Rattle.tool.proofs.Laws.Held.{held-length, held-at}
 use Rattle.scripting.proofs.Laws.Edits.{did-unroom, did-room}
 use Rattle.edits.proofs.room.Statement.{statement}

@@ -4,10 +4,11 @@ use mathlib.Core.List.{List}
 use Prim.Native.Nat.{ℕ, _≤_}
 use native.Mathlib.Omega.{arith}
 use lib.ListN.{length, take, length-take}
-use Rattle.refusal.proofs.Laws.Rows.{wrote-length, wrote-taken}
+use Rattle.refusal.proofs.Laws.Rows.{wrote-taken}
+use Rattle.text.proofs.Laws.Puts.{put-inside}
 use Rattle.tool.specs.Verbs.{largest8, maxParameters}
 use Rattle.tool.specs.Replies.{numberReply}
-use Rattle.tool.specs.Rows.{heldTo}
+use Rattle.tool.specs.Inner.Held.{heldTo}
 use borrow.Author.Needs.{needs}
 use Rattle.number_verbs.proofs.number_of.Statement.{statement}
 use Rattle.number_verbs.proofs.number_of.Tie as tie
@@ -21,13 +22,13 @@ module _ (c : tie.After-bytes) where
 
   -- the row's bytes are the parameters
   taken : take (c .bytes .result) (c .bytes .last .1 .0) ≡ take maxParameters values
-  taken = wrote-taken (c .bytes .ensures) few
+  taken = wrote-taken (c .bytes .ensures .fitting) few
 
 array-share-prefix-row : tie.Need-array-share-prefix-row
-array-share-prefix-row c = let b = c .before .before in omega (arith, few b, b .bytes .ensures .next-is, wrote-length (b .bytes .ensures))
+array-share-prefix-row c = put-inside (c .before .before .bytes .ensures) (omega arith)
 
 slice-aggregate-number-of-places : tie.Need-slice-aggregate-number-of-places
-slice-aggregate-number-of-places c = rw (taken (c .before .before .before)) (omega (arith, c .before .before .before .bytes .ensures .next-is))
+slice-aggregate-number-of-places c = rw (taken (c .before .before .before)) (omega (arith, c .before .before .before .bytes .ensures .fitting .next-is))
 
 returns : tie.Need-returns
 unfolding numberReply

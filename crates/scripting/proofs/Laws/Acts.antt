@@ -12,7 +12,8 @@ use Rattle.tool.specs.declared.Call.{Call}
 use Rattle.tool.specs.declared.Call.the-variants.{NoWord, NoVerb, WrongCount, Unread, Known}
 use Rattle.tool.specs.Verbs.{maxParameters, largest32, limitIn, limitOf}
 use Rattle.tool.specs.Calls.{Asked, known}
-use Rattle.tool.specs.Rows.{AllAtMost, InRange, askedFor}
+use Rattle.tool.specs.Inner.Held.{AllAtMost}
+use Rattle.tool.specs.Inner.Understood.{InRange, askedFor}
 use Rattle.scripting.specs.declared.Act.{Act}
 use Rattle.scripting.specs.declared.Act.the-variants.{Reply, Edit, BuildTape, PlacesInRoom, ListInRoom}
 use Rattle.scripting.specs.declared.Marks.{Marks}

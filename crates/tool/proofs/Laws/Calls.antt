@@ -14,7 +14,7 @@ use Rattle.encoding.proofs.Laws.Tapes.{drop-next}
 use Rattle.tool.specs.declared.Row.{Row}
 use Rattle.tool.specs.Verbs.{rowNamed, isHidden, limitOf, parameterIn}
 use Rattle.tool.specs.Calls.{Numbers, all, stopped, prependParsed, numbersFrom, noWord, noVerb, wrongCount, unread, withNumbers, askedOf, askedBy}
-use Rattle.tool.specs.Rows.{AllAtMost}
+use Rattle.tool.specs.Inner.Held.{AllAtMost}
 
 -- ---- what is asked
 

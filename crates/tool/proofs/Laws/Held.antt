@@ -7,7 +7,7 @@ use native.Mathlib.Omega.{arith}
 use lib.ListN.{length, getD, take, length-map}
 use lib.Seq.{take-all}
 use Rattle.tool.specs.Verbs.{maxParameters}
-use Rattle.tool.specs.Rows.{AllAtMost, Usable, heldTo}
+use Rattle.tool.specs.Inner.Held.{AllAtMost, Usable, heldTo}
 
 module _ (limit : ℕ) where
   pub held-length : (values : List ℕ) → length (heldTo limit values) ≡ length values

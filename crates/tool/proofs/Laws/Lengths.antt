@@ -16,7 +16,8 @@ use Rattle.text.proofs.Laws.Quoting.{quoted-most}
 use Rattle.tool.specs.declared.Row.{Row}
 use Rattle.tool.specs.Verbs.{isVariant}
 use Rattle.tool.specs.Texts.{reasonFor, refusalLine, noVerbLine, fromText, countText, wrongCountLine, listed, variantsText, unreadText, unreadLine, scriptLine, lines, usage}
-use Rattle.tool.specs.Rows.{maxText, longestName}
+use Rattle.tool.specs.Rows.{maxText}
+use Rattle.tool.specs.Inner.Understood.{longestName}
 
 -- of two texts, by a test
 either-most : (t : Bool) (a b : List ℕ) (most : ℕ) → length a ≤ most → length b ≤ most → length (cond t a b) ≤ most

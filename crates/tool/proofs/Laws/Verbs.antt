@@ -25,7 +25,8 @@ use Rattle.tool.specs.declared.Verb.{Verb}
 use Rattle.tool.specs.declared.Verb.the-variants.{Unknown, Build, Script, Help, Version, OnTape, OnNumbers, InScript}
 use Rattle.tool.specs.declared.Row.{Row}
 use Rattle.tool.specs.Verbs.{maxParameters, largest32, largest64, entries, names, rows, indexIn, noRow, rowNamed, isHidden, limitOn, limitIn, limitOf, isVariant, variantIn, parameterIn}
-use Rattle.tool.specs.Rows.{longestName, kindRows}
+use Rattle.tool.specs.Inner.Kinds.{kindRows}
+use Rattle.tool.specs.Inner.Understood.{longestName}
 
 -- ---- where a name stands
 

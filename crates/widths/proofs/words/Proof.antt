@@ -1,60 +1,47 @@
--- `words` meets its contract: with i parameters stored, the first i stand in the row from `at` on.
-use Prim.Native.Nat.{_-_}
+-- `words` meets its contract: with i parameters put, the first i are put; a full row takes no more of them.
+use Prim.Native.Nat.{_-_, _≤_}
 use native.Mathlib.Omega.{arith}
-use lib.ListN.{length}
-use Rattle.refusal.proofs.Laws.Rows.{wrote-length}
+use lib.ListN.{length, take}
+use Rattle.text.specs.Rows.{Put}
+use Rattle.text.proofs.Laws.Puts.{put-none, put-rest, put-length}
 use Rattle.tool.specs.Verbs.{largest32}
+use Rattle.tool.specs.Inner.Held.{heldTo}
 use borrow.Author.Needs.{needs}
-use Rattle.widths.proofs.Laws.Stored.{Stored, stored-none, stored-next, stored-full, stored-all}
+use Rattle.widths.proofs.Laws.Stored.{put-held, put-all-held}
 use Rattle.widths.proofs.words.Statement.{statement}
 use Rattle.widths.proofs.words.Tie as tie
 
 abbrev Inv-loop : tie.InvT-loop
-Inv-loop values row₀ at next₀ i₀ row next i = Stored largest32 at values row₀ i next row
+Inv-loop values row₀ at next₀ i₀ row next i = (i ≤ length values) × Put row₀ at (take i (heldTo largest32 values)) next row
 
 abbrev μ-loop : tie.MeasureT-loop
 μ-loop values row₀ at next₀ i₀ row next i = length values - i
 
 loop-holds : tie.Need-loop-holds Inv-loop μ-loop
-loop-holds c = stored-none largest32 _ _ _
+loop-holds c = (omega arith, put-none _ _)
 
 same-length : tie.Need-same-length Inv-loop μ-loop
-same-length c = wrote-length (c .before .before .loop .inv .wrote)
+same-length c = put-length (c .before .before .loop .inv .1)
 
 returns : tie.Need-returns Inv-loop μ-loop
-returns c = stored-full largest32 _ _ _ (c .before .before .loop .inv) (c .if1 .taken)
-
-mul-held-word : tie.Need-mul-held-word Inv-loop μ-loop
-mul-held-word c = omega arith
-
-shared-slice-read-held-word : tie.Need-shared-slice-read-held-word Inv-loop μ-loop
-shared-slice-read-held-word c = omega arith
+returns c = put-rest _ (c .before .before .loop .i) (c .if1 .taken) (c .before .before .loop .inv .1)
 
 mul-row : tie.Need-mul-row Inv-loop μ-loop
-mul-row c = omega (arith, wrote-length (c .before .before .before .before .loop .inv .wrote))
-
-slice-write-row : tie.Need-slice-write-row Inv-loop μ-loop
-slice-write-row c = omega arith
+mul-row c = omega (arith, put-length (c .before .before .before .before .loop .inv .1))
 
 add-next : tie.Need-add-next Inv-loop μ-loop
-add-next c = omega (arith, wrote-length (c .before .before .before .before .loop .inv .wrote))
-
-add-i : tie.Need-add-i Inv-loop μ-loop
-add-i c = omega arith
-
-loop-less : tie.Need-loop-less Inv-loop μ-loop
-loop-less c = omega arith
+add-next c = omega (arith, put-length (c .before .before .before .before .loop .inv .1))
 
 loop-again : tie.Need-loop-again Inv-loop μ-loop
 loop-again c =
     let test = c .before .before in
-    stored-next largest32 _ _ _ (test .before .before .loop .inv) (test .before .loop-test .taken) (test .if1 .left) (c .held-word .ensures)
+    (omega arith, put-held largest32 _ _ (test .before .loop-test .taken) (test .if1 .left) (c .held-word .ensures) (test .before .before .loop .inv .1))
 
 same-length-2 : tie.Need-same-length-2 Inv-loop μ-loop
-same-length-2 c = wrote-length (c .before .loop .inv .wrote)
+same-length-2 c = put-length (c .before .loop .inv .1)
 
 returns-2 : tie.Need-returns-2 Inv-loop μ-loop
-returns-2 c = stored-all largest32 _ _ _ (c .before .loop .inv) (c .loop-test .left)
+returns-2 c = put-all-held largest32 _ _ (c .loop-test .left) (c .before .loop .inv .1)
 
 pub words-spec : {M : Type 1} → statement M
 words-spec =
@@ -65,14 +52,14 @@ words-spec =
     loop-holds
     same-length
     returns
-    mul-held-word
-    shared-slice-read-held-word
+    (λ c. search needs)
+    (λ c. search needs)
     (λ c κs. search needs)
     mul-row
-    slice-write-row
+    (λ c. search needs)
     add-next
-    add-i
-    loop-less
+    (λ c. search needs)
+    (λ c. search needs)
     loop-again
     same-length-2
     returns-2)

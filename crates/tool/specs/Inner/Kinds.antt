@@ -1,0 +1,23 @@
+-- The rows of the table of verbs by their kinds, as the code's tables have them.
+use mathlib.Core.List.{List}
+use Prim.Native.Nat.{ℕ}
+use lib.ListN.{take, drop}
+use Rattle.tool.specs.declared.Row.{Row}
+use Rattle.tool.specs.Verbs.{rows}
+
+-- how many rows the table of verbs has of each kind, in its order: plain verbs, on a tape, on numbers, in a script
+abbrev pub plainCount : ℕ
+plainCount = 7
+
+abbrev pub tapeCount : ℕ
+tapeCount = 8
+
+abbrev pub numberCount : ℕ
+numberCount = 10
+
+abbrev pub scriptCount : ℕ
+scriptCount = 6
+
+-- the rows of a kind: so many behind the first of other kinds
+abbrev pub kindRows : ℕ → ℕ → List Row
+kindRows before count = take count (drop before rows)
