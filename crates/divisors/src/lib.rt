@@ -2,9 +2,9 @@
 mod table;
 
 ghost use mathlib.Core.Path.{_≡_};
-ghost use Prim.Native.Nat.{_%_, _<_};
+ghost use Prim.Native.Nat.{_<_};
 ghost use Rattle.divisors.specs.Small.{hasSmallDivisor};
-ghost use Rattle.divisors.specs.Inner.Inverted.{sumLimit, carryOf, HalfWordInverse, Table, LeftOver, ZeroWhereDivided, DividedByOne};
+ghost use Rattle.divisors.specs.Inner.Inverted.{LeftFromFive, sumLimit, carryOf, HalfWordInverse, Table, LeftFrom4097, ZeroWhereDivided, DividedByOne};
 use table::INVERSES_FROM_4097;
 use table::INVERSES_TO_4096;
 use table::PRIMES_FROM_4097;
@@ -47,7 +47,7 @@ pub fn has_small_divisor(p: u32) -> bool
 // The same by the second table, where the first has no divisor: in a function of its own, since a constant that is lent is written
 // out where its function begins.
 fn has_divisor_from_4097(p: u32) -> bool
-    requires { ⌜ LeftOver p ⌝ }
+    requires { ⌜ LeftFrom4097 p ⌝ }
     ensures { λ r. ⌜ r ≡ hasSmallDivisor p ⌝ }
 {
     has_divisor_among(p, &PRIMES_FROM_4097, &INVERSES_FROM_4097)
@@ -94,7 +94,7 @@ fn carry(n: u16, d: u16, inverse: u16) -> u16
 
 // The same by division, where neither 2 nor 3 divides p.
 fn has_divisor_from_5(p: u32) -> bool
-    requires { ⌜ (¬ (p % 2 ≡ 0)) × (¬ (p % 3 ≡ 0)) ⌝ }
+    requires { ⌜ LeftFromFive p ⌝ }
     ensures { λ r. ⌜ r ≡ hasSmallDivisor p ⌝ }
 {
     let mut d: u32 = 5;

@@ -16,7 +16,7 @@ abbrev μ-loop : tie.MeasureT-loop
 μ-loop p d₀ d = 16385 - d
 
 loop-holds : tie.Need-loop-holds Inv-loop μ-loop
-loop-holds c = (omega arith, omega arith, omega arith, none-below-five _ (c .pre .0) (c .pre .1))
+loop-holds c = (omega arith, omega arith, omega arith, none-below-five _ (c .pre .odd) (c .pre .not-by-three))
 
 returns : tie.Need-returns Inv-loop μ-loop
 returns c = none-told _ (λ d s. c .before .before .loop .inv .3 d (omega (arith, s .less)) s)
@@ -41,7 +41,7 @@ loop-again c =
       omega arith,
       omega arith,
       omega arith,
-      past _ (at .before .pre .0) _ (at .loop .inv .2) (at .loop .inv .3) (λ s. c .if2 .left (mod-eq-zero-of-dvd _ (s .divides))),
+      past _ (at .before .pre .odd) _ (at .loop .inv .2) (at .loop .inv .3) (λ s. c .if2 .left (mod-eq-zero-of-dvd _ (s .divides))),
     )
 
 returns-3 : tie.Need-returns-3 Inv-loop μ-loop

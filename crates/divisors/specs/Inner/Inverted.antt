@@ -10,6 +10,11 @@ use Rattle.divisors.specs.Small.{limit, SmallDivisor}
 abbrev pub NoneBelow : ℕ → ℕ → Type 0
 NoneBelow p e = (d : ℕ) → d < e → ¬ (SmallDivisor p d)
 
+-- p is left for the numbers from 5 on
+pub record LeftFromFive (p : ℕ) : Type 0 where
+  pub odd : ¬ (p % 2 ≡ 0)
+  pub not-by-three : ¬ (p % 3 ≡ 0)
+
 -- 2^16
 abbrev pub halfWord : ℕ
 halfWord = 65536
@@ -48,7 +53,7 @@ pub record Table (p : ℕ) (ds xs : List ℕ) : Type 0 where
   pub inverses : Inverses ds xs
 
 -- p is left for the second table: the first has told that no number below 4097 divides it
-pub record LeftOver (p : ℕ) : Type 0 where
+pub record LeftFrom4097 (p : ℕ) : Type 0 where
   pub reach : InReach p
   pub odd : ¬ (p % 2 ≡ 0)
   pub none-below : NoneBelow p 4097
