@@ -1,6 +1,6 @@
 -- `put_words` meets its contract: the words stand behind those that the tape keeps, or the row has no room for them.
 use mathlib.Core.Path.{refl, sym, ap, _∙_}
-use Prim.Native.Nat.{ℕ, _+_, _-_}
+use Prim.Native.Nat.{ℕ, _+_, _≤_}
 use native.Mathlib.Omega.{arith}
 use lib.ListN.{length}
 use borrow.Author.Needs.{needs}
@@ -28,7 +28,7 @@ returns-2 c =
     let s = c .before .before .before .before .before .before .before .before .before .before .before .before .before in
     let values = s .args .values .now in
     let same = held-length largest32 values in
-    let room = omega (arith, same, c .before .before .before .before .before .before .before .before .before .if1 .left, s .pre .2, s .pre .0 .end) in
+    let room : s .args .at + length (heldTo largest32 values) ≤ length (s .args .tapes .now) = omega (arith, same, c .before .before .before .before .before .before .before .before .before .if1 .left, s .pre .2, s .pre .0 .end) in
     did-words (s .pre .0) (s .pre .1) room (put-fits (c .before .before .before .before .before .before .before .words .ensures) room)
     (c .before .before .before .before .ending .ensures ∙ ap (λ (n : ℕ). ended (s .args .marks) (s .args .at + n)) (sym same)) (c .before .before .count-words .ensures)
 
