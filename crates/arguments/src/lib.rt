@@ -1,9 +1,10 @@
-// A command line is read: its verb and its parameters.
+// A command line is read: its verb and its parameters, and what they make of standard input and output.
 ghost use mathlib.Core.Path.{_≡_};
 ghost use Prim.Native.Nat.{_+_, _<_};
 ghost use lib.ListN.{getD};
 ghost use Rattle.text.specs.Reading.{splitWords};
 ghost use Rattle.tool.specs.Verbs.{indexIn, noRow, rowNamed, variantIn, parameterIn};
+ghost use Rattle.tool.specs.Replies.{verbIn, readsTape, readsScript, writesTape};
 ghost use Rattle.tool.specs.Inner.Kinds.{plainCount, tapeCount, numberCount, scriptCount, kindRows};
 ghost use Rattle.tool.specs.Inner.Understood.{Understood, Bare, Countable, Gathered};
 use named::VARIANT_NAMES;
@@ -26,8 +27,12 @@ use tool::SCRIPT_ROWS;
 use tool::SCRIPT_TABLE;
 use tool::TAPE_ROWS;
 use tool::TAPE_TABLE;
+use tool::Verb;
+use verbs::gives_tape;
 use verbs::is_hidden;
 use verbs::is_variant;
+use verbs::takes_lines;
+use verbs::takes_tape;
 
 // What the words ask for, in a script or outside, with its parameters.
 pub fn understand(arguments: &[u8], in_script: bool) -> CommandLine
@@ -50,6 +55,42 @@ pub fn understand(arguments: &[u8], in_script: bool) -> CommandLine
         return without_parameters(Call::WrongCount { row, given });
     }
     parameters(arguments, row, given)
+}
+
+// Whether the tool reads a tape from standard input for a command line.
+pub fn reads_tape(arguments: &[u8]) -> bool
+    ensures { λ r. ⌜ r ≡ readsTape (splitWords (now (arguments .entry))) ⌝ }
+{
+    takes_tape(verb_in(arguments))
+}
+
+// Whether it reads a script.
+pub fn reads_script(arguments: &[u8]) -> bool
+    ensures { λ r. ⌜ r ≡ readsScript (splitWords (now (arguments .entry))) ⌝ }
+{
+    takes_lines(verb_in(arguments))
+}
+
+// Whether its reply, where it is answered, is the bytes of a tape.
+pub fn writes_tape(arguments: &[u8]) -> bool
+    ensures { λ r. ⌜ r ≡ writesTape (splitWords (now (arguments .entry))) ⌝ }
+{
+    gives_tape(verb_in(arguments))
+}
+
+// The verb of a command line that is understood.
+fn verb_in(arguments: &[u8]) -> Verb
+    ensures { λ verb. ⌜ verb ≡ verbIn (splitWords (now (arguments .entry))) ⌝ }
+{
+    let line = understand(arguments, false);
+    let call = line.call;
+    match call {
+        Call::Known { row, count } => row.verb,
+        Call::NoWord => Verb::Unknown,
+        Call::NoVerb => Verb::Unknown,
+        Call::WrongCount { row, given } => Verb::Unknown,
+        Call::Unread { row, index } => Verb::Unknown,
+    }
 }
 
 fn without_parameters(call: Call) -> CommandLine

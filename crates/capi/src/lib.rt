@@ -196,7 +196,7 @@ pub extern "C" fn fibexp_reply(
 pub extern "C" fn fibexp_reads(arguments: &[u8]) -> u32
     ensures { λ r. ⌜ r ≡ bit (readsTape (splitWords (now (arguments .entry)))) ⌝ }
 {
-    bit(command::reads_tape(arguments))
+    bit(arguments::reads_tape(arguments))
 }
 
 // Stores an answer that fits 32 bits.

@@ -4,7 +4,7 @@ ghost use lib.ListN.{take};
 ghost use Rattle.text.specs.Reading.{splitWords};
 ghost use Rattle.tool.specs.Verbs.{largest32, maxParameters, limitOf};
 ghost use Rattle.tool.specs.Calls.{askedBy};
-ghost use Rattle.tool.specs.Replies.{tapeReply, means, ownIn, replyTo, reply, answers, verbIn, readsTape, readsScript, writesTape};
+ghost use Rattle.tool.specs.Replies.{tapeReply, means, ownIn, replyTo, reply, answers};
 ghost use Rattle.tool.specs.Texts.{usage, versionLine};
 ghost use Rattle.tool.specs.Rows.{Told};
 ghost use Rattle.tool.specs.Inner.Held.{Usable, heldTo};
@@ -30,8 +30,6 @@ use tool::Reply;
 use tool::Row;
 use tool::TapeVerb;
 use tool::Verb;
-use verbs::gives_tape;
-use verbs::takes_lines;
 use verbs::takes_tape;
 use widths::words;
 
@@ -72,42 +70,6 @@ pub fn reply_on(
             complaint(put_unread(text, nth_word(arguments, index), row, index - 1))
         }
         Call::Known { row, count } => perform(row, whole, &values[..count], tape, tapes, text),
-    }
-}
-
-// Whether the tool reads a tape from standard input for a command line.
-pub fn reads_tape(arguments: &[u8]) -> bool
-    ensures { λ r. ⌜ r ≡ readsTape (splitWords (now (arguments .entry))) ⌝ }
-{
-    takes_tape(verb_in(arguments))
-}
-
-// Whether it reads a script.
-pub fn reads_script(arguments: &[u8]) -> bool
-    ensures { λ r. ⌜ r ≡ readsScript (splitWords (now (arguments .entry))) ⌝ }
-{
-    takes_lines(verb_in(arguments))
-}
-
-// Whether its reply, where it is answered, is the bytes of a tape.
-pub fn writes_tape(arguments: &[u8]) -> bool
-    ensures { λ r. ⌜ r ≡ writesTape (splitWords (now (arguments .entry))) ⌝ }
-{
-    gives_tape(verb_in(arguments))
-}
-
-// The verb of a command line that is understood.
-fn verb_in(arguments: &[u8]) -> Verb
-    ensures { λ verb. ⌜ verb ≡ verbIn (splitWords (now (arguments .entry))) ⌝ }
-{
-    let line = understand(arguments, false);
-    let call = line.call;
-    match call {
-        Call::Known { row, count } => row.verb,
-        Call::NoWord => Verb::Unknown,
-        Call::NoVerb => Verb::Unknown,
-        Call::WrongCount { row, given } => Verb::Unknown,
-        Call::Unread { row, index } => Verb::Unknown,
     }
 }
 

@@ -1,8 +1,8 @@
 -- `writes_tape` meets its contract: it asks the verb of the command line.
 use Rattle.tool.specs.Replies.{writesTape}
 use borrow.Author.Needs.{needs}
-use Rattle.command.proofs.writes_tape.Statement.{statement}
-use Rattle.command.proofs.writes_tape.Tie as tie
+use Rattle.arguments.proofs.writes_tape.Statement.{statement}
+use Rattle.arguments.proofs.writes_tape.Tie as tie
 
 returns : tie.Need-returns
 unfolding writesTape

@@ -1,8 +1,8 @@
 -- `reads_tape` meets its contract: it asks the verb of the command line.
 use Rattle.tool.specs.Replies.{readsTape}
 use borrow.Author.Needs.{needs}
-use Rattle.command.proofs.reads_tape.Statement.{statement}
-use Rattle.command.proofs.reads_tape.Tie as tie
+use Rattle.arguments.proofs.reads_tape.Statement.{statement}
+use Rattle.arguments.proofs.reads_tape.Tie as tie
 
 returns : tie.Need-returns
 unfolding readsTape

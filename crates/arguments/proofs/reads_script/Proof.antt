@@ -1,8 +1,8 @@
 -- `reads_script` meets its contract: it asks the verb of the command line.
 use Rattle.tool.specs.Replies.{readsScript}
 use borrow.Author.Needs.{needs}
-use Rattle.command.proofs.reads_script.Statement.{statement}
-use Rattle.command.proofs.reads_script.Tie as tie
+use Rattle.arguments.proofs.reads_script.Statement.{statement}
+use Rattle.arguments.proofs.reads_script.Tie as tie
 
 returns : tie.Need-returns
 unfolding readsScript

@@ -2,8 +2,8 @@
 use mathlib.Core.Path.{ap}
 use Rattle.tool.specs.Replies.{verbOf}
 use borrow.Author.Needs.{needs}
-use Rattle.command.proofs.verb_in.Statement.{statement}
-use Rattle.command.proofs.verb_in.Tie as tie
+use Rattle.arguments.proofs.verb_in.Statement.{statement}
+use Rattle.arguments.proofs.verb_in.Tie as tie
 
 returns : tie.Need-returns
 returns c = ap verbOf (rw (c .before .call .given .1) at (c .before .before .before .understand .ensures .asked))
