@@ -84,13 +84,10 @@ fn verb_in(arguments: &[u8]) -> Verb
 {
     let line = understand(arguments, false);
     let call = line.call;
-    match call {
-        Call::Known { row, count } => row.verb,
-        Call::NoWord => Verb::Unknown,
-        Call::NoVerb => Verb::Unknown,
-        Call::WrongCount { row, given } => Verb::Unknown,
-        Call::Unread { row, index } => Verb::Unknown,
+    if let Call::Known { row, count: _ } = call {
+        return row.verb;
     }
+    Verb::Unknown
 }
 
 fn without_parameters(call: Call) -> CommandLine
