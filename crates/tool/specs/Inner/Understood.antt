@@ -24,14 +24,14 @@ askedFor (Known row count) words values = known row (take count values)
 abbrev pub longestName : ℕ
 longestName = 10
 
--- what a complaint tells of: a name as short as those of the table, counts that there is room for
+-- what is told of a wrong count is short: a name of the table, and counts
 pub record Miscounted (word : List ℕ) (row : Row) (given : ℕ) : Type 0 where
   pub name : length word ≤ longestName
   pub least : row .least ≤ maxParameters
   pub most : row .most ≤ maxParameters
   pub count : given ≤ largest64
 
--- a word behind the verb, and a limit of 64 bits
+-- a word that isn't read stands behind the verb, and its limit has 64 bits
 pub record Misread (row : Row) (index : ℕ) : Type 0 where
   pub behind : 1 ≤ index
   pub largest : row .largest ≤ largest64
@@ -41,6 +41,7 @@ pub record Ranged (row : Row) (count : ℕ) (values : List ℕ) : Type 0 where
   pub few : count ≤ maxParameters
   pub within : AllAtMost (limitOf (row .verb)) (take count values)
 
+-- what holds of a call beside what it asks for
 abbrev pub InRange : Call → List (List ℕ) → List ℕ → Type 0
 InRange NoWord words values = 0 ≤ 0
 InRange NoVerb words values = 0 ≤ 0
