@@ -9,7 +9,7 @@ use Rattle.tool.specs.declared.Call.{Call}
 use Rattle.tool.specs.declared.Call.the-variants.{NoWord, NoVerb, WrongCount, Unread, Known}
 use Rattle.tool.specs.declared.Verb.the-variants.{Unknown}
 use Rattle.tool.specs.Replies.{verbOf}
-use Rattle.tool.specs.Rows.{askedFor}
+use Rattle.tool.specs.Inner.Understood.{askedFor}
 use borrow.Author.Needs.{needs}
 use Rattle.arguments.proofs.verb_in.Statement.{statement}
 use Rattle.arguments.proofs.verb_in.Tie as tie
