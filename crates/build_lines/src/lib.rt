@@ -13,6 +13,7 @@ ghost use Rattle.tool.specs.Replies.{printed};
 ghost use Rattle.tool.specs.Inner.Held.{heldTo};
 ghost use Rattle.scripting.specs.Script.{withTape, builtAs, buildInto, buildLine, buildIn, buildBy};
 ghost use Rattle.scripting.specs.States.{roomIn, stateIn, Inside, capacityOf, insideOf, countIn, Did};
+ghost use Rattle.scripting.specs.Inner.Leaving.{ShortRow, WrittenRow};
 use lines::number_line;
 use lines::numbers_line;
 use printing::refuse;
@@ -86,8 +87,7 @@ fn built(
     marks: Marks,
     text: &mut [u8],
 ) -> Printed
-    requires { ⌜ Inside marks (now tapes) ⌝ }
-    requires { ⌜ (length (now row) ≤ maxWords) × (countIn answer ≤ length (now row)) ⌝ }
+    requires { ⌜ WrittenRow maxWords marks (now tapes) (now row) answer ⌝ }
     ensures { λ r. ⌜ Did (builtAs (length (now (tapes .entry))) (stateIn marks (now (tapes .entry))) (numberOutcomeOf answer) (take (countIn answer) (now (row .entry))) (printed own (numberOutcomeOf answer) numberLine .text) (numbersLine (take (countIn answer) (now (row .entry))))) (now (text .entry)) r (now (tapes .exit)) (now (text .exit)) ⌝ }
 {
     match answer {
@@ -104,7 +104,7 @@ fn built(
 
 // Words that are the tape at hand from now on, printed.
 fn leave(words: &[u32], tapes: &mut [u32], marks: Marks, text: &mut [u8]) -> Printed
-    requires { ⌜ Inside marks (now tapes) × (length (now words) ≤ maxWords) ⌝ }
+    requires { ⌜ ShortRow maxWords marks (now tapes) (now words) ⌝ }
     ensures { λ r. ⌜ Did (withTape (length (now (tapes .entry))) (stateIn marks (now (tapes .entry))) (now (words .entry)) (numbersLine (now (words .entry)))) (now (text .entry)) r (now (tapes .exit)) (now (text .exit)) ⌝ }
 {
     let begin = marks.begin;
@@ -152,7 +152,7 @@ fn build_into(
     marks: Marks,
     text: &mut [u8],
 ) -> Printed
-    requires { ⌜ Inside marks (now tapes) × (length (now row) ≤ maxRoom) ⌝ }
+    requires { ⌜ ShortRow maxRoom marks (now tapes) (now row) ⌝ }
     ensures { λ r. ⌜ Did (buildInto (length (now (tapes .entry))) (now (row .entry)) own (heldTo largest32 (now (values .entry))) (stateIn marks (now (tapes .entry)))) (now (text .entry)) r (now (tapes .exit)) (now (text .exit)) ⌝ }
 {
     let p = small(values, 0);
@@ -171,8 +171,7 @@ fn show(
     marks: Marks,
     text: &mut [u8],
 ) -> Printed
-    requires { ⌜ Inside marks (now tapes) ⌝ }
-    requires { ⌜ (length (now row) ≤ maxRoom) × (countIn answer ≤ length (now row)) ⌝ }
+    requires { ⌜ WrittenRow maxRoom marks (now tapes) (now row) answer ⌝ }
     ensures { λ r. ⌜ Did (builtAs (length (now (tapes .entry))) (stateIn marks (now (tapes .entry))) (numberOutcomeOf answer) (take (countIn answer) (now (row .entry))) (printed own (numberOutcomeOf answer) numberLine .text ++ numbersLine (now (row .entry))) (printed own (numberOutcomeOf answer) numberLine .text ++ numbersLine (now (row .entry)))) (now (text .entry)) r (now (tapes .exit)) (now (text .exit)) ⌝ }
 {
     match answer {

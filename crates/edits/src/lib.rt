@@ -9,6 +9,7 @@ ghost use Rattle.tool.specs.Verbs.{maxRoom, largest32, limitIn};
 ghost use Rattle.tool.specs.Inner.Held.{heldTo};
 ghost use Rattle.scripting.specs.Script.{edited, inScript};
 ghost use Rattle.scripting.specs.States.{capacityOf, stateIn, Inside, insideOf, Did};
+ghost use Rattle.scripting.specs.Inner.Leaving.{Placed};
 use lines::number_line;
 use putting::put_byte;
 use putting::put_then;
@@ -69,7 +70,7 @@ fn edit_inside(
 
 // The tape at hand keeps its words up to `at`, and has the given ones behind them.
 fn put_words(values: &[u64], tapes: &mut [u32], marks: Marks, at: usize, text: &mut [u8]) -> Printed
-    requires { ⌜ Inside marks (now tapes) × (marks .begin ≤ at) × (at ≤ marks .end) ⌝ }
+    requires { ⌜ Placed marks (now tapes) at ⌝ }
     ensures { λ r. ⌜ Did (edited (length (now (tapes .entry))) (stateIn marks (now (tapes .entry))) (drop (marks .begin) (take at (now (tapes .entry))) ++ heldTo largest32 (now (values .entry)))) (now (text .entry)) r (now (tapes .exit)) (now (text .exit)) ⌝ }
 {
     if tapes.len() - at < values.len() {

@@ -16,7 +16,7 @@ slice-aggregate-build-into : tie.Need-slice-aggregate-build-into
 slice-aggregate-build-into c = sym (length-take-le (c .before .before .before .before .args .marks .room) (filled maxRoom) (omega (arith, length-replicate {A = ℕ} maxRoom 255, c .before .before .before .before .pre .room)))
 
 build-into-requires : tie.Need-build-into-requires
-build-into-requires c κs = (c .before .before .before .before .before .before .pre, omega (arith, length-take (c .before .before .before .before .before .before .args .marks .room) (filled maxRoom), c .before .before .before .before .before .before .pre .room))
+build-into-requires c κs = record { inside = c .before .before .before .before .before .before .pre; short = omega (arith, length-take (c .before .before .before .before .before .before .args .marks .room) (filled maxRoom), c .before .before .before .before .before .before .pre .room) }
 
 returns : tie.Need-returns
 returns c = did-built-in _ (c .before .before .before .before .before .before .before .before .before .before .before .before .args .marks .room) (c .before .before .before .before .before .before .before .before .before .before .before .before .args .own) (heldTo largest32 (c .before .before .before .before .before .before .before .before .before .before .before .before .args .values .now)) _ _ (filled-part maxRoom (c .before .before .before .before .before .before .before .before .before .before .before .before .args .marks .room) (c .before .before .before .before .before .before .before .before .before .before .before .before .pre .room)) (c .before .before .before .before .before .build-into .ensures)

@@ -8,7 +8,12 @@ use Rattle.build_lines.proofs.build_into.Statement.{statement}
 use Rattle.build_lines.proofs.build_into.Tie as tie
 
 show-requires : tie.Need-show-requires
-show-requires c κs = (c .before .before .before .before .before .before .before .before .before .before .before .before .before .before .before .pre .0, (omega (arith, c .before .before .before .before .before .build .kept .1 .1 .1 .1 .0, c .before .before .before .before .before .before .before .before .before .before .before .before .before .before .before .pre .1), omega (arith, built-count _ _ _ _ (c .before .before .before .before .before .before .before .before .before .before .before .before .before .before .before .args .row .now) (c .before .before .before .before .before .build .result) (c .before .before .before .before .before .build .ensures .0), c .before .before .before .before .before .build .kept .1 .1 .1 .1 .0)))
+show-requires c κs =
+    record {
+      inside = c .before .before .before .before .before .before .before .before .before .before .before .before .before .before .before .pre .inside;
+      short = omega (arith, c .before .before .before .before .before .build .kept .1 .1 .1 .1 .0, c .before .before .before .before .before .before .before .before .before .before .before .before .before .before .before .pre .short);
+      counted = omega (arith, built-count _ _ _ _ (c .before .before .before .before .before .before .before .before .before .before .before .before .before .before .before .args .row .now) (c .before .before .before .before .before .build .result) (c .before .before .before .before .before .build .ensures .0), c .before .before .before .before .before .build .kept .1 .1 .1 .1 .0);
+    }
 
 returns : tie.Need-returns
 returns c = did-built-into _ _ _ _ (c .before .before .before .before .before .before .before .before .before .before .before .before .before .before .before .before .before .before .before .before .args .row .now) _ (c .before .before .before .before .before .before .before .before .before .before .before .before .before .before .before .before .before .before .before .before .args .own) (heldTo largest32 (c .before .before .before .before .before .before .before .before .before .before .before .before .before .before .before .before .before .before .before .before .args .values .now)) _ (c .before .before .before .before .before .before .before .before .before .before .build .result) (c .before .before .before .before .before .before .before .before .before .before .before .before .before .before .before .small .ensures) (c .before .before .before .before .before .before .before .before .before .before .before .before .before .before .small2 .ensures) (c .before .before .before .before .before .before .before .before .before .before .before .before .before .small3 .ensures) (c .before .before .before .before .before .before .before .before .before .before .before .before .small4 .ensures) (c .before .before .before .before .before .before .before .before .before .before .build .ensures .0) (rw (c .before .before .before .before .before .before .before .before .before .before .build .ensures .1) at (c .before .before .before .before .show .ensures))

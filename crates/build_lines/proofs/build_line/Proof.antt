@@ -11,7 +11,12 @@ use Rattle.build_lines.proofs.build_line.Statement.{statement}
 use Rattle.build_lines.proofs.build_line.Tie as tie
 
 built-requires : tie.Need-built-requires
-built-requires c κs = (c .before .before .before .before .before .before .before .before .before .before .before .before .before .pre, (omega (arith, c .before .before .before .before .build .kept .1 .1 .1 .1 .0), omega (arith, built-count _ _ _ _ (replicate {A = ℕ} maxWords 0) (c .before .before .before .before .build .result) (c .before .before .before .before .build .ensures .0), c .before .before .before .before .build .kept .1 .1 .1 .1 .0)))
+built-requires c κs =
+    record {
+      inside = c .before .before .before .before .before .before .before .before .before .before .before .before .before .pre;
+      short = omega (arith, c .before .before .before .before .build .kept .1 .1 .1 .1 .0);
+      counted = omega (arith, built-count _ _ _ _ (replicate {A = ℕ} maxWords 0) (c .before .before .before .before .build .result) (c .before .before .before .before .build .ensures .0), c .before .before .before .before .build .kept .1 .1 .1 .1 .0);
+    }
 
 returns : tie.Need-returns
 returns c = did-built-line _ _ _ _ (replicate {A = ℕ} maxWords 0) _ (c .before .before .before .before .before .before .before .before .before .before .before .before .before .before .before .before .before .before .args .own) (heldTo largest32 (c .before .before .before .before .before .before .before .before .before .before .before .before .before .before .before .before .before .before .args .values .now)) _ (c .before .before .before .before .before .before .before .before .before .build .result) (length-replicate {A = ℕ} maxWords 0) (c .before .before .before .before .before .before .before .before .before .before .before .before .before .before .small .ensures) (c .before .before .before .before .before .before .before .before .before .before .before .before .before .small2 .ensures) (c .before .before .before .before .before .before .before .before .before .before .before .before .small3 .ensures) (c .before .before .before .before .before .before .before .before .before .before .before .small4 .ensures) (c .before .before .before .before .before .before .before .before .before .build .ensures .0) (rw (c .before .before .before .before .before .before .before .before .before .build .ensures .1) at (c .before .before .before .before .built .ensures))

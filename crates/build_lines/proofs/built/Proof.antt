@@ -9,16 +9,16 @@ use Rattle.build_lines.proofs.built.Statement.{statement}
 use Rattle.build_lines.proofs.built.Tie as tie
 
 slice-aggregate-leave : tie.Need-slice-aggregate-leave
-slice-aggregate-leave c = sym (length-take-le (c .before .before .answer .given .0 .0) (c .before .before .before .before .before .before .before .args .row .now) (rw (c .before .before .answer .given .1) at (c .before .before .before .before .before .before .before .pre .1 .1)))
+slice-aggregate-leave c = sym (length-take-le (c .before .before .answer .given .0 .0) (c .before .before .before .before .before .before .before .args .row .now) (rw (c .before .before .answer .given .1) at (c .before .before .before .before .before .before .before .pre .counted)))
 
 leave-requires : tie.Need-leave-requires
-leave-requires c κs = (c .before .before .before .before .before .before .before .before .before .pre .0, omega (arith, length-take (c .before .before .before .before .answer .given .0 .0) (c .before .before .before .before .before .before .before .before .before .args .row .now), c .before .before .before .before .before .before .before .before .before .pre .1 .0))
+leave-requires c κs = record { inside = c .before .before .before .before .before .before .before .before .before .pre .inside; short = omega (arith, length-take (c .before .before .before .before .answer .given .0 .0) (c .before .before .before .before .before .before .before .before .before .args .row .now), c .before .before .before .before .before .before .before .before .before .pre .short) }
 
 returns : tie.Need-returns
 returns c = rw (c .before .before .before .before .before .before .before .before .before .answer .given .1) (c .before .before .before .before .leave .ensures)
 
 returns-2 : tie.Need-returns-2
-returns-2 c = rw (c .before .before .before .before .before .before .answer2 .given .1, ← c .before .before .before .number .ensures) (did-print _ (c .before .before .before .before .before .before .before .before .before .before .before .pre .0) refl (c .before .before .refuse .ensures .text) (omega (arith, c .before .before .refuse .ensures .short)))
+returns-2 c = rw (c .before .before .before .before .before .before .answer2 .given .1, ← c .before .before .before .number .ensures) (did-print _ (c .before .before .before .before .before .before .before .before .before .before .before .pre .inside) refl (c .before .before .refuse .ensures .text) (omega (arith, c .before .before .refuse .ensures .short)))
 
 pub built-spec : {M : Type 1} → statement M
 built-spec =

@@ -18,24 +18,24 @@ returns c =
     let count = c .before .before .before .before .before .before .answer .given .0 .0 in
     let is = c .before .before .before .before .before .before .answer .given .1 in
     rw is
-    (did-full (s .pre .0) (take count (s .args .row .now)) _ (omega (arith, c .before .before .before .before .if1 .taken, length-take-le count (s .args .row .now) (rw is at (s .pre .1 .1)))) refl (c .before .before .put-full .ensures))
+    (did-full (s .pre .inside) (take count (s .args .row .now)) _ (omega (arith, c .before .before .before .before .if1 .taken, length-take-le count (s .args .row .now) (rw is at (s .pre .counted)))) refl (c .before .before .put-full .ensures))
 
 slice-aggregate-copy : tie.Need-slice-aggregate-copy
-slice-aggregate-copy c = sym (length-take-le (c .before .before .before .answer .given .0 .0) (c .before .before .before .before .before .before .before .before .args .row .now) (rw (c .before .before .before .answer .given .1) at (c .before .before .before .before .before .before .before .before .pre .1 .1)))
+slice-aggregate-copy c = sym (length-take-le (c .before .before .before .answer .given .0 .0) (c .before .before .before .before .before .before .before .before .args .row .now) (rw (c .before .before .before .answer .given .1) at (c .before .before .before .before .before .before .before .before .pre .counted)))
 
 copy-requires : tie.Need-copy-requires
-copy-requires c κs = omega (arith, c .before .before .if1 .left, c .before .before .before .before .before .before .before .before .before .pre .0 .begin, c .before .before .before .before .before .before .before .before .before .pre .0 .end, length-take-le (c .before .before .before .before .answer .given .0 .0) (c .before .before .before .before .before .before .before .before .before .args .row .now) (rw (c .before .before .before .before .answer .given .1) at (c .before .before .before .before .before .before .before .before .before .pre .1 .1)))
+copy-requires c κs = omega (arith, c .before .before .if1 .left, c .before .before .before .before .before .before .before .before .before .pre .inside .begin, c .before .before .before .before .before .before .before .before .before .pre .inside .end, length-take-le (c .before .before .before .before .answer .given .0 .0) (c .before .before .before .before .before .before .before .before .before .args .row .now) (rw (c .before .before .before .before .answer .given .1) at (c .before .before .before .before .before .before .before .before .before .pre .counted)))
 
 returns-2 : tie.Need-returns-2
 returns-2 c = let row = c .before .before .before .before .before .before .before .before .before .before .before .before .before .before .before .before .before .before .before .before .before .args .row .now in
     rw (c .before .before .before .before .before .before .before .before .before .before .before .before .before .before .before .before .answer .given .1)
-    (did-left (c .before .before .before .before .before .before .before .before .before .before .before .before .before .before .before .before .before .before .before .before .before .pre .0) (take (c .before .before .before .before .before .before .before .before .before .before .before .before .before .before .before .before .answer .given .0 .0) row) _ (omega (arith, c .before .before .before .before .before .before .before .before .before .before .before .before .before .before .if1 .left, c .before .before .before .before .before .before .before .before .before .before .before .before .before .before .before .before .before .before .before .before .before .pre .0 .begin, c .before .before .before .before .before .before .before .before .before .before .before .before .before .before .before .before .before .before .before .before .before .pre .0 .end, length-take-le (c .before .before .before .before .before .before .before .before .before .before .before .before .before .before .before .before .answer .given .0 .0) row (rw (c .before .before .before .before .before .before .before .before .before .before .before .before .before .before .before .before .answer .given .1) at (c .before .before .before .before .before .before .before .before .before .before .before .before .before .before .before .before .before .before .before .before .before .pre .1 .1)))) (c .before .before .before .before .before .before .before .before .before .before .before .copy .ensures) (c .before .before .before .before .ending .ensures) (puts-join (c .before .before .before .before .before .before .before .number-line .ensures .0) (c .before .before .numbers-line .ensures .0))
-    (omega (arith, c .before .before .before .before .before .before .before .number-line .ensures .1, c .before .before .numbers-line .ensures .1, c .before .before .before .before .before .before .before .before .before .before .before .before .before .before .before .before .before .before .before .before .before .pre .1 .0, length-append (numberLine (c .before .before .before .before .before .before .before .before .before .before .before .before .before .before .before .before .answer .given .0 .0)) (numbersLine row))))
+    (did-left (c .before .before .before .before .before .before .before .before .before .before .before .before .before .before .before .before .before .before .before .before .before .pre .inside) (take (c .before .before .before .before .before .before .before .before .before .before .before .before .before .before .before .before .answer .given .0 .0) row) _ (omega (arith, c .before .before .before .before .before .before .before .before .before .before .before .before .before .before .if1 .left, c .before .before .before .before .before .before .before .before .before .before .before .before .before .before .before .before .before .before .before .before .before .pre .inside .begin, c .before .before .before .before .before .before .before .before .before .before .before .before .before .before .before .before .before .before .before .before .before .pre .inside .end, length-take-le (c .before .before .before .before .before .before .before .before .before .before .before .before .before .before .before .before .answer .given .0 .0) row (rw (c .before .before .before .before .before .before .before .before .before .before .before .before .before .before .before .before .answer .given .1) at (c .before .before .before .before .before .before .before .before .before .before .before .before .before .before .before .before .before .before .before .before .before .pre .counted)))) (c .before .before .before .before .before .before .before .before .before .before .before .copy .ensures) (c .before .before .before .before .ending .ensures) (puts-join (c .before .before .before .before .before .before .before .number-line .ensures .0) (c .before .before .numbers-line .ensures .0))
+    (omega (arith, c .before .before .before .before .before .before .before .number-line .ensures .1, c .before .before .numbers-line .ensures .1, c .before .before .before .before .before .before .before .before .before .before .before .before .before .before .before .before .before .before .before .before .before .pre .short, length-append (numberLine (c .before .before .before .before .before .before .before .before .before .before .before .before .before .before .before .before .answer .given .0 .0)) (numbersLine row))))
 
 returns-3 : tie.Need-returns-3
 returns-3 c = rw (c .before .before .before .before .before .before .before .before .before .before .answer2 .given .1, ← c .before .before .before .before .before .before .before .number .ensures)
-    (did-print _ (c .before .before .before .before .before .before .before .before .before .before .before .before .before .before .before .pre .0) refl (puts-join (c .before .before .before .before .before .before .refuse .ensures .text) (c .before .before .numbers-line2 .ensures .0))
-    (omega (arith, c .before .before .before .before .before .before .refuse .ensures .short, c .before .before .numbers-line2 .ensures .1, c .before .before .before .before .before .before .before .before .before .before .before .before .before .before .before .pre .1 .0, length-append (refusalLine (c .before .before .before .before .before .before .before .before .before .before .before .before .before .before .before .args .own) (c .before .before .before .before .before .before .before .number .result)) (numbersLine (c .before .before .before .before .before .before .before .before .before .before .before .before .before .before .before .args .row .now)))))
+    (did-print _ (c .before .before .before .before .before .before .before .before .before .before .before .before .before .before .before .pre .inside) refl (puts-join (c .before .before .before .before .before .before .refuse .ensures .text) (c .before .before .numbers-line2 .ensures .0))
+    (omega (arith, c .before .before .before .before .before .before .refuse .ensures .short, c .before .before .numbers-line2 .ensures .1, c .before .before .before .before .before .before .before .before .before .before .before .before .before .before .before .pre .short, length-append (refusalLine (c .before .before .before .before .before .before .before .before .before .before .before .before .before .before .before .args .own) (c .before .before .before .before .before .before .before .number .result)) (numbersLine (c .before .before .before .before .before .before .before .before .before .before .before .before .before .before .before .args .row .now)))))
 
 pub show-spec : {M : Type 1} → statement M
 show-spec =

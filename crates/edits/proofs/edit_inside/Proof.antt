@@ -9,10 +9,10 @@ use Rattle.edits.proofs.edit_inside.Statement.{statement}
 use Rattle.edits.proofs.edit_inside.Tie as tie
 
 put-words-requires : tie.Need-put-words-requires
-put-words-requires c κs = (c .before .before .before .before .before .before .before .pre, omega arith, c .before .before .before .before .before .before .before .pre .begin)
+put-words-requires c κs = record { inside = c .before .before .before .before .before .before .before .pre; behind = omega arith; within = c .before .before .before .before .before .before .before .pre .begin }
 
 put-words-requires-2 : tie.Need-put-words-requires-2
-put-words-requires-2 c κs = (c .before .before .before .before .before .before .before .pre, c .before .before .before .before .before .before .before .pre .begin, omega arith)
+put-words-requires-2 c κs = record { inside = c .before .before .before .before .before .before .before .pre; behind = c .before .before .before .before .before .before .before .pre .begin; within = omega arith }
 
 returns : tie.Need-returns
 returns c = rw (c .before .before .before .before .before .before .before .enum-told .given .1) (did-set (c .before .before .before .before .before .before .before .before .before .before .before .before .pre) (heldTo largest32 (c .before .before .before .before .before .before .before .before .before .before .before .before .args .values .now)) (c .before .before .before .before .put-words .ensures))

@@ -18,18 +18,18 @@ returns : tie.Need-returns
 returns c =
     let s = c .before .before .before .before .before .before .before .before in
     let values = s .args .values .now in
-    did-no-words (s .pre .0) (heldTo largest32 values) (s .pre .1) (s .pre .2) (omega (arith, held-length largest32 values, c .before .before .before .before .if1 .taken)) refl (c .before .before .put-full .ensures)
+    did-no-words (s .pre .inside) (heldTo largest32 values) (s .pre .behind) (s .pre .within) (omega (arith, held-length largest32 values, c .before .before .before .before .if1 .taken)) refl (c .before .before .put-full .ensures)
 
 count-words-requires : tie.Need-count-words-requires
-count-words-requires c κs = omega (arith, c .before .before .before .before .before .before .before .before .before .before .pre .1, ap (λ (m : Marks). m .begin) (c .before .ending .ensures), ap (λ (m : Marks). m .end) (c .before .ending .ensures))
+count-words-requires c κs = omega (arith, c .before .before .before .before .before .before .before .before .before .before .pre .behind, ap (λ (m : Marks). m .begin) (c .before .ending .ensures), ap (λ (m : Marks). m .end) (c .before .ending .ensures))
 
 returns-2 : tie.Need-returns-2
 returns-2 c =
     let s = c .before .before .before .before .before .before .before .before .before .before .before .before .before in
     let values = s .args .values .now in
     let same = held-length largest32 values in
-    let room : s .args .at + length (heldTo largest32 values) ≤ length (s .args .tapes .now) = omega (arith, same, c .before .before .before .before .before .before .before .before .before .if1 .left, s .pre .2, s .pre .0 .end) in
-    did-words (s .pre .0) (s .pre .1) room (put-fits (c .before .before .before .before .before .before .before .words .ensures) room)
+    let room : s .args .at + length (heldTo largest32 values) ≤ length (s .args .tapes .now) = omega (arith, same, c .before .before .before .before .before .before .before .before .before .if1 .left, s .pre .within, s .pre .inside .end) in
+    did-words (s .pre .inside) (s .pre .behind) room (put-fits (c .before .before .before .before .before .before .before .words .ensures) room)
     (c .before .before .before .before .ending .ensures ∙ ap (λ (n : ℕ). ended (s .args .marks) (s .args .at + n)) (sym same)) (c .before .before .count-words .ensures)
 
 pub put-words-spec : {M : Type 1} → statement M
