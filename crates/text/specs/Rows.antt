@@ -1,4 +1,4 @@
--- Putting bytes into a lent buffer, one text after another. Whatever the row's length, what doesn't fit is dropped.
+-- Putting bytes or words into a lent buffer, one text after another. Whatever the row's length, what doesn't fit is dropped.
 use mathlib.Core.List.{List}
 use Prim.Native.Nat.{ℕ, _-_}
 use lib.ListN.{length, take}

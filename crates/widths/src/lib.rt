@@ -28,7 +28,7 @@ pub fn small(values: &[u64], place: usize) -> u32
     held_word(values[place])
 }
 
-// All of them at 32 bits into a row from a place on, as many as it has room for.
+// The parameters at 32 bits, put into a row from a place on, as many as there is room for. It answers the index past them.
 pub fn words(values: &[u64], row: &mut [u32], at: usize) -> usize
     ensures { λ next. ⌜ Put (now (row .entry)) at (heldTo largest32 (now (values .entry))) next (now (row .exit)) ⌝ }
 {
@@ -45,7 +45,7 @@ pub fn words(values: &[u64], row: &mut [u32], at: usize) -> usize
     next
 }
 
-// All of them as bytes.
+// The same as bytes.
 pub fn bytes(values: &[u64], row: &mut [u8], at: usize) -> usize
     ensures { λ next. ⌜ Put (now (row .entry)) at (heldTo largest8 (now (values .entry))) next (now (row .exit)) ⌝ }
 {

@@ -1,12 +1,11 @@
 -- `perform_on_tape` meets its contract: the row has the parameters at 32 bits, and no more than a verb can have.
-use mathlib.Core.Path.{_≡_}
+use mathlib.Core.Path.{_≡_, sym}
 use mathlib.Core.List.{List}
 use Prim.Native.Nat.{ℕ, _≤_}
 use native.Mathlib.Omega.{arith}
 use lib.ListN.{length, take, length-take}
-use lib.Seq.{take-all}
-use Rattle.refusal.proofs.Laws.Rows.{wrote-taken}
-use Rattle.text.proofs.Laws.Puts.{put-inside}
+use lib.Seq.{take-all, length-take-le}
+use Rattle.text.proofs.Laws.Puts.{put-front, put-inside}
 use Rattle.tool.specs.Verbs.{largest32, maxParameters}
 use Rattle.tool.specs.Inner.Held.{heldTo}
 use borrow.Author.Needs.{needs}
@@ -22,13 +21,16 @@ module _ (c : tie.After-words) where
 
   -- the row's numbers are the parameters
   taken : take (c .words .result) (c .words .last .1 .0) ≡ take maxParameters values
-  taken = wrote-taken (c .words .ensures .fitting) few
+  taken = put-front (c .words .ensures)
+
+  inside : c .words .result ≤ length (c .words .last .1 .0)
+  inside = put-inside (c .words .ensures) (omega arith)
 
 array-share-prefix-row : tie.Need-array-share-prefix-row
-array-share-prefix-row c = put-inside (c .before .words .ensures) (omega arith)
+array-share-prefix-row c = inside (c .before)
 
 slice-aggregate-on-tape : tie.Need-slice-aggregate-on-tape
-slice-aggregate-on-tape c = rw (taken (c .before .before)) (omega (arith, c .before .before .words .ensures .fitting .next-is))
+slice-aggregate-on-tape c = sym (length-take-le _ (c .before .before .words .last .1 .0) (inside (c .before .before)))
 
 returns : tie.Need-returns
 returns c =

@@ -1,11 +1,11 @@
--- `number_of` meets its contract: the bytes are the parameters.
-use mathlib.Core.Path.{_≡_}
+-- `number_of` meets its contract: the row has the first parameters, held to 8 bits.
+use mathlib.Core.Path.{_≡_, sym}
 use mathlib.Core.List.{List}
 use Prim.Native.Nat.{ℕ, _≤_}
 use native.Mathlib.Omega.{arith}
-use lib.ListN.{length, take, length-take}
-use Rattle.refusal.proofs.Laws.Rows.{wrote-taken}
-use Rattle.text.proofs.Laws.Puts.{put-inside}
+use lib.ListN.{length, take}
+use lib.Seq.{length-take-le}
+use Rattle.text.proofs.Laws.Puts.{put-front, put-inside}
 use Rattle.tool.specs.Verbs.{largest8, maxParameters}
 use Rattle.tool.specs.Replies.{numberReply}
 use Rattle.tool.specs.Inner.Held.{heldTo}
@@ -17,18 +17,18 @@ module _ (c : tie.After-bytes) where
   abbrev values : List ℕ
   values = heldTo largest8 (c .before .before .before .before .args .values .now)
 
-  few : length (take maxParameters values) ≤ maxParameters
-  few = omega (arith, length-take maxParameters values)
-
   -- the row's bytes are the parameters
   taken : take (c .bytes .result) (c .bytes .last .1 .0) ≡ take maxParameters values
-  taken = wrote-taken (c .bytes .ensures .fitting) few
+  taken = put-front (c .bytes .ensures)
+
+  inside : c .bytes .result ≤ length (c .bytes .last .1 .0)
+  inside = put-inside (c .bytes .ensures) (omega arith)
 
 array-share-prefix-row : tie.Need-array-share-prefix-row
-array-share-prefix-row c = put-inside (c .before .before .bytes .ensures) (omega arith)
+array-share-prefix-row c = inside (c .before .before)
 
 slice-aggregate-number-of-places : tie.Need-slice-aggregate-number-of-places
-slice-aggregate-number-of-places c = rw (taken (c .before .before .before)) (omega (arith, c .before .before .before .bytes .ensures .fitting .next-is))
+slice-aggregate-number-of-places c = sym (length-take-le _ (c .before .before .before .bytes .last .1 .0) (inside (c .before .before .before)))
 
 returns : tie.Need-returns
 unfolding numberReply

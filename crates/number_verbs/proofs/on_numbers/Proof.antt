@@ -1,4 +1,4 @@
--- `on_numbers` meets its contract: each arm prints what its verb means, on its parameters at its width, which are among the first.
+-- `on_numbers` meets its contract: each arm prints what its verb means, on its parameters at its width, which are among the first `maxParameters`.
 use mathlib.Core.Path.{_≡_}
 use mathlib.Core.List.{List}
 use Prim.Native.Nat.{ℕ}

@@ -73,9 +73,13 @@ module _ {before : List ℕ} {at : ℕ} {text : List ℕ} {next : ℕ} {now : Li
 pub put-fits : {a b : List ℕ} {at n : ℕ} {text : List ℕ} → Put a at text n b → at + length text ≤ length a → Wrote a at text n b
 put-fits {a} {at = at} {text = text} v h = rw (take-all (length a - at) text (omega arith)) at (v .fitting)
 
--- from the start on, the row then begins with it
+-- put from the start on, the row begins with what fits, and so with a text that fits
+pub put-front : {a b : List ℕ} {n : ℕ} {text : List ℕ} → Put a 0 text n b → take n b ≡ take (length a) text
+put-front {a} {text = text} v =
+    wrote-taken (v .fitting) (omega (arith, length-take (length a - 0) text)) ∙ ap (λ (k : ℕ). take k text) (sub-zero (length a))
+
 pub put-taken : {a b : List ℕ} {n : ℕ} {text : List ℕ} → Put a 0 text n b → length text ≤ length a → take n b ≡ text
-put-taken v h = wrote-taken (put-fits v (omega arith)) h
+put-taken {a} {text = text} v h = put-front v ∙ take-all (length a) text h
 
 -- and `next` is never past the row, where `at` isn't
 pub put-inside : {a b : List ℕ} {at n : ℕ} {text : List ℕ} → Put a at text n b → at ≤ length a → n ≤ length b

@@ -1,4 +1,4 @@
--- `bytes` meets its contract: with i parameters put, the first i are put; a full row takes no more of them.
+-- `bytes` meets its contract: after i turns the first i parameters are put; a full row takes no more.
 use Prim.Native.Nat.{_-_, _≤_}
 use native.Mathlib.Omega.{arith}
 use lib.ListN.{length, take}
