@@ -1,4 +1,4 @@
-// A command line is read: its verb and its parameters, and what they make of standard input and output.
+// A command line is read: its verb and its parameters; whether it reads a tape or a script, and whether it answers a tape.
 ghost use mathlib.Core.Path.{_≡_};
 ghost use Prim.Native.Nat.{_+_, _<_};
 ghost use lib.ListN.{getD};
@@ -78,7 +78,7 @@ pub fn writes_tape(arguments: &[u8]) -> bool
     gives_tape(verb_in(arguments))
 }
 
-// The verb of a command line that is understood.
+// The verb of a command line that is understood; else `Unknown`.
 fn verb_in(arguments: &[u8]) -> Verb
     ensures { λ verb. ⌜ verb ≡ verbIn (splitWords (now (arguments .entry))) ⌝ }
 {
@@ -153,46 +153,46 @@ fn row_named(name: &[u8]) -> Row
 {
     let index = find(name, &NAMES);
     if index < PLAIN_ROWS {
-        return plain_row(index);
+        return plain_verb_row(index);
     }
-    let on_tape = index - PLAIN_ROWS;
-    if on_tape < TAPE_ROWS {
-        return tape_row(on_tape);
+    let tape_place = index - PLAIN_ROWS;
+    if tape_place < TAPE_ROWS {
+        return tape_verb_row(tape_place);
     }
-    let on_numbers = on_tape - TAPE_ROWS;
-    if on_numbers < NUMBER_ROWS {
-        return number_row(on_numbers);
+    let number_place = tape_place - TAPE_ROWS;
+    if number_place < NUMBER_ROWS {
+        return number_verb_row(number_place);
     }
-    let in_script = on_numbers - NUMBER_ROWS;
-    if in_script < SCRIPT_ROWS {
-        return script_row(in_script);
+    let script_place = number_place - NUMBER_ROWS;
+    if script_place < SCRIPT_ROWS {
+        return script_verb_row(script_place);
     }
     NO_ROW
 }
 
-// A row by its place among those of its kind: a function for each, because a body that builds the whole table takes the prover ten seconds.
-fn plain_row(place: usize) -> Row
+// A row by its place among those of its kind: a function for each, because a body that builds the whole table takes the prover twelve seconds.
+fn plain_verb_row(place: usize) -> Row
     requires { ⌜ place < plainCount ⌝ }
     ensures { λ r. ⌜ r ≡ getD (kindRows 0 plainCount) place noRow ⌝ }
 {
     PLAIN_TABLE[place]
 }
 
-fn tape_row(place: usize) -> Row
+fn tape_verb_row(place: usize) -> Row
     requires { ⌜ place < tapeCount ⌝ }
     ensures { λ r. ⌜ r ≡ getD (kindRows plainCount tapeCount) place noRow ⌝ }
 {
     TAPE_TABLE[place]
 }
 
-fn number_row(place: usize) -> Row
+fn number_verb_row(place: usize) -> Row
     requires { ⌜ place < numberCount ⌝ }
     ensures { λ r. ⌜ r ≡ getD (kindRows (plainCount + tapeCount) numberCount) place noRow ⌝ }
 {
     NUMBER_TABLE[place]
 }
 
-fn script_row(place: usize) -> Row
+fn script_verb_row(place: usize) -> Row
     requires { ⌜ place < scriptCount ⌝ }
     ensures { λ r. ⌜ r ≡ getD (kindRows (plainCount + tapeCount + numberCount) scriptCount) place noRow ⌝ }
 {

@@ -4,7 +4,7 @@ mod table;
 ghost use mathlib.Core.Path.{_≡_};
 ghost use Prim.Native.Nat.{_<_};
 ghost use Rattle.divisors.specs.Small.{hasSmallDivisor};
-ghost use Rattle.divisors.specs.Inner.Inverted.{LeftFromFive, sumLimit, carryOf, HalfWordInverse, Table, LeftFrom4097, ZeroWhereDivided, DividedByOne};
+ghost use Rattle.divisors.specs.Inner.Inverted.{LeftFrom5, sumLimit, carryOf, HalfWordInverse, Table, LeftFrom4097, ZeroWhereDivided, DividedByOne};
 use table::INVERSES_FROM_4097;
 use table::INVERSES_TO_4096;
 use table::PRIMES_FROM_4097;
@@ -94,7 +94,7 @@ fn carry(n: u16, d: u16, inverse: u16) -> u16
 
 // The same by division, where neither 2 nor 3 divides p.
 fn has_divisor_from_5(p: u32) -> bool
-    requires { ⌜ LeftFromFive p ⌝ }
+    requires { ⌜ LeftFrom5 p ⌝ }
     ensures { λ r. ⌜ r ≡ hasSmallDivisor p ⌝ }
 {
     let mut d: u32 = 5;

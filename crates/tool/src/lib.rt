@@ -112,7 +112,7 @@ pub const NO_ROW: Row = Row {
     own: 0,
 };
 
-// A row for each name, in the names' order: a table for each kind of verb, first that of the plain ones.
+// A row for each name, in the names' order, in a table for each kind of verb. First the plain ones: build, script, help and version.
 pub const PLAIN_ROWS: usize = 7;
 
 pub const PLAIN_TABLE: [Row; PLAIN_ROWS] = [

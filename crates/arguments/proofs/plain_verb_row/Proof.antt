@@ -1,12 +1,12 @@
--- `plain_row` meets its contract: the code's table is the definition's part.
+-- `plain_verb_row` meets its contract: the code's table is the definition's part.
 use Rattle.tool.specs.Verbs.{entries, rows}
 use borrow.Author.Needs.{needs}
-use Rattle.arguments.proofs.plain_row.Statement.{statement}
-use Rattle.arguments.proofs.plain_row.Tie as tie
+use Rattle.arguments.proofs.plain_verb_row.Statement.{statement}
+use Rattle.arguments.proofs.plain_verb_row.Tie as tie
 
 returns : tie.Need-returns
 unfolding rows entries
 returns c = search needs
 
-pub plain-row-spec : {M : Type 1} → statement M
-plain-row-spec = tie.close (tie.spec (λ c. search needs) (λ c. search needs) returns)
+pub plain-verb-row-spec : {M : Type 1} → statement M
+plain-verb-row-spec = tie.close (tie.spec (λ c. search needs) (λ c. search needs) returns)

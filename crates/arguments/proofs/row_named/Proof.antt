@@ -26,22 +26,22 @@ module _ (c : tie.After-find) where
   past h = rw (← index) h
 
 returns : tie.Need-returns
-returns c = c .plain-row .ensures ∙ named (c .before .before) 0 plainCount (c .before .if1 .taken) (omega arith)
+returns c = c .plain-verb-row .ensures ∙ named (c .before .before) 0 plainCount (c .before .if1 .taken) (omega arith)
 
 returns-2 : tie.Need-returns-2
 returns-2 c =
     let e = c .before .before in
-    c .tape-row .ensures ∙ named (e .before) plainCount tapeCount (c .before .if2 .taken) (omega (arith, e .if1 .left))
+    c .tape-verb-row .ensures ∙ named (e .before) plainCount tapeCount (c .before .if2 .taken) (omega (arith, e .if1 .left))
 
 returns-3 : tie.Need-returns-3
 returns-3 c =
     let e = c .before .before in
-    c .number-row .ensures ∙ named (e .before .before) (plainCount + tapeCount) numberCount (c .before .if3 .taken) (omega (arith, e .if2 .left, e .before .if1 .left))
+    c .number-verb-row .ensures ∙ named (e .before .before) (plainCount + tapeCount) numberCount (c .before .if3 .taken) (omega (arith, e .if2 .left, e .before .if1 .left))
 
 returns-4 : tie.Need-returns-4
 returns-4 c =
     let e = c .before .before in
-    c .script-row .ensures ∙ named (e .before .before .before) (plainCount + tapeCount + numberCount) scriptCount (c .before .if4 .taken) (omega (arith, e .if3 .left, e .before .if2 .left, e .before .before .if1 .left))
+    c .script-verb-row .ensures ∙ named (e .before .before .before) (plainCount + tapeCount + numberCount) scriptCount (c .before .if4 .taken) (omega (arith, e .if3 .left, e .before .if2 .left, e .before .before .if1 .left))
 
 returns-5 : tie.Need-returns-5
 returns-5 c =

@@ -14,7 +14,7 @@ use borrow.Author.Needs.{needs}
 use Rattle.arguments.proofs.verb_in.Statement.{statement}
 use Rattle.arguments.proofs.verb_in.Tie as tie
 
--- a call of another kind has no verb
+-- a call of another case than `Known`, by the tags 0 to 3 of those, has no verb
 none : (call : Call) (words : List (List ℕ)) (values : List ℕ) → OneOf (0 ∷ 1 ∷ 2 ∷ 3 ∷ []) (tagOf the-type call) → Unknown ≡ verbOf (askedFor call words values)
 none NoWord words values other = refl
 none NoVerb words values other = refl

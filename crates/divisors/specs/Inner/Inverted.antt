@@ -10,8 +10,8 @@ use Rattle.divisors.specs.Small.{limit, SmallDivisor}
 abbrev pub NoneBelow : ℕ → ℕ → Type 0
 NoneBelow p e = (d : ℕ) → d < e → ¬ (SmallDivisor p d)
 
--- p is left for the numbers from 5 on
-pub record LeftFromFive (p : ℕ) : Type 0 where
+-- neither 2 nor 3 divides p: numbers from 5 on are left to try
+pub record LeftFrom5 (p : ℕ) : Type 0 where
   pub odd : ¬ (p % 2 ≡ 0)
   pub not-by-three : ¬ (p % 3 ≡ 0)
 
@@ -42,7 +42,7 @@ pub record Inverses (ds xs : List ℕ) : Type 0 where
   pub same : length xs ≡ length ds
   pub each : (j : ℕ) → j < length ds → HalfWordInverse (getD ds j 0) (getD xs j 0)
 
--- p is above every entry, and no sum of `excess` is too large for it
+-- p is above every entry, and small enough that the sum in `excess` fits 16 bits
 pub record InReach (p : ℕ) : Type 0 where
   pub above : limit < p
   pub below : p < sumLimit
@@ -52,7 +52,7 @@ pub record Table (p : ℕ) (ds xs : List ℕ) : Type 0 where
   pub reach : InReach p
   pub inverses : Inverses ds xs
 
--- p is left for the second table: the first has told that no number below 4097 divides it
+-- p is left for the second table: the first has told that no small divisor of p is below 4097
 pub record LeftFrom4097 (p : ℕ) : Type 0 where
   pub reach : InReach p
   pub odd : ¬ (p % 2 ≡ 0)

@@ -1,4 +1,4 @@
--- Two neighbouring Fibonacci numbers of the code.
+-- Two neighbouring Fibonacci numbers, as the code's table has them.
 use mathlib.Core.Path.{_≡_}
 use Prim.Native.Nat.{ℕ, _+_, _*_}
 use Rattle.fibonacci.specs.Services.{fibonacciOrZero}

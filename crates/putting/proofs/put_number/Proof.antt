@@ -90,9 +90,6 @@ part-put-start c = omega (arith, c .before .before .before .loop .inv .inside)
 part-put-end : tie.Need-part-put-end Inv-loop μ-loop
 part-put-end c = omega (arith, c .before .before .before .loop .inv .inside, stored-length (c .before .before .before .loop .inv) (code "0" + c .before .before .before .loop .rest))
 
-same-length : tie.Need-same-length Inv-loop μ-loop
-same-length c = search needs
-
 returns : tie.Need-returns Inv-loop μ-loop
 returns c = rw (all-spelt (c .before .before .before .before .before .before .before .loop .inv) (c .before .before .before .before .before .before .loop-test .left)) at (c .before .before .put .ensures)
 
@@ -116,5 +113,5 @@ put-number-spec =
     part-put-start
     part-put-end
     (λ c κs. search needs)
-    same-length
+    (λ c. search needs)
     returns)

@@ -25,6 +25,6 @@ module _ (limit : ℕ) where
   held-within [] within = refl
   held-within (n ∷ values) within = rw (min-eq-left (within zero), held-within values (λ i. within (suc i)))
 
-  -- of usable parameters all are the first, and held
+  -- usable parameters stay as they are: none is past the first `maxParameters`, none above the limit
   pub held-usable : {values : List ℕ} → Usable limit values → take maxParameters (heldTo limit values) ≡ values
   held-usable {values} u = rw (held-within values (u .within)) (take-all maxParameters values (u .few))

@@ -5,7 +5,8 @@ use lib.ListN.{take, drop}
 use Rattle.tool.specs.declared.Row.{Row}
 use Rattle.tool.specs.Verbs.{rows}
 
--- how many rows the table of verbs has of each kind, in its order: plain verbs, on a tape, on numbers, in a script
+-- how many rows the table of verbs has of each kind, in its order: plain ones (build, script, help, version), on a tape, on numbers, in a
+-- script alone
 abbrev pub plainCount : ℕ
 plainCount = 7
 
@@ -18,6 +19,6 @@ numberCount = 10
 abbrev pub scriptCount : ℕ
 scriptCount = 6
 
--- the rows of a kind: so many behind the first of other kinds
+-- the rows of a kind: `count` of them, behind the `before` rows of the kinds in front of it
 abbrev pub kindRows : ℕ → ℕ → List Row
 kindRows before count = take count (drop before rows)

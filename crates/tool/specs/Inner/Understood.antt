@@ -49,6 +49,7 @@ InRange (WrongCount row given) words values = Miscounted (getD words 0 []) row g
 InRange (Unread row index) words values = Misread row index
 InRange (Known row count) words values = Ranged row count values
 
+-- a command line as the code has read it: the call asks for what the words do, and its numbers are in their ranges
 pub record Understood (inScript : Bool) (words : List (List ℕ)) (r : Call) (values : List ℕ) : Type 0 where
   pub asked : askedFor r words values ≡ askedBy inScript words
   pub inRange : InRange r words values
