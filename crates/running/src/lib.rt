@@ -1,6 +1,4 @@
 // Load, run, and both in one.
-mod conditions;
-
 ghost use mathlib.Core.Path.{_≡_};
 ghost use Rattle.refusal.specs.Outcomes.{answered};
 ghost use Rattle.tape.specs.Layout.{stepsIn};
@@ -8,13 +6,13 @@ ghost use Rattle.machine.specs.Machine.{valuesOf, run};
 ghost use Rattle.program.specs.Services.{acceptOutcome};
 ghost use Rattle.sequencer.specs.Services.{registersOutcomeOf, loadOutcome, runOutcome, forwardOutcome};
 ghost use Rattle.sequencer.specs.Inner.Runs.{between, Runnable};
-use conditions::is_bad_base;
-use conditions::is_bad_register;
+use conditions::check_base;
 use conditions::is_some_bad;
 use machine::Registers;
 use montgomery::modulus_of;
 use parts::part;
 use parts::steps;
+use refusal::NumberAnswer;
 use refusal::Refusal;
 use register_forms::forms_of;
 use register_forms::inverses;
@@ -59,18 +57,15 @@ fn load_accepted(tape: &[u32], header: Header, base: u32) -> RegistersAnswer
     requires { ⌜ acceptOutcome (now tape) ≡ answered header ⌝ }
     ensures { λ answer. ⌜ registersOutcomeOf answer ≡ loadOutcome (now (tape .entry)) base ⌝ }
 {
-    if is_bad_register(header.modulus, base) {
-        return RegistersAnswer::Refused(Refusal::Register);
+    match check_base(header, base) {
+        NumberAnswer::Refused(e) => RegistersAnswer::Refused(e),
+        NumberAnswer::Answered(passed) => RegistersAnswer::Answered(Registers {
+            c: 1,
+            d: base,
+            e: 1,
+            f: 1,
+        }),
     }
-    if is_bad_base(header, base) {
-        return RegistersAnswer::Refused(Refusal::Base);
-    }
-    RegistersAnswer::Answered(Registers {
-        c: 1,
-        d: base,
-        e: 1,
-        f: 1,
-    })
 }
 
 // Run of a program that is accepted: 9, 10.

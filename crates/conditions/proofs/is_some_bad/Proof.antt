@@ -1,9 +1,9 @@
--- `conditions::is_some_bad` meets its contract: the four registers, one after another.
+-- `is_some_bad` meets its contract: the four registers, one after another.
 use mathlib.Core.Path.{sym, _∙_}
 use Rattle.sequencer.proofs.Laws.Cases.{registers-first, registers-others, registers-last}
 use borrow.Author.Needs.{needs}
-use Rattle.running.proofs.conditions.is_some_bad.Statement.{statement}
-use Rattle.running.proofs.conditions.is_some_bad.Tie as tie
+use Rattle.conditions.proofs.is_some_bad.Statement.{statement}
+use Rattle.conditions.proofs.is_some_bad.Tie as tie
 
 returns : tie.Need-returns
 returns c = sym (registers-first _ _ _ (sym (c .before .is-bad-register .ensures) ∙ c .if1 .taken))

@@ -1,4 +1,4 @@
--- `conditions::is_bad_base` meets its contract: a free program takes every base, and of a named one the power decides.
+-- `is_bad_base` meets its contract: a free program takes every base, and of a named one the power decides.
 use mathlib.Core.Path.{sym, ap, _∙_}
 use mathlib.Core.Bool.{not}
 use Prim.Native.Nat.{ℕ}
@@ -6,8 +6,8 @@ use lib.Dec.{eqb}
 use Rattle.modular.proofs.Laws.Residues.{remainder-is}
 use Rattle.sequencer.proofs.Laws.Cases.{base-free, base-named}
 use borrow.Author.Needs.{needs}
-use Rattle.running.proofs.conditions.is_bad_base.Statement.{statement}
-use Rattle.running.proofs.conditions.is_bad_base.Tie as tie
+use Rattle.conditions.proofs.is_bad_base.Statement.{statement}
+use Rattle.conditions.proofs.is_bad_base.Tie as tie
 
 returns : tie.Need-returns
 returns c = sym (base-free _ _ (c .if1 .taken))

@@ -1,8 +1,8 @@
--- `conditions::is_bad_register` meets its contract: the test of 0, then the test of p.
+-- `is_bad_register` meets its contract: the test of 0, then the test of p.
 use mathlib.Core.Path.{sym}
 use Rattle.sequencer.proofs.Laws.Cases.{register-zero, register-some}
-use Rattle.running.proofs.conditions.is_bad_register.Statement.{statement}
-use Rattle.running.proofs.conditions.is_bad_register.Tie as tie
+use Rattle.conditions.proofs.is_bad_register.Statement.{statement}
+use Rattle.conditions.proofs.is_bad_register.Tie as tie
 
 returns : tie.Need-returns
 returns c = sym (register-zero _ _ (c .if1 .taken))
