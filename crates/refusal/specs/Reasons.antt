@@ -1,4 +1,4 @@
--- What each refusal is given for, told to people: a text for each of document 01's numbers, from 0, which is none, on.
+-- What each refusal is given for, told to people: a text for each number, from 0, which is none, on.
 use mathlib.Core.List.{List, [], _∷_}
 use Prim.Native.String.{String}
 
@@ -18,17 +18,18 @@ reasons =
     ∷ "the base's power r isn't 1"
     ∷ "an exponent leaves -2^62 to 2^62"
     ∷ "not the places of a Zeckendorf form, from 92 down to 1"
+    ∷ "a row has at most 64 bases"
     ∷ []
 
--- Where a service gives a refusal for a cause of its own: the inverse service 2, build 4, bytes that aren't whole words 6, run 9, cut
--- 10, list to number 12, a Fibonacci number 13.
+-- Where a service gives a refusal for a cause of its own: the inverse service 2, build and raise 4, bytes that aren't whole words 6,
+-- run 9, cut 10, list to number 12, a Fibonacci number 13.
 unfoldable pub ownReasons : List String
 ownReasons =
     ""
     ∷ ""
     ∷ "r must be at least 2"
     ∷ ""
-    ∷ "the variant is none of those known"
+    ∷ "the variant must be that of a named program"
     ∷ ""
     ∷ "standard input isn't whole words of 4 bytes"
     ∷ ""
@@ -38,4 +39,5 @@ ownReasons =
     ∷ ""
     ∷ "the sum of the places exceeds 64 bits"
     ∷ "the index must be at most 93"
+    ∷ ""
     ∷ []

@@ -4,6 +4,7 @@ pub mod Positions
 pub mod Requests
 pub mod Answers
 pub mod Forward
+pub mod Bases
 pub mod Chains
 pub mod Rewinds
 pub mod Tracing

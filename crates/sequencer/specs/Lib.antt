@@ -1,5 +1,6 @@
--- REQUIREMENTS 8: load, run, trace and cut, and the words of demand 3.
+-- REQUIREMENTS 8: load, run, trace and cut, and the words of demand 3; document 02: many bases in one pass.
 pub mod Services
+pub mod Bases
 pub mod Lists
 pub mod Demand
 pub mod Tracing

@@ -1,10 +1,12 @@
--- Chains and rewinds exist: for each a list of runs, forward, backward and refused, computed from the definitions.
+-- Chains and rewinds exist: for each a list of runs, forward, backward and refused, computed from the definitions. And rows of bases, what
+-- is answered and what they are afterwards.
 use mathlib.Core.Path.{_≡_, refl}
 use mathlib.Core.Logic.{inl, inr}
 use mathlib.Core.List.{List, [], _∷_, _++_}
 use Prim.Native.Nat.{ℕ, _≤_, _<_}
 use native.Mathlib.Omega.{arith}
-use Rattle.refusal.specs.Outcomes.{answered, outcome}
+use lib.ListN.{replicate}
+use Rattle.refusal.specs.Outcomes.{Outcome, refused, answered, outcome}
 use Rattle.modular.specs.Search.{greatest}
 use Rattle.modular.specs.Primes.{isPrime}
 use Rattle.modular.specs.Residues.{Residue, remainder, times}
@@ -23,7 +25,8 @@ use Rattle.named.specs.Members.{sameStep, sameSteps, isOneOf}
 use Rattle.named.specs.Parameters.{badModulus, badOrder}
 use Rattle.program.specs.Services.{checkRules, checkOutcome}
 use Rattle.program.specs.Door.{onTape}
-use Rattle.sequencer.specs.Services.{badRegister, badRegisters, allowed, badBase, baseRules, positionRules, loadOutcome, runOutcome}
+use Rattle.sequencer.specs.Services.{badRegister, badRegisters, allowed, badBase, baseRules, positionRules, loadOutcome, runOutcome, forwardOutcome}
+use Rattle.sequencer.specs.Bases.{rowRules, raiseRules, raised, onRow, raiseOutcome, raisedBases}
 use Rattle.sequencer.specs.Lists.{Request, afterAll, numbersAll, performed, requestsOf}
 use Rattle.sequencer.specs.Demand.{AllEndToEnd, Chain, Returns, Rewind}
 
@@ -140,3 +143,44 @@ rewind-exists =
       registers = residues-four 7 2 3 4 5 (below 2 (omega arith) (omega arith)) (below 3 (omega arith) (omega arith)) (below 4 (omega arith) (omega arith)) (below 5 (omega arith) (omega arith));
       returns = (refl, refl, (refl, refl, (refl, refl, refl)));
     }
+
+-- ---- rows of bases
+
+-- a row with what is answered and the row afterwards
+abbrev Raises : List ℕ → List ℕ → Outcome ℕ → List ℕ → Type 0
+Raises tape bases answer row = (raiseOutcome tape bases ≡ answer) × (raisedBases tape bases ≡ row)
+
+-- 65 bases, the first of them bad
+abbrev pub many : List ℕ
+many = 0 ∷ replicate 64 4
+
+-- In order: four bases; none; 2 to the power 5 isn't 1 modulo 11; 11 isn't below p; the first bad base decides the refusal, whichever
+-- number it has; a bad base behind good ones, which stay as they are; too many come before a bad one, and 64 are not too many; a free
+-- program comes before too many; and a tape that check refuses before all of these.
+pub rows-raised : Raises figure-2 (4 ∷ 3 ∷ 5 ∷ 9 ∷ []) (answered 0) (5 ∷ 9 ∷ 3 ∷ 4 ∷ [])
+    × Raises figure-6 [] (answered 0) []
+    × Raises figure-2 (2 ∷ []) (refused 11) (2 ∷ [])
+    × Raises figure-2 (11 ∷ []) (refused 9) (11 ∷ [])
+    × Raises figure-2 (2 ∷ 0 ∷ []) (refused 11) (2 ∷ 0 ∷ [])
+    × Raises figure-2 (0 ∷ 2 ∷ []) (refused 9) (0 ∷ 2 ∷ [])
+    × Raises figure-4 (4 ∷ 3 ∷ 2 ∷ []) (refused 11) (4 ∷ 3 ∷ 2 ∷ [])
+    × Raises figure-4 many (refused 14) many
+    × (raiseOutcome figure-4 (replicate 64 4) ≡ answered 0)
+    × Raises by-hand many (refused 4) many
+    × Raises by-hand [] (refused 4) []
+    × Raises [] many (refused 6) many
+unfolding programWords encoded stepWord namedSteps formsIn basicForms dualForms hybridForms drawn basic dual hybrid ascend descend inverted inverseStep pad zeckendorf greedy height oddHeight firstFrom reaches lucas fib inverse greatest decoded headingIn actionIn swapIn outcome checkRules isLength isHeader isFreeOrNamed allSteps isEnd laidOut badModulus isPrime badOrder badExponent gcd isOneOf sameSteps sameStep badRegister badRegisters allowed badBase onTape baseRules positionRules loadOutcome runOutcome forwardOutcome run doAll undoAll apply times remainder rowRules raiseRules raised onRow raiseOutcome raisedBases
+rows-raised = (
+  (refl, refl),
+  (refl, refl),
+  (refl, refl),
+  (refl, refl),
+  (refl, refl),
+  (refl, refl),
+  (refl, refl),
+  (refl, refl),
+  refl,
+  (refl, refl),
+  (refl, refl),
+  (refl, refl),
+)

@@ -12,7 +12,7 @@ use Rattle.modular.specs.Residues.{Residue}
 use Rattle.modular.proofs.Laws.Group.{residue-one}
 use Rattle.tape.specs.Layout.{headerOf, stepsOf}
 use Rattle.tape.proofs.Laws.Layout.{steps-count}
-use Rattle.machine.specs.Machine.{run, start}
+use Rattle.machine.specs.Machine.{doAll, run, start}
 use Rattle.machine.proofs.Laws.Steps.{residues-start}
 use Rattle.machine.proofs.Laws.Runs.{run-forward}
 use Rattle.program.specs.Services.{isNamed}
@@ -57,16 +57,23 @@ module _ (tape : List ℕ) (a : ℕ) {v : List ℕ} (e : loadOutcome tape a ≡ 
       ∙ passes _ _ _ (both-inside (headerOf tape .steps) 0 _ (omega arith) (omega arith))
       ∙ answers _
 
+  -- all its steps are done
+  pub forward-done : forwardOutcome tape a ≡ answered (doAll (headerOf tape .modulus) (stepsOf tape) (start a))
+  forward-done =
+      let h = headerOf tape in
+      let load = load-answered tape a v e in
+      let pr = modulus-prime tape h (load .accepted) in
+      forward-answered
+      ∙ ap answered
+      (ap (λ (n : ℕ). run (h .modulus) (stepsOf tape) 0 n (start a)) (sym (steps-count tape))
+      ∙ run-forward (h .modulus) pr (stepsOf tape) (steps-sound tape) (start a) (residues-start (h .modulus) pr a (load .base)))
+
   -- of a named program, (1, a^k, 1, 1)
   pub forward-power : isNamed (headerOf tape) ≡ true → forwardOutcome tape a ≡ answered (start (a ^ (headerOf tape .exponent) % headerOf tape .modulus))
   forward-power is =
       let h = headerOf tape in
       let load = load-answered tape a v e in
-      let pr = modulus-prime tape h (load .accepted) in
       let some = eqb-false (h .variant) 0 (not-true _ is) in
       let power = eqb-true _ 1 (not-false _ (sym (base-named h a some) ∙ load .power)) in
-      forward-answered
-      ∙ ap answered
-      (ap (λ (n : ℕ). run (h .modulus) (stepsOf tape) 0 n (start a)) (sym (steps-count tape))
-      ∙ run-forward (h .modulus) pr (stepsOf tape) (steps-sound tape) (start a) (residues-start (h .modulus) pr a (load .base))
-      ∙ accepted-program tape (accepted-named h tape (load .accepted) some) .raises (h .modulus) pr a (load .base) power)
+      forward-done
+      ∙ ap answered (accepted-program tape (accepted-named h tape (load .accepted) some) .raises (h .modulus) (modulus-prime tape h (load .accepted)) a (load .base) power)
