@@ -40,16 +40,20 @@ module _ (p : ℕ) (m : Modulus) (pr : Prime p) (odd : p % 2 ≡ 1) (fits : p �
       ∙ ap (map (formOf p)) (inverses-are p pr v g)
 
   -- so the registers that set out in the form beside their inverses arrive as the steps have it
+  pub arrive-in-forms : (xs : List Step) (v values inverses₀ : List ℕ) → AllSound xs → Residues p v → values ≡ map (formOf p) v
+      → inverses₀ ≡ map (formOf p) (inverses p v) → map (leave m) (firstFour (doAllWith (formTimes m) xs values inverses₀)) ≡ doAll p xs v
+  arrive-in-forms xs v values inverses₀ sound g forms beside =
+      let there : doAllWith (formTimes m) xs values inverses₀ ≡ map (formOf p) (doAll p xs v) =
+      ap₂ (doAllWith (formTimes m) xs) forms beside
+      ∙ do-forms (formOf p) (form-zero p) (times p) (formTimes m) (form-times p m odd fits is) xs v (inverses p v)
+      ∙ ap (map (formOf p)) (do-with-inverses p pr xs v sound g) in
+      ap (λ (l : List ℕ). map (leave m) (firstFour l)) there ∙ left (doAll p xs v) (residues-doAll p pr xs v sound g)
+
+  -- as they do where the inverses are found by products
   pub run-in-forms : (xs ys : List Step) (v values inverses₀ after : List ℕ) → AllSound xs → Residues p v → values ≡ map (enter m) (firstFour v)
       → inverses₀ ≡ inversesWith (formTimes m) (formInverse m) values → ys ≡ xs → after ≡ doAllWith (formTimes m) ys values inverses₀
       → map (leave m) (firstFour after) ≡ doAll p xs v
   run-in-forms xs ys v values inverses₀ after sound g ev ew same done =
       let forms : values ≡ map (formOf p) v = ev ∙ entered v g in
-      let beside : inverses₀ ≡ map (formOf p) (inverses p v) = ew ∙ ap (inversesWith (formTimes m) (formInverse m)) forms ∙ forms-inverted v g in
-      let there : after ≡ map (formOf p) (doAll p xs v) =
-      done
-      ∙ ap (λ (l : List Step). doAllWith (formTimes m) l values inverses₀) same
-      ∙ ap₂ (doAllWith (formTimes m) xs) forms beside
-      ∙ do-forms (formOf p) (form-zero p) (times p) (formTimes m) (form-times p m odd fits is) xs v (inverses p v)
-      ∙ ap (map (formOf p)) (do-with-inverses p pr xs v sound g) in
-      ap (λ (l : List ℕ). map (leave m) (firstFour l)) there ∙ left (doAll p xs v) (residues-doAll p pr xs v sound g)
+      ap (λ (l : List ℕ). map (leave m) (firstFour l)) (done ∙ ap (λ (l : List Step). doAllWith (formTimes m) l values inverses₀) same)
+      ∙ arrive-in-forms xs v values inverses₀ sound g forms (ew ∙ ap (inversesWith (formTimes m) (formInverse m)) forms ∙ forms-inverted v g)

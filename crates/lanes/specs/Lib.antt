@@ -1,0 +1,2 @@
+-- Definitions of this crate's inner contracts.
+pub mod Inner
