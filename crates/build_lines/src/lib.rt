@@ -2,10 +2,8 @@
 // of it is seen.
 ghost use mathlib.Core.Path.{_≡_};
 ghost use mathlib.Core.List.{_++_};
-ghost use Prim.Native.Nat.{_+_, _≤_};
 ghost use lib.ListN.{length, take, drop};
 ghost use Rattle.refusal.specs.Outcomes.{numberOutcomeOf};
-ghost use Rattle.refusal.specs.Rows.{Wrote};
 ghost use Rattle.text.specs.Text.{numberLine, numbersLine};
 ghost use Rattle.tape.specs.Layout.{maxWords};
 ghost use Rattle.tool.specs.Verbs.{largest32, maxRoom};
@@ -17,6 +15,7 @@ ghost use Rattle.scripting.specs.Inner.Leaving.{ShortRow, WrittenRow};
 use lines::number_line;
 use lines::numbers_line;
 use printing::refuse;
+use putting::put_words;
 use refusal::NumberAnswer;
 use scripting::MAX_ROOM;
 use scripting::MAX_TAPES;
@@ -114,24 +113,11 @@ fn leave(words: &[u32], tapes: &mut [u32], marks: Marks, text: &mut [u8]) -> Pri
             length: put_full(text, tapes.len()),
         };
     }
-    let end = copy(words, tapes, begin);
+    let end = put_words(tapes, begin, words);
     Printed {
         marks: ending(marks, end),
         length: numbers_line(text, 0, words),
     }
-}
-
-// Words at a place of the row.
-fn copy(words: &[u32], row: &mut [u32], at: usize) -> usize
-    requires { ⌜ at + length (now words) ≤ length (now row) ⌝ }
-    ensures { λ next. ⌜ Wrote (now (row .entry)) at (now (words .entry)) next (now (row .exit)) ⌝ }
-{
-    let mut i: usize = 0;
-    while i < words.len() {
-        row[at + i] = words[i];
-        i += 1;
-    }
-    at + i
 }
 
 // Build into a buffer: the count of words or the refusal, and the buffer. Its tape is at hand then.
@@ -184,7 +170,7 @@ fn show(
                     length: put_full(text, tapes.len()),
                 };
             }
-            let end = copy(&row[..count], tapes, begin);
+            let end = put_words(tapes, begin, &row[..count]);
             let next = number_line(text, 0, n);
             Printed {
                 marks: ending(marks, end),

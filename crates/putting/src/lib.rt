@@ -1,4 +1,4 @@
-// Texts and numbers, put into a lent buffer as far as it has room.
+// Texts, numbers and words, put into a lent buffer as far as it has room.
 ghost use mathlib.Core.Path.{_≡_};
 ghost use mathlib.Core.List.{[], _∷_, _++_};
 ghost use Prim.Native.Nat.{_%_};
@@ -21,6 +21,23 @@ pub fn put(buffer: &mut [u8], at: usize, text: &[u8]) -> usize
             return next;
         }
         buffer[next] = text[i];
+        next += 1;
+        i += 1;
+    }
+    next
+}
+
+// Puts words from `at` on.
+pub fn put_words(buffer: &mut [u32], at: usize, words: &[u32]) -> usize
+    ensures { λ next. ⌜ Put (now (buffer .entry)) at (now (words .entry)) next (now (buffer .exit)) ⌝ }
+{
+    let mut next = at;
+    let mut i: usize = 0;
+    while i < words.len() {
+        if buffer.len() <= next {
+            return next;
+        }
+        buffer[next] = words[i];
         next += 1;
         i += 1;
     }

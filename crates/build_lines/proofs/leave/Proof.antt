@@ -13,7 +13,7 @@ returns c =
     did-full (s .pre .inside) (s .args .words .now) _ (omega (arith, c .before .before .before .before .if1 .taken)) refl (c .before .before .put-full .ensures)
 
 returns-2 : tie.Need-returns-2
-returns-2 c = did-left (c .before .before .before .before .before .before .before .before .before .before .before .before .before .pre .inside) (c .before .before .before .before .before .before .before .before .before .before .before .before .before .args .words .now) _ (omega (arith, c .before .before .before .before .before .before .before .before .before .if1 .left, c .before .before .before .before .before .before .before .before .before .before .before .before .before .pre .inside .begin, c .before .before .before .before .before .before .before .before .before .before .before .before .before .pre .inside .end)) (c .before .before .before .before .before .before .before .copy .ensures) (c .before .before .before .before .ending .ensures) (c .before .before .numbers-line .ensures .0) (omega (arith, c .before .before .numbers-line .ensures .1, c .before .before .before .before .before .before .before .before .before .before .before .before .before .pre .short))
+returns-2 c = did-left (c .before .before .before .before .before .before .before .before .before .before .before .before .before .pre .inside) (c .before .before .before .before .before .before .before .before .before .before .before .before .before .args .words .now) _ (omega (arith, c .before .before .before .before .before .before .before .before .before .if1 .left, c .before .before .before .before .before .before .before .before .before .before .before .before .before .pre .inside .begin, c .before .before .before .before .before .before .before .before .before .before .before .before .before .pre .inside .end)) (c .before .before .before .before .before .before .before .put-words .ensures) (c .before .before .before .before .ending .ensures) (c .before .before .numbers-line .ensures .0) (omega (arith, c .before .before .numbers-line .ensures .1, c .before .before .before .before .before .before .before .before .before .before .before .before .before .pre .short))
 
 pub leave-spec : {M : Type 1} → statement M
 leave-spec =

@@ -20,16 +20,13 @@ returns c =
     rw is
     (did-full (s .pre .inside) (take count (s .args .row .now)) _ (omega (arith, c .before .before .before .before .if1 .taken, length-take-le count (s .args .row .now) (rw is at (s .pre .counted)))) refl (c .before .before .put-full .ensures))
 
-slice-aggregate-copy : tie.Need-slice-aggregate-copy
-slice-aggregate-copy c = sym (length-take-le (c .before .before .before .answer .given .0 .0) (c .before .before .before .before .before .before .before .before .args .row .now) (rw (c .before .before .before .answer .given .1) at (c .before .before .before .before .before .before .before .before .pre .counted)))
-
-copy-requires : tie.Need-copy-requires
-copy-requires c κs = omega (arith, c .before .before .if1 .left, c .before .before .before .before .before .before .before .before .before .pre .inside .begin, c .before .before .before .before .before .before .before .before .before .pre .inside .end, length-take-le (c .before .before .before .before .answer .given .0 .0) (c .before .before .before .before .before .before .before .before .before .args .row .now) (rw (c .before .before .before .before .answer .given .1) at (c .before .before .before .before .before .before .before .before .before .pre .counted)))
+slice-aggregate-put-words : tie.Need-slice-aggregate-put-words
+slice-aggregate-put-words c = sym (length-take-le (c .before .before .before .before .answer .given .0 .0) (c .before .before .before .before .before .before .before .before .before .args .row .now) (rw (c .before .before .before .before .answer .given .1) at (c .before .before .before .before .before .before .before .before .before .pre .counted)))
 
 returns-2 : tie.Need-returns-2
 returns-2 c = let row = c .before .before .before .before .before .before .before .before .before .before .before .before .before .before .before .before .before .before .before .before .before .args .row .now in
     rw (c .before .before .before .before .before .before .before .before .before .before .before .before .before .before .before .before .answer .given .1)
-    (did-left (c .before .before .before .before .before .before .before .before .before .before .before .before .before .before .before .before .before .before .before .before .before .pre .inside) (take (c .before .before .before .before .before .before .before .before .before .before .before .before .before .before .before .before .answer .given .0 .0) row) _ (omega (arith, c .before .before .before .before .before .before .before .before .before .before .before .before .before .before .if1 .left, c .before .before .before .before .before .before .before .before .before .before .before .before .before .before .before .before .before .before .before .before .before .pre .inside .begin, c .before .before .before .before .before .before .before .before .before .before .before .before .before .before .before .before .before .before .before .before .before .pre .inside .end, length-take-le (c .before .before .before .before .before .before .before .before .before .before .before .before .before .before .before .before .answer .given .0 .0) row (rw (c .before .before .before .before .before .before .before .before .before .before .before .before .before .before .before .before .answer .given .1) at (c .before .before .before .before .before .before .before .before .before .before .before .before .before .before .before .before .before .before .before .before .before .pre .counted)))) (c .before .before .before .before .before .before .before .before .before .before .before .copy .ensures) (c .before .before .before .before .ending .ensures) (puts-join (c .before .before .before .before .before .before .before .number-line .ensures .0) (c .before .before .numbers-line .ensures .0))
+    (did-left (c .before .before .before .before .before .before .before .before .before .before .before .before .before .before .before .before .before .before .before .before .before .pre .inside) (take (c .before .before .before .before .before .before .before .before .before .before .before .before .before .before .before .before .answer .given .0 .0) row) _ (omega (arith, c .before .before .before .before .before .before .before .before .before .before .before .before .before .before .if1 .left, c .before .before .before .before .before .before .before .before .before .before .before .before .before .before .before .before .before .before .before .before .before .pre .inside .begin, c .before .before .before .before .before .before .before .before .before .before .before .before .before .before .before .before .before .before .before .before .before .pre .inside .end, length-take-le (c .before .before .before .before .before .before .before .before .before .before .before .before .before .before .before .before .answer .given .0 .0) row (rw (c .before .before .before .before .before .before .before .before .before .before .before .before .before .before .before .before .answer .given .1) at (c .before .before .before .before .before .before .before .before .before .before .before .before .before .before .before .before .before .before .before .before .before .pre .counted)))) (c .before .before .before .before .before .before .before .before .before .before .before .put-words .ensures) (c .before .before .before .before .ending .ensures) (puts-join (c .before .before .before .before .before .before .before .number-line .ensures .0) (c .before .before .numbers-line .ensures .0))
     (omega (arith, c .before .before .before .before .before .before .before .number-line .ensures .1, c .before .before .numbers-line .ensures .1, c .before .before .before .before .before .before .before .before .before .before .before .before .before .before .before .before .before .before .before .before .before .pre .short, length-append (numberLine (c .before .before .before .before .before .before .before .before .before .before .before .before .before .before .before .before .answer .given .0 .0)) (numbersLine row))))
 
 returns-3 : tie.Need-returns-3
@@ -46,8 +43,8 @@ show-spec =
     (λ c κs. search needs)
     (λ c. search needs)
     returns
-    slice-aggregate-copy
-    copy-requires
+    slice-aggregate-put-words
+    (λ c κs. search needs)
     (λ c κs. search needs)
     (λ c κs. search needs)
     (λ c κs. search needs)

@@ -1,12 +1,11 @@
 -- Writes one after another are one write of the words one after another.
 use mathlib.Core.Path.{_≡_, refl, sym, ap, _∙_}
 use mathlib.Core.List.{List, [], _∷_, _++_}
-use Prim.Native.Nat.{ℕ, suc, _+_, _≤_, _<_}
+use Prim.Native.Nat.{ℕ, suc, _+_, _≤_}
 use native.Mathlib.Nat.{add-zero, zero-add, add-suc, suc-add}
-use native.Mathlib.Numerals.{add-one}
 use native.Mathlib.Omega.{arith}
-use lib.ListN.{length, getD, set, take, drop, length-append}
-use lib.Seq.{sets, sets-eq, length-sets, take-at, take-suc}
+use lib.ListN.{length, set, take, drop, length-append}
+use lib.Seq.{sets, sets-eq, length-sets, take-at}
 use Rattle.refusal.specs.Rows.{Wrote}
 
 pub sets-append : (vs ws l : List ℕ) (i : ℕ) → sets (sets l i vs) (i + length vs) ws ≡ sets l i (vs ++ ws)
@@ -42,11 +41,3 @@ wrote-room {done = done} {done′} one total rest w e f h =
 
 pub wrote-next : {a b c done done′ one : List ℕ} {at m n : ℕ} → Wrote a at done m b → Wrote b m one n c → done′ ≡ done ++ one → Wrote a at done′ n c
 wrote-next w v e = rw e (wrote-more w v)
-
--- a loop that writes words one by one: behind the first i, the next is stored
-pub wrote-element : {a b : List ℕ} {at m n x : ℕ} (words : List ℕ) (i : ℕ) → i < length words → x ≡ getD words i 0 → n ≡ m + 1
-    → Wrote a at (take i words) m b → Wrote a at (take (i + 1) words) n (set b m x)
-wrote-element {b = b} {m = m} {n = n} {x = x} words i h e next w =
-    let stored : Wrote b m (x ∷ []) n (set b m x) = record { next-is = next; after-is = refl } in
-    let longer : take (i + 1) words ≡ take i words ++ x ∷ [] = rw (add-one i, e) (take-suc words i 0 h) in
-    wrote-next w stored longer

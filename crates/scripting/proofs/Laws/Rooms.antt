@@ -9,11 +9,10 @@ use lib.Seq.{take-at}
 use Rattle.refusal.specs.declared.NumberAnswer.{NumberAnswer}
 use Rattle.refusal.specs.declared.NumberAnswer.the-variants.{Answered, Refused}
 use Rattle.refusal.specs.Outcomes.{numberOutcomeOf}
-use Rattle.refusal.specs.Rows.{Wrote}
 use Rattle.refusal.proofs.Laws.Rows.{wrote-length}
 use Rattle.text.specs.Text.{numberLine, numbersLine}
 use Rattle.text.specs.Rows.{Put}
-use Rattle.text.proofs.Laws.Puts.{puts-join}
+use Rattle.text.proofs.Laws.Puts.{puts-join, put-fits}
 use Rattle.fibonacci.specs.Services.{placesOutcome, placesBuffer}
 use Rattle.encoding.specs.Encoding.{bytesOf}
 use Rattle.named.specs.Named.{namedWords}
@@ -34,9 +33,10 @@ use Rattle.scripting.proofs.Laws.Tapes.{ended, did-tape, wrote-behind}
 
 -- words written from where the tape at hand begins
 pub did-left : {m : Marks} {row row′ before after : List ℕ} {r : Printed} {end : ℕ} → Inside m row → (words text : List ℕ)
-    → m .begin + length words ≤ length row → Wrote row (m .begin) words end row′ → r .marks ≡ ended m end → Put before 0 text (r .length) after
+    → m .begin + length words ≤ length row → Put row (m .begin) words end row′ → r .marks ≡ ended m end → Put before 0 text (r .length) after
     → length text ≤ maxCommanded → Did (withTape (length row) (stateIn m row) words text) before r row′ after
-did-left {end = end} inside words text fits w marks put short =
+did-left {end = end} inside words text fits there marks put short =
+    let w = put-fits there fits in
     did-tape inside words end (w .next-is) (omega (arith, w .next-is)) (wrote-length w) (wrote-behind w fits) text marks put short
 
 -- ---- a buffer

@@ -1,5 +1,5 @@
 -- Another tape at hand, in the row that holds it: its words stand behind those of the tapes in front, and its marks end past them.
-use mathlib.Core.Path.{_≡_, refl, sym, ap, _∙_}
+use mathlib.Core.Path.{_≡_, sym, ap, _∙_}
 use mathlib.Core.List.{List, [], _∷_, _++_, append-assoc}
 use Prim.Native.Nat.{ℕ, zero, suc, _+_, _-_, _≤_, _<_}
 use native.Mathlib.Omega.{arith}
@@ -7,7 +7,6 @@ use lib.ListN.{length, getD, take, drop, set, length-append, take-append-drop}
 use lib.Seq.{sets-eq, take-take, take-at, take-add, take-set-le, take-set-lt, drop-set-add, length-take-le}
 use borrow.Author.Tests.{le-leb, lt-leb}
 use Rattle.refusal.specs.Rows.{Wrote}
-use Rattle.refusal.proofs.Laws.Rows.{wrote-element}
 use Rattle.text.specs.Text.{ascii, decimal, newline, numberLine}
 use Rattle.text.specs.Rows.{Put}
 use Rattle.text.proofs.Laws.Decimal.{decimal-32}
@@ -103,11 +102,6 @@ pub wrote-behind : {a b : List ℕ} {at n : ℕ} {words : List ℕ} → Wrote a 
 wrote-behind {a} {b} {at} {n} {words} w h =
     ap (take n) (w .after-is ∙ sets-eq words a at h)
     ∙ take-at (take at a ++ words) _ n (length-append (take at a) words ∙ omega (arith, w .next-is, length-take-le at a (omega arith)))
-
--- the word at i, behind those in front of it
-pub wrote-step : {a b : List ℕ} {at : ℕ} (words : List ℕ) (i : ℕ) → i < length words → Wrote a at (take i words) (at + i) b
-    → Wrote a at (take (i + 1) words) (at + (i + 1)) (set b (at + i) (getD words i 0))
-wrote-step words i h w = wrote-element words i h refl (omega arith) w
 
 module _ (row : List ℕ) (begin : ℕ) where
   -- the words of a tape up to `at`, and others behind them
