@@ -14,7 +14,7 @@ ghost use Rattle.sequencer.specs.Services.{runOutcome, cutOutcome};
 ghost use Rattle.sequencer.specs.Lists.{requestsOf};
 ghost use Rattle.listing.specs.Listing.{linesFor};
 ghost use Rattle.tool.specs.Verbs.{maxParameters};
-ghost use Rattle.tool.specs.Replies.{answers, printed, registersIn, runsTold, played, tapeReply};
+ghost use Rattle.tool.specs.Replies.{answers, printed, registersIn, raisedAll, runsTold, played, tapeReply};
 ghost use Rattle.tool.specs.Rows.{Told};
 use lines::numbers_line;
 use lister::list_tape;
@@ -24,6 +24,8 @@ use printing::print_exponents;
 use printing::print_power;
 use printing::print_registers;
 use printing::refuse;
+use putting::put_words;
+use refusal::NumberAnswer;
 use tool::ANSWERED;
 use tool::MAX_PARAMETERS;
 use tool::Reply;
@@ -58,6 +60,7 @@ pub fn on_tape(
         TapeVerb::Load => print_registers(text, own, running::load(tape, parameter(given, 0))),
         TapeVerb::Run => run(own, given, tape, text),
         TapeVerb::Power => print_power(text, own, running::forward(tape, parameter(given, 0))),
+        TapeVerb::Raise => raise(own, given, tape, text),
         TapeVerb::Trace => print_exponents(text, own, inspecting::trace(tape, parameter(given, 0))),
         TapeVerb::Cut => cut(own, tape, parameter(given, 0), parameter(given, 1), text),
         TapeVerb::Play => play(given, tapes, text),
@@ -82,6 +85,30 @@ fn run(own: u32, values: &[u32], tape: &[u32], text: &mut [u8]) -> Reply
     let at = registers(values);
     let answer = running::run(tape, at, parameter(values, 4), parameter(values, 5));
     print_registers(text, own, answer)
+}
+
+// Raise, its bases the parameters, which are copied since they are replaced.
+fn raise(own: u32, values: &[u32], tape: &[u32], text: &mut [u8]) -> Reply
+    requires { ⌜ length (now values) ≤ maxParameters ⌝ }
+    ensures { λ r. ⌜ Told (now (text .entry)) (raisedAll own (now (values .entry)) (now (tape .entry))) r (now (text .exit)) ⌝ }
+{
+    let mut row = [0u32; MAX_PARAMETERS];
+    let count = put_words(&mut row, 0, values);
+    raise_row(own, &mut row[..count], tape, text)
+}
+
+// The row of bases after they are raised.
+fn raise_row(own: u32, bases: &mut [u32], tape: &[u32], text: &mut [u8]) -> Reply
+    requires { ⌜ length (now bases) ≤ maxParameters ⌝ }
+    ensures { λ r. ⌜ Told (now (text .entry)) (raisedAll own (now (bases .entry)) (now (tape .entry))) r (now (text .exit)) ⌝ }
+{
+    match raising::raise(tape, bases) {
+        NumberAnswer::Refused(e) => refuse(text, own, refusal::number(e)),
+        NumberAnswer::Answered(_) => Reply {
+            status: ANSWERED,
+            length: numbers_line(text, 0, bases),
+        },
+    }
 }
 
 // The step words of a part of the tape.

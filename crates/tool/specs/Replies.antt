@@ -19,10 +19,11 @@ use Rattle.encoding.specs.Encoding.{bytesOf, tapeIn, wordBytes}
 use Rattle.named.specs.Named.{namedWords}
 use Rattle.program.specs.Services.{buildOutcome, checkOutcome, acceptOutcome}
 use Rattle.sequencer.specs.Services.{loadOutcome, runOutcome, forwardOutcome, traceOutcome, cutOutcome}
+use Rattle.sequencer.specs.Bases.{raiseOutcome, raisedBases}
 use Rattle.sequencer.specs.Lists.{Request, afterAll, numbersAll, requestsOf}
 use Rattle.listing.specs.Listing.{linesFor}
 use Rattle.tool.specs.declared.TapeVerb.{TapeVerb}
-use Rattle.tool.specs.declared.TapeVerb.the-variants.{Check, Listing, Load, Run, Power, Trace, Cut, Play}
+use Rattle.tool.specs.declared.TapeVerb.the-variants.{Check, Listing, Load, Run, Power, Raise, Trace, Cut, Play}
 use Rattle.tool.specs.declared.NumberVerb.{NumberVerb}
 use Rattle.tool.specs.declared.NumberVerb.the-variants.{Decode, Fibonacci, Places, NumberOf, Hofstadter, Inverse, Height, Prime, MulMod, PowMod}
 use Rattle.tool.specs.declared.Verb.{Verb}
@@ -95,6 +96,10 @@ numberReply Prime own v = answers (numberLine (bit (isPrime (at v 0))))
 numberReply MulMod own v = answers (numberLine (remainder (at v 0 * at v 1) (at v 2)))
 numberReply PowMod own v = answers (numberLine (remainder (at v 0 ^ at v 1) (at v 2)))
 
+-- many bases: the row afterwards
+abbrev pub raisedAll : ℕ → List ℕ → List ℕ → Replied
+raisedAll own bases tape = printed own (raiseOutcome tape bases) (λ (n : ℕ). numbersLine (raisedBases tape bases))
+
 -- a list of runs: the registers at its end, then each run's number
 abbrev pub runsTold : List Request → List ℕ → List ℕ
 runsTold requests registers = afterAll requests registers ++ numbersAll requests registers
@@ -109,6 +114,7 @@ tapeReply Listing own v tape tapes = answers (linesFor (acceptOutcome tape) (ste
 tapeReply Load own v tape tapes = printed own (loadOutcome tape (at v 0)) numbersLine
 tapeReply Run own v tape tapes = printed own (runOutcome tape (registersIn v) (at v 4) (at v 5)) numbersLine
 tapeReply Power own v tape tapes = printed own (forwardOutcome tape (at v 0)) powerLines
+tapeReply Raise own v tape tapes = raisedAll own v tape
 tapeReply Trace own v tape tapes = printed own (traceOutcome tape (at v 0)) exponentsLine
 tapeReply Cut own v tape tapes = printed own (cutOutcome tape (at v 0) (at v 1)) numbersLine
 tapeReply Play own v tape tapes = played v tapes

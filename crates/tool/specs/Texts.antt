@@ -107,6 +107,7 @@ usage =
     ∷ ascii "  load BASE              the four registers to start from"
     ∷ ascii "  run C D E F FROM TO    the four registers at position TO"
     ∷ ascii "  power BASE             load and run: register 1 (a named program's power), the registers"
+    ∷ ascii "  raise BASE..           each of up to 64 bases to the power k, by a named program"
     ∷ ascii "  trace POSITION         the four whole exponents"
     ∷ ascii "  cut FIRST LAST         the words of the steps FIRST + 1 to LAST"
     ∷ ascii "  play C D E F REQUEST.. a list of runs, each BEGIN END FROM TO: the registers at its end, each run's number"

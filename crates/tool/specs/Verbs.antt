@@ -11,7 +11,7 @@ use Rattle.text.specs.declared.Parsed.the-variants.{Number}
 use Rattle.text.specs.Reading.{parseNumber}
 use Rattle.named.specs.Named.{variantNames}
 use Rattle.program.specs.Same.{sameWords}
-use Rattle.tool.specs.declared.TapeVerb.the-variants.{Check, Listing, Load, Run, Power, Trace, Cut, Play}
+use Rattle.tool.specs.declared.TapeVerb.the-variants.{Check, Listing, Load, Run, Power, Raise, Trace, Cut, Play}
 use Rattle.tool.specs.declared.NumberVerb.{NumberVerb}
 use Rattle.tool.specs.declared.NumberVerb.the-variants.{Decode, Fibonacci, Places, NumberOf, Hofstadter, Inverse, Height, Prime, MulMod, PowMod}
 use Rattle.tool.specs.declared.ScriptVerb.{ScriptVerb}
@@ -22,9 +22,13 @@ use Rattle.tool.specs.declared.Row.{Row}
 
 -- ---- the table
 
--- the most parameters of all
+-- the most parameters of all, those of raise: above what the service takes, so that it is the service that refuses
 abbrev pub maxParameters : ℕ
-maxParameters = 64
+maxParameters = 66
+
+-- the most of play, number, tape and append
+abbrev pub maxNumbers : ℕ
+maxNumbers = 64
 
 -- the most elements of a buffer that a script gives
 abbrev pub maxRoom : ℕ
@@ -63,21 +67,22 @@ entries =
     ∷ entry "load" (OnTape Load) 1 1 largest32 0
     ∷ entry "run" (OnTape Run) 6 6 largest32 9
     ∷ entry "power" (OnTape Power) 1 1 largest32 0
+    ∷ entry "raise" (OnTape Raise) 0 maxParameters largest32 4
     ∷ entry "trace" (OnTape Trace) 1 1 largest32 0
     ∷ entry "cut" (OnTape Cut) 2 2 largest32 10
-    ∷ entry "play" (OnTape Play) 4 maxParameters largest32 0
+    ∷ entry "play" (OnTape Play) 4 maxNumbers largest32 0
     ∷ entry "decode" (OnNumbers Decode) 1 1 largest32 0
     ∷ entry "fibonacci" (OnNumbers Fibonacci) 1 1 largest32 13
     ∷ entry "places" (OnNumbers Places) 1 1 largest64 0
-    ∷ entry "number" (OnNumbers NumberOf) 0 maxParameters largest8 12
+    ∷ entry "number" (OnNumbers NumberOf) 0 maxNumbers largest8 12
     ∷ entry "hofstadter" (OnNumbers Hofstadter) 1 1 largest64 0
     ∷ entry "inverse" (OnNumbers Inverse) 2 2 largest32 2
     ∷ entry "height" (OnNumbers Height) 1 1 largest32 0
     ∷ entry "prime" (OnNumbers Prime) 1 1 largest32 0
     ∷ entry "mulmod" (OnNumbers MulMod) 3 3 largest32 0
     ∷ entry "powmod" (OnNumbers PowMod) 3 3 largest32 0
-    ∷ entry "tape" (InScript Tape) 0 maxParameters largest32 0
-    ∷ entry "append" (InScript Append) 0 maxParameters largest32 0
+    ∷ entry "tape" (InScript Tape) 0 maxNumbers largest32 0
+    ∷ entry "append" (InScript Append) 0 maxNumbers largest32 0
     ∷ entry "change" (InScript Change) 2 2 largest32 0
     ∷ entry "drop" (InScript Drop) 1 1 largest32 0
     ∷ entry "behind" (InScript Behind) 0 0 largest32 0

@@ -5,7 +5,7 @@ use Prim.Native.Nat.{_+_, _-_, _≤_, _<_}
 use native.Mathlib.Omega.{arith}
 use lib.ListN.{length, getD, length-set}
 use Rattle.text.specs.Reading.{splitWords}
-use Rattle.tool.specs.Verbs.{parameterIn}
+use Rattle.tool.specs.Verbs.{maxParameters, parameterIn}
 use Rattle.tool.proofs.Laws.Verbs.{limit-most, parameter-small}
 use Rattle.tool.proofs.Laws.Calls.{Sofar, at-first, a-number, no-number, no-more, unread-at}
 use borrow.Author.Needs.{needs}
@@ -13,7 +13,7 @@ use Rattle.arguments.proofs.parameters.Statement.{statement}
 use Rattle.arguments.proofs.parameters.Tie as tie
 
 abbrev Inv-loop : tie.InvT-loop
-Inv-loop arguments row count values₀ i₀ values i = (i ≤ count) × (length values ≡ 64) × Sofar row (splitWords arguments) i values
+Inv-loop arguments row count values₀ i₀ values i = (i ≤ count) × (length values ≡ maxParameters) × Sofar row (splitWords arguments) i values
 
 abbrev μ-loop : tie.MeasureT-loop
 μ-loop arguments row count values₀ i₀ values i = count - i

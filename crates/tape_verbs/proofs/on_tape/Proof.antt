@@ -1,14 +1,22 @@
 -- `on_tape` meets its contract: each arm replies what its verb means, on the first parameters, which are no more than a verb can have.
+use Prim.Native.Nat.{_≤_}
 use native.Mathlib.Omega.{arith}
-use lib.ListN.{length-take}
+use lib.ListN.{length, length-take}
 use Rattle.tool.specs.Verbs.{maxParameters}
 use Rattle.tool.specs.Replies.{tapeReply}
 use borrow.Author.Needs.{needs}
 use Rattle.tape_verbs.proofs.on_tape.Statement.{statement}
 use Rattle.tape_verbs.proofs.on_tape.Tie as tie
 
+-- the first parameters
+few : (c : tie.After-first) → length (c .first .result .now) ≤ maxParameters
+few c = rw (c .first .ensures) (omega (arith, length-take maxParameters (c .before .before .before .before .before .args .values .now)))
+
+raise-requires : tie.Need-raise-requires
+raise-requires c κs = few (c .before .before .before)
+
 play-requires : tie.Need-play-requires
-play-requires c κs = rw (c .before .before .before .first .ensures) (omega (arith, length-take maxParameters (c .before .before .before .before .before .before .before .before .args .values .now)))
+play-requires c κs = few (c .before .before .before)
 
 returns : tie.Need-returns
 unfolding tapeReply
@@ -32,15 +40,19 @@ returns-5 c = rw (c .before .before .before .before .before .before .enum-told5 
 
 returns-6 : tie.Need-returns-6
 unfolding tapeReply
-returns-6 c = rw (c .before .before .before .before .before .before .enum-told6 .given .1) (rw (c .before .before .before .trace .ensures .0, c .before .before .before .before .parameter3 .ensures, c .before .before .before .before .before .before .before .before .first .ensures) at (c .before .before .print-exponents .ensures))
+returns-6 c = rw (c .before .before .before .before .enum-told6 .given .1) (rw (c .before .before .before .before .before .before .first .ensures) at (c .before .before .raise .ensures))
 
 returns-7 : tie.Need-returns-7
 unfolding tapeReply
-returns-7 c = rw (c .before .before .before .before .before .before .enum-told7 .given .1) (rw (c .before .before .before .before .before .parameter4 .ensures, c .before .before .before .before .parameter5 .ensures, c .before .before .before .before .before .before .before .before .first .ensures) at (c .before .before .cut .ensures))
+returns-7 c = rw (c .before .before .before .before .before .before .enum-told7 .given .1) (rw (c .before .before .before .trace .ensures .0, c .before .before .before .before .parameter3 .ensures, c .before .before .before .before .before .before .before .before .first .ensures) at (c .before .before .print-exponents .ensures))
 
 returns-8 : tie.Need-returns-8
 unfolding tapeReply
-returns-8 c = rw (c .before .before .before .before .enum-told8 .given .1) (rw (c .before .before .before .before .before .before .first .ensures) at (c .before .before .play .ensures))
+returns-8 c = rw (c .before .before .before .before .before .before .enum-told8 .given .1) (rw (c .before .before .before .before .before .parameter4 .ensures, c .before .before .before .before .parameter5 .ensures, c .before .before .before .before .before .before .before .before .first .ensures) at (c .before .before .cut .ensures))
+
+returns-9 : tie.Need-returns-9
+unfolding tapeReply
+returns-9 c = rw (c .before .before .before .before .enum-told9 .given .1) (rw (c .before .before .before .before .before .before .first .ensures) at (c .before .before .play .ensures))
 
 pub on-tape-spec : {M : Type 1} → statement M
 on-tape-spec =
@@ -62,6 +74,8 @@ on-tape-spec =
     (λ c κs. search needs)
     (λ c κs. search needs)
     (λ c κs. search needs)
+    (λ c. search needs)
+    raise-requires
     (λ c. search needs)
     (λ c κs. search needs)
     (λ c κs. search needs)
@@ -87,4 +101,6 @@ on-tape-spec =
     (λ c. search needs)
     returns-7
     (λ c. search needs)
-    returns-8)
+    returns-8
+    (λ c. search needs)
+    returns-9)

@@ -1,5 +1,6 @@
 -- One command line for each verb, and what the tool replies to it, computed from the definitions: the verb finds its row, its parameters
--- are read, and each goes where it belongs. The tape is one step by hand, mul 0 1, for p = 7.
+-- are read, and each goes where it belongs. The tape is one step by hand, mul 0 1, for p = 7; raise, which takes named programs alone,
+-- has the basic one of p = 7, r = 3 and k = 2.
 use mathlib.Core.Path.{_≡_, refl}
 use mathlib.Core.List.{List, [], _∷_, map}
 use Prim.Native.Nat.{ℕ}
@@ -16,16 +17,20 @@ use Rattle.fibonacci.specs.Forms.{pad, greedy, zeckendorf, placesFrom, weight, 
 use Rattle.fibonacci.specs.Height.{reaches, firstFrom, height}
 use Rattle.fibonacci.specs.Hofstadter.{hofstadterTo, G}
 use Rattle.fibonacci.specs.Services.{fibonacciOutcome, numberOutcome}
-use Rattle.tape.specs.Words.{headingIn, actionIn, swapIn, decoded}
-use Rattle.tape.specs.Layout.{isLength, isHeader, isFreeOrNamed, allSteps, isEnd, laidOut, part}
+use Rattle.tape.specs.Words.{headingIn, actionIn, swapIn, decoded, stepWord, encoded}
+use Rattle.tape.specs.Layout.{isLength, isHeader, isFreeOrNamed, allSteps, isEnd, laidOut, part, programWords}
 use Rattle.encoding.specs.Encoding.{tapeOf, bytesOf, noTape, tapeIn}
-use Rattle.machine.specs.Machine.{apply, doAll, run}
+use Rattle.machine.specs.Machine.{apply, inverseStep, doAll, run, inverted}
 use Rattle.machine.specs.Exponents.{shift, shiftAll, inRange, allInRange, staysInRange}
+use Rattle.named.specs.Generators.{ascend, basic, drawn}
+use Rattle.named.specs.Named.{basicForms, formsIn, namedSteps, namedWords}
+use Rattle.named.specs.Members.{sameStep, sameSteps, isOneOf}
 use Rattle.named.specs.Parameters.{badModulus, badOrder, badVariant}
 use Rattle.program.specs.Services.{buildOutcome, checkRules}
 use Rattle.program.specs.Door.{onTape}
 use Rattle.program.specs.Same.{sameWords}
 use Rattle.sequencer.specs.Services.{badRegister, badRegisters, allowed, badBase, baseRules, loadOutcome, positionRules, runOutcome, forwardOutcome, traceRules, traceOutcome, badCut, cutRules, cutOutcome}
+use Rattle.sequencer.specs.Bases.{rowRules, raiseRules, raised, onRow, raiseOutcome, raisedBases}
 use Rattle.sequencer.specs.Lists.{afterAll, numbersAll, requestsOf}
 use Rattle.listing.specs.Listing.{stepLines}
 use Rattle.tool.specs.Verbs.{entries, names, rows, indexIn, rowNamed, variantIn, parameterIn}
@@ -60,6 +65,10 @@ tape-replies words said = record { given = reply (map ascii words) (bytesOf one-
 abbrev tape-prints : List String → String → Example
 tape-prints words text = tape-replies words (answers (ascii text))
 
+-- on a named program
+abbrev named-prints : List String → String → Example
+named-prints words text = record { given = reply (map ascii words) (bytesOf (namedWords 7 3 2 1)); said = answers (ascii text) }
+
 abbrev pub examples : List Example
 examples =
     replies ("build" ∷ "7" ∷ "3" ∷ "2" ∷ "free" ∷ []) (refuses 4 4)
@@ -71,6 +80,7 @@ examples =
     ∷ tape-prints ("load" ∷ "3" ∷ []) "1 3 1 1\n"
     ∷ tape-prints ("run" ∷ "1" ∷ "3" ∷ "1" ∷ "1" ∷ "0" ∷ "1" ∷ []) "3 3 1 1\n"
     ∷ tape-prints ("power" ∷ "3" ∷ []) "3\n3 3 1 1\n"
+    ∷ named-prints ("raise" ∷ "2" ∷ "4" ∷ []) "4 2\n"
     ∷ tape-prints ("trace" ∷ "1" ∷ []) "1 1 0 0\n"
     ∷ tape-replies ("cut" ∷ "1" ∷ "0" ∷ []) (refuses 10 10)
     ∷ tape-prints ("play" ∷ "1" ∷ "3" ∷ "1" ∷ "1" ∷ "0" ∷ "6" ∷ "0" ∷ "1" ∷ []) "3 3 1 1 0\n"
@@ -87,5 +97,5 @@ examples =
     ∷ []
 
 pub examples-hold : AllHold examples
-unfolding reply askedBy numbersFrom parameterIn variantIn rowNamed indexIn names rows entries built tapeReply numberReply digitOf allDigits valueFrom numberFrom inBase isHexadecimal parseNumber sameWords onTape decimalWithin decimal whole line outcome tapeIn noTape tapeOf bytesOf isLength isHeader isFreeOrNamed allSteps isEnd laidOut part decoded headingIn actionIn swapIn checkRules buildOutcome badModulus badOrder badVariant isPrime greatest gcd badExponent inverse inverseOutcome remainder times badRegister badRegisters allowed badBase loadOutcome baseRules positionRules traceRules runOutcome forwardOutcome traceOutcome badCut cutRules cutOutcome afterAll numbersAll requestsOf run doAll apply staysInRange allInRange inRange shiftAll shift stepLines fib lucas pad greedy zeckendorf placesFrom weight arePlaces reaches firstFrom height hofstadterTo G fibonacciOutcome numberOutcome
-examples-hold = (refl, (refl, (refl, (refl, (refl, (refl, (refl, (refl, (refl, (refl, (refl, (refl, (refl, (refl, (refl, (refl, (refl, (refl, (refl, (refl, (refl, (refl, tt))))))))))))))))))))))
+unfolding reply askedBy numbersFrom parameterIn variantIn rowNamed indexIn names rows entries built tapeReply numberReply digitOf allDigits valueFrom numberFrom inBase isHexadecimal parseNumber sameWords onTape decimalWithin decimal whole line outcome tapeIn noTape tapeOf bytesOf isLength isHeader isFreeOrNamed allSteps isEnd laidOut part programWords encoded stepWord decoded headingIn actionIn swapIn namedSteps formsIn basicForms drawn basic ascend inverted inverseStep isOneOf sameSteps sameStep checkRules buildOutcome badModulus badOrder badVariant isPrime greatest gcd badExponent inverse inverseOutcome remainder times badRegister badRegisters allowed badBase loadOutcome baseRules positionRules traceRules runOutcome forwardOutcome traceOutcome badCut cutRules cutOutcome rowRules raiseRules raised onRow raiseOutcome raisedBases afterAll numbersAll requestsOf run doAll apply staysInRange allInRange inRange shiftAll shift stepLines fib lucas pad greedy zeckendorf placesFrom weight arePlaces reaches firstFrom height hofstadterTo G fibonacciOutcome numberOutcome
+examples-hold = (refl, (refl, (refl, (refl, (refl, (refl, (refl, (refl, (refl, (refl, (refl, (refl, (refl, (refl, (refl, (refl, (refl, (refl, (refl, (refl, (refl, (refl, (refl, tt)))))))))))))))))))))))

@@ -22,9 +22,10 @@ use Rattle.encoding.specs.Encoding.{bytesOf}
 use Rattle.named.specs.Named.{namedWords}
 use Rattle.program.specs.Services.{buildOutcome, checkOutcome, acceptOutcome}
 use Rattle.sequencer.specs.Services.{loadOutcome, runOutcome, forwardOutcome, traceOutcome, cutOutcome}
+use Rattle.sequencer.specs.Bases.{raiseOutcome}
 use Rattle.listing.specs.Listing.{firstLine, stepLines, linesFor}
 use Rattle.tool.specs.declared.TapeVerb.{TapeVerb}
-use Rattle.tool.specs.declared.TapeVerb.the-variants.{Check, Listing, Load, Run, Power, Trace, Cut, Play}
+use Rattle.tool.specs.declared.TapeVerb.the-variants.{Check, Listing, Load, Run, Power, Raise, Trace, Cut, Play}
 use Rattle.tool.specs.declared.NumberVerb.{NumberVerb}
 use Rattle.tool.specs.declared.NumberVerb.the-variants.{Decode, Fibonacci, Places, NumberOf, Hofstadter, Inverse, Height, Prime, MulMod, PowMod}
 use Rattle.tool.specs.declared.Verb.{Verb}
@@ -106,6 +107,7 @@ on-tape-some Listing own v tape tapes = some-listing (acceptOutcome tape) (steps
 on-tape-some Load own v tape tapes = some-printed own (loadOutcome tape (at v 0)) numbersLine (λ n. some-line _)
 on-tape-some Run own v tape tapes = some-printed own (runOutcome tape (registersIn v) (at v 4) (at v 5)) numbersLine (λ n. some-line _)
 on-tape-some Power own v tape tapes = some-printed own (forwardOutcome tape (at v 0)) powerLines (λ w. front (numberLine (at w 1)) (numbersLine w) (some-line _))
+on-tape-some Raise own v tape tapes = some-printed own (raiseOutcome tape v) _ (λ n. some-line _)
 on-tape-some Trace own v tape tapes = some-printed own (traceOutcome tape (at v 0)) exponentsLine (λ n. some-line _)
 on-tape-some Cut own v tape tapes = some-printed own (cutOutcome tape (at v 0) (at v 1)) numbersLine (λ n. some-line _)
 on-tape-some Play own v tape tapes = some-line _
