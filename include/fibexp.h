@@ -31,7 +31,7 @@ enum fibexp_refusal {
     FIBEXP_MODULUS = 1,   /* p isn't a prime from 3 to 268435455 */
     FIBEXP_ORDER = 2,     /* r is below 2, or (except in fibexp_inverse) doesn't divide p - 1 */
     FIBEXP_EXPONENT = 3,  /* k isn't from 1 to r - 1, or shares a factor above 1 with r */
-    FIBEXP_VARIANT = 4,   /* build: not 1 to 3; check: above 3 */
+    FIBEXP_VARIANT = 4,   /* build: not 1 to 3; check: above 3; raise: also a tape made by hand */
     FIBEXP_ROOM = 5,      /* the row is shorter than the result */
     FIBEXP_LENGTH = 6,    /* a tape outside 5 to 512 words */
     FIBEXP_WORD = 7,      /* a word, its place or the end's count breaks the layout */
@@ -40,7 +40,8 @@ enum fibexp_refusal {
     FIBEXP_POSITION = 10, /* a position above the step count; in a cut also first above last */
     FIBEXP_BASE = 11,     /* named program, and base^r isn't 1 modulo p */
     FIBEXP_RANGE = 12,    /* an exponent outside -2^62 to 2^62, or a sum of places above 64 bits */
-    FIBEXP_INDEX = 13     /* an index above 93, or a list that isn't a Zeckendorf form of places 1 to 92 */
+    FIBEXP_INDEX = 13,    /* an index above 93, or a list that isn't a Zeckendorf form of places 1 to 92 */
+    FIBEXP_COUNT = 14     /* a row of more than 64 bases */
 };
 
 /* The variants of named programs; FIBEXP_FREE is that of a tape made by hand, which fibexp_build doesn't write. */
@@ -51,8 +52,9 @@ enum fibexp_variant {
     FIBEXP_HYBRID = 3
 };
 
-/* Sizes that are always enough. */
+/* Sizes that are always enough; of bases, the most that fibexp_raise takes. */
 enum fibexp_most {
+    FIBEXP_MOST_BASES = 64,        /* bases of a row */
     FIBEXP_MOST_PLACES = 46,       /* places of a 64-bit number */
     FIBEXP_MOST_WORDS = 512,       /* words of a tape */
     FIBEXP_MOST_TAPE_BYTES = 2048, /* bytes of a tape */
@@ -101,6 +103,14 @@ uint32_t fibexp_load(const uint32_t *tape, size_t words, uint32_t base, uint32_t
  * `from` and come out as they stand at `to`. Refusals: those of fibexp_check, REGISTER, POSITION.
  */
 uint32_t fibexp_run(const uint32_t *tape, size_t words, uint32_t registers[4], uint32_t from, uint32_t to);
+
+/*
+ * Many bases in one pass through a named program, in place: each base is replaced by what fibexp_load and fibexp_run,
+ * forward from end to end, would leave of it in register 1, which is its power base^k modulo p. Where any base is bad,
+ * all stay. A row of 0 bases is answered too. Refusals: those of fibexp_check; VARIANT for a tape made by hand; COUNT;
+ * then, base by base from the first on, REGISTER, BASE.
+ */
+uint32_t fibexp_raise(const uint32_t *tape, size_t words, uint32_t *bases, size_t count);
 
 /*
  * Each register's whole exponent at a position, from (0, 1, 0, 0) at position 0. Writes the four exponents.

@@ -12,6 +12,7 @@ ghost use Rattle.fibonacci.specs.Height.{height};
 ghost use Rattle.fibonacci.specs.Services.{fibonacciOutcome, placesOutcome, placesBuffer, numberOutcome, bit};
 ghost use Rattle.program.specs.Services.{roomOutcome, buildOutcome, buildBuffer, checkOutcome};
 ghost use Rattle.sequencer.specs.Services.{loadOutcome, runOutcome, traceOutcome, cutOutcome, cutPart, cutStart, cutCount};
+ghost use Rattle.sequencer.specs.Bases.{raiseOutcome, raisedBases};
 ghost use Rattle.listing.specs.Listing.{listingOf, listingAnswer, listingBuffer};
 ghost use Rattle.text.specs.Reading.{splitWords};
 ghost use Rattle.text.specs.Rows.{Put};
@@ -120,6 +121,15 @@ pub extern "C" fn fibexp_run(tape: &[u32], registers: &mut [u32; 4], from: u32, 
 {
     let held = registers_in(*registers);
     store_registers(running::run(tape, held, from, to), registers)
+}
+
+// Many bases in one pass, in place: check's refusals, 4, 14, then 9 and 11 of each base.
+#[no_mangle]
+pub extern "C" fn fibexp_raise(tape: &[u32], bases: &mut [u32]) -> u32
+    ensures { λ number. ⌜ number ≡ refusalNumber (raiseOutcome (now (tape .entry)) (now (bases .entry))) ⌝ }
+    ensures { λ _. ⌜ now (bases .exit) ≡ raisedBases (now (tape .entry)) (now (bases .entry)) ⌝ }
+{
+    number_of(raising::raise(tape, bases))
 }
 
 // Trace: check's refusals, 10, 12.
