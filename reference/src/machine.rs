@@ -1,4 +1,4 @@
-//! Load, run, lists of runs, trace and cut: what the steps of an accepted tape do.
+//! Load, run, raise, lists of runs, trace and cut: what the steps of an accepted tape do.
 
 use crate::modular::Modulus;
 use crate::program::accept;
@@ -7,6 +7,8 @@ use crate::tape::{self, Program};
 
 /// Exponents of a trace stay from −2^62 to 2^62.
 const EXPONENT_LIMIT: u64 = 1 << 62;
+/// A row of bases has no more.
+const MOST_BASES: usize = 64;
 
 /// Load: check's refusals, then 9, 11; answers (1, a, 1, 1).
 pub fn load(tape: &[u32], base: u32) -> Result<[u32; 4], u32> {
@@ -43,6 +45,32 @@ pub fn run(tape: &[u32], registers: [u32; 4], from: u32, to: u32) -> Result<[u32
         }
     }
     Ok(units.map(|unit| unit.value as u32))
+}
+
+/// Raise: check's refusals, then 4 for a free program, 14, and base by base 9, 11. Each base becomes what
+/// its load and run from end to end leave in register 1.
+pub fn raise(tape: &[u32], bases: &mut [u32]) -> Result<(), u32> {
+    let program = accept(tape)?;
+    if program.variant == tape::FREE {
+        return Err(refusal::VARIANT);
+    }
+    if bases.len() > MOST_BASES {
+        return Err(refusal::COUNT);
+    }
+    let modulus = Modulus::new(program.p);
+    let units: Result<Vec<Unit>, u32> = bases
+        .iter()
+        .map(|&base| base_with_inverse(base, &program, modulus))
+        .collect();
+    let ones = vec![Unit::ONE; bases.len()];
+    let mut rows = [ones.clone(), units?, ones.clone(), ones];
+    for &step in program.steps {
+        act_on_rows(&mut rows, modulus, step);
+    }
+    for (base, unit) in bases.iter_mut().zip(&rows[1]) {
+        *base = unit.value as u32;
+    }
+    Ok(())
 }
 
 /// Trace: check's refusals, then 10, 12; answers each register's exponent at a position.
@@ -101,6 +129,27 @@ struct Unit {
     inverse: u64,
 }
 
+impl Unit {
+    const ONE: Unit = Unit {
+        value: 1,
+        inverse: 1,
+    };
+
+    fn inverted(self) -> Unit {
+        Unit {
+            value: self.inverse,
+            inverse: self.value,
+        }
+    }
+
+    fn times(self, factor: Unit, modulus: Modulus) -> Unit {
+        Unit {
+            value: modulus.product(self.value, factor.value),
+            inverse: modulus.product(self.inverse, factor.inverse),
+        }
+    }
+}
+
 /// Inverts the product of the four and takes the single inverses from it.
 fn with_inverses(registers: [u32; 4], modulus: Modulus) -> [Unit; 4] {
     let mut before = [1u64; 5];
@@ -124,19 +173,43 @@ fn with_inverses(registers: [u32; 4], modulus: Modulus) -> [Unit; 4] {
 /// Does one step of the given kind on the step's registers.
 fn act(units: &mut [Unit; 4], modulus: Modulus, kind: u32, step: u32) {
     let (target, source) = (tape::target(step), tape::source(step));
-    let (old, by) = (units[target], units[source]);
+    let by = units[source];
     let factor = match kind {
         tape::MUL => by,
-        tape::DIV => Unit {
-            value: by.inverse,
-            inverse: by.value,
-        },
+        tape::DIV => by.inverted(),
         _ => return units.swap(target, source),
     };
-    units[target] = Unit {
-        value: modulus.product(old.value, factor.value),
-        inverse: modulus.product(old.inverse, factor.inverse),
-    };
+    units[target] = units[target].times(factor, modulus);
+}
+
+/// A base of a named program: its refusals 9, 11. Where a^r is 1, a^(r − 1) is the inverse, so one power
+/// gives both.
+fn base_with_inverse(base: u32, program: &Program, modulus: Modulus) -> Result<Unit, u32> {
+    if !is_register(base, program.p) {
+        return Err(refusal::REGISTER);
+    }
+    let value = base as u64;
+    let inverse = modulus.power(value, program.r as u64 - 1);
+    if modulus.product(value, inverse) != 1 {
+        return Err(refusal::BASE);
+    }
+    Ok(Unit { value, inverse })
+}
+
+/// Does one step for every base: each register is a row, with the bases side by side.
+fn act_on_rows(rows: &mut [Vec<Unit>; 4], modulus: Modulus, step: u32) {
+    let (target, source) = (tape::target(step), tape::source(step));
+    let kind = tape::kind(step);
+    if kind == tape::SWP {
+        return rows.swap(target, source);
+    }
+    let [olds, factors] = rows
+        .get_disjoint_mut([target, source])
+        .expect("a step has two registers");
+    for (old, &mut by) in olds.iter_mut().zip(factors) {
+        let factor = if kind == tape::MUL { by } else { by.inverted() };
+        *old = old.times(factor, modulus);
+    }
 }
 
 /// Undone, mul is div, div is mul, swp is swp.

@@ -1,4 +1,4 @@
-//! Document 01's refusals by their words.
+//! The refusals of documents 01 and 02 by their words; a comment gives the word where it is another.
 
 pub const MODULUS: u32 = 1;
 pub const ORDER: u32 = 2;
@@ -13,3 +13,5 @@ pub const POSITION: u32 = 10;
 pub const BASE: u32 = 11;
 pub const RANGE: u32 = 12;
 pub const INDEX: u32 = 13;
+/// Document 02: crowd.
+pub const COUNT: u32 = 14;

@@ -256,6 +256,76 @@ fn power(a: u32, k: u32, p: u32) -> u32 {
     result as u32
 }
 
+/// What load and run from end to end leave of each base in register 1.
+fn each_alone(tape: &[u32], bases: &[u32]) -> Vec<u32> {
+    let steps = tape.len() as u32 - 5;
+    bases
+        .iter()
+        .map(|&base| run(tape, load(tape, base).unwrap(), 0, steps).unwrap()[1])
+        .collect()
+}
+
+/// The row after its raise, which isn't refused.
+fn raised(tape: &[u32], bases: &[u32]) -> Vec<u32> {
+    let mut row = bases.to_vec();
+    assert_eq!(raise(tape, &mut row), Ok(()), "{bases:?}");
+    row
+}
+
+#[test]
+fn a_row_of_the_worked_example() {
+    for variant in 1..=3 {
+        let tape = built(359, 179, 76, variant);
+        assert_eq!(raised(&tape, &[4, 16, 64]), [266, 33, 162]);
+    }
+}
+
+/// Every named program of small primes: all bases that it takes are raised in one row, and each other is
+/// refused as load refuses it.
+#[test]
+fn rows_of_every_base() {
+    for p in (3..=61).filter(|&p| common::is_prime(p)) {
+        for r in (2..p).filter(|r| (p - 1) % r == 0) {
+            for k in (1..r).filter(|&k| gcd(k, r) == 1) {
+                (1..=3).for_each(|variant| every_base(p, r, k, variant));
+            }
+        }
+    }
+}
+
+fn every_base(p: u32, r: u32, k: u32, variant: u32) {
+    let tape = built(p, r, k, variant);
+    let plain = |a: u32, exponent: u32| (0..exponent).fold(1, |x, _| x * a % p);
+    let (good, bad): (Vec<u32>, Vec<u32>) = (0..=p + 1).partition(|&a| plain(a, r) == 1 && a < p);
+    let powers: Vec<u32> = good.iter().map(|&a| plain(a, k)).collect();
+    assert_eq!(raised(&tape, &good), powers, "{p} {r} {k} {variant}");
+    assert_eq!(each_alone(&tape, &good), powers);
+    for base in bad {
+        let mut row = [1, base];
+        assert_eq!(raise(&tape, &mut row), load(&tape, base).map(|_| ()));
+        assert_eq!(row, [1, base]);
+    }
+}
+
+/// Rows of up to 64 bases of the largest prime, in any order and some of them equal.
+#[test]
+fn rows_of_the_largest_prime() {
+    let (p, mut noise) = (268435399, Noise(21));
+    for count in [0, 1, 2, 3, 17, 63, 64] {
+        for r in [p - 1, (p - 1) / 2, (p - 1) / 6, 6, 3, 2] {
+            let k = (1 + noise.below(r as u64 - 1) as u32..r)
+                .find(|&k| gcd(k, r) == 1)
+                .unwrap_or(1);
+            let tape = built(p, r, k, 1 + noise.below(3) as u32);
+            let drawn = (0..count).map(|_| 1 + noise.below(p as u64 - 1) as u32);
+            let bases: Vec<u32> = drawn.map(|x| power(x, (p - 1) / r, p)).collect();
+            let powers: Vec<u32> = bases.iter().map(|&a| power(a, k, p)).collect();
+            assert_eq!(raised(&tape, &bases), powers, "{r} {k}");
+            assert_eq!(each_alone(&tape, &bases), powers);
+        }
+    }
+}
+
 /// Lemma 1: for odd ℓ' and k < φ^ℓ', G(k F_(ℓ'+1)) = k F_ℓ'.
 #[test]
 fn lemma_1() {

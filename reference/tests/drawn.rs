@@ -4,8 +4,8 @@ use reference::drawing::calls;
 use reference::script::script;
 use std::collections::HashMap;
 
-/// The refusals that document 01 lists for the services behind the verbs.
-const REFUSALS: [(&str, &[u32]); 11] = [
+/// The refusals that documents 01 and 02 list for the services behind the verbs.
+const REFUSALS: [(&str, &[u32]); 12] = [
     ("fibonacci", &[13]),
     ("places", &[5]),
     ("number", &[12, 13]),
@@ -15,10 +15,12 @@ const REFUSALS: [(&str, &[u32]); 11] = [
     ("load", &[6, 7, 4, 1, 2, 3, 8, 9, 11]),
     ("run", &[6, 7, 4, 1, 2, 3, 8, 9, 10]),
     ("power", &[6, 7, 4, 1, 2, 3, 8, 9, 11]),
+    ("raise", &[6, 7, 4, 1, 2, 3, 8, 14, 9, 11]),
     ("trace", &[6, 7, 4, 1, 2, 3, 8, 10, 12]),
     ("cut", &[6, 7, 4, 1, 2, 3, 8, 10]),
 ];
 const OFTEN: usize = 20;
+const FEW: usize = 8;
 
 /// Each line of a script with what it prints.
 fn told(lines: &[u8]) -> Vec<(String, String)> {
@@ -100,6 +102,28 @@ fn every_refusal_often() {
     assert!(begins("fibexp: \"") >= 5 * OFTEN);
     // Listings that don't fit their room.
     assert!(begins("0 5\n") >= OFTEN);
+}
+
+/// Rows of bases are answered up to 64, and refused for their length above.
+#[test]
+fn rows_of_bases_of_every_length() {
+    let told = told(&calls::script());
+    let count = |length: usize, is_it: fn(&str) -> bool| {
+        let raises = told.iter().filter(|(line, text)| {
+            let words: Vec<&str> = line.split(' ').collect();
+            words[0] == "raise" && words.len() == length + 1 && is_it(text)
+        });
+        raises.count()
+    };
+    let answered = |text: &str| !text.starts_with("fibexp: ");
+    for length in [0, 1, 2, 3, 63, 64] {
+        assert!(count(length, answered) >= FEW, "{length} bases");
+    }
+    for length in [65, 66] {
+        assert_eq!(count(length, answered), 0);
+        let refused = |text: &str| text.starts_with("fibexp: refused 14: ");
+        assert!(count(length, refused) >= FEW, "{length} bases");
+    }
 }
 
 #[test]

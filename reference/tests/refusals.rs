@@ -1,4 +1,4 @@
-//! Each refusal of document 01, the order in which they apply, and what a refused call leaves.
+//! Each refusal of documents 01 and 02, the order in which they apply, and what a refused call leaves.
 
 mod common;
 
@@ -190,37 +190,39 @@ fn words() {
     assert_eq!(check(&with(&tape, 5, 0xF0000003)), Err(7));
 }
 
+/// A tape of no steps.
+fn stepless(variant: u32, p: u32, r: u32, k: u32) -> Vec<u32> {
+    let heads = [
+        variant << 8 | 0x10000001,
+        0x20000000 | p,
+        0x30000000 | r,
+        0x40000000 | k,
+    ];
+    [&heads[..], &[0xF0000000]].concat()
+}
+
 /// Check's refusals apply in the order 6, 7, 4, 1, 2, 3, 8.
 #[test]
 fn check_order() {
-    let tape = |variant: u32, p: u32, r: u32, k: u32| {
-        let heads = [
-            variant << 8 | 0x10000001,
-            0x20000000 | p,
-            0x30000000 | r,
-            0x40000000 | k,
-        ];
-        [&heads[..], &[0xF0000000]].concat()
-    };
     for variant in 4..16 {
-        assert_eq!(check(&tape(variant, 9, 0, 0)), Err(4));
-        assert_eq!(check(&tape(variant, 9, 5, 5)), Err(4));
+        assert_eq!(check(&stepless(variant, 9, 0, 0)), Err(4));
+        assert_eq!(check(&stepless(variant, 9, 5, 5)), Err(4));
     }
-    assert_eq!(check(&with(&tape(4, 9, 0, 0), 4, 0xF0000001)), Err(7));
+    assert_eq!(check(&with(&stepless(4, 9, 0, 0), 4, 0xF0000001)), Err(7));
     for variant in 1..4 {
-        assert_eq!(check(&tape(variant, 9, 0, 0)), Err(1));
-        assert_eq!(check(&tape(variant, 2, 0, 0)), Err(1));
-        assert_eq!(check(&tape(variant, 7, 0, 0)), Err(2));
-        assert_eq!(check(&tape(variant, 7, 1, 0)), Err(2));
-        assert_eq!(check(&tape(variant, 7, 4, 0)), Err(2));
-        assert_eq!(check(&tape(variant, 7, 6, 0)), Err(3));
-        assert_eq!(check(&tape(variant, 7, 6, 4)), Err(3));
-        assert_eq!(check(&tape(variant, 7, 6, 5)), Err(8));
+        assert_eq!(check(&stepless(variant, 9, 0, 0)), Err(1));
+        assert_eq!(check(&stepless(variant, 2, 0, 0)), Err(1));
+        assert_eq!(check(&stepless(variant, 7, 0, 0)), Err(2));
+        assert_eq!(check(&stepless(variant, 7, 1, 0)), Err(2));
+        assert_eq!(check(&stepless(variant, 7, 4, 0)), Err(2));
+        assert_eq!(check(&stepless(variant, 7, 6, 0)), Err(3));
+        assert_eq!(check(&stepless(variant, 7, 6, 4)), Err(3));
+        assert_eq!(check(&stepless(variant, 7, 6, 5)), Err(8));
     }
-    assert_eq!(check(&tape(0, 9, 0, 0)), Err(1));
-    assert_eq!(check(&tape(0, 9, 2, 0)), Err(7));
-    assert_eq!(check(&tape(0, 7, 0, 1)), Err(7));
-    assert_eq!(check(&tape(0, 7, 0, 0)), Ok(()));
+    assert_eq!(check(&stepless(0, 9, 0, 0)), Err(1));
+    assert_eq!(check(&stepless(0, 9, 2, 0)), Err(7));
+    assert_eq!(check(&stepless(0, 7, 0, 1)), Err(7));
+    assert_eq!(check(&stepless(0, 7, 0, 0)), Ok(()));
 }
 
 /// One flipped bit in a step, or another k or variant, makes a named tape a stranger or breaks a word.
@@ -284,6 +286,82 @@ fn registers_and_bases() {
     assert_eq!(load(&free(7, &[]), 3), Ok([1, 3, 1, 1]));
     assert_eq!(load(&tape[..4], 3), Err(6));
     assert_eq!(load(&with(&tape, 4, 0), 0), Err(7));
+}
+
+/// Refuses a row of bases, and leaves it.
+fn refuses_row(tape: &[u32], bases: &[u32], refusal: u32) {
+    let mut row = bases.to_vec();
+    assert_eq!(raise(tape, &mut row), Err(refusal), "{bases:?}");
+    assert_eq!(row, bases);
+}
+
+/// Raise's refusals apply in the order of check's 6, 7, 4, 1, 2, 3, 8, then 4, 14, and those of the bases.
+#[test]
+fn raise_order() {
+    let named = built(7, 3, 2, 1);
+    let tapes = [
+        (named[..4].to_vec(), 6),
+        (vec![0; 513], 6),
+        (with(&named, 4, 0), 7),
+        (stepless(4, 9, 0, 0), 4),
+        (stepless(15, 7, 3, 2), 4),
+        (stepless(0, 9, 0, 0), 1),
+        (stepless(1, 9, 0, 0), 1),
+        (stepless(2, 7, 4, 0), 2),
+        (stepless(3, 7, 6, 4), 3),
+        (stepless(1, 7, 3, 2), 8),
+        (with(&named, 4, step(DIV, 0, 1)), 8),
+        (free(7, &[]), 4),
+        (free(7, &[step(MUL, 0, 1)]), 4),
+        (named.clone(), 14),
+    ];
+    // 0 is out of range, 3 has order 6 modulo 7; 65 of them are too many, too.
+    for (tape, refusal) in &tapes {
+        for base in [0, 3, 7, u32::MAX] {
+            refuses_row(tape, &[base; 65], *refusal);
+            refuses_row(tape, &[base; 1000], *refusal);
+        }
+        refuses_row(tape, &[1; 65], *refusal);
+    }
+    // A row of no bases, and one of good ones, is refused for the tape alone.
+    for (tape, refusal) in &tapes[..tapes.len() - 1] {
+        refuses_row(tape, &[], *refusal);
+        refuses_row(tape, &[1, 2, 4], *refusal);
+    }
+}
+
+/// The first base that is refused alone gives the row's refusal.
+#[test]
+fn rows_of_bases() {
+    let tape = built(7, 3, 2, 1);
+    for base in [0, 7, 8, u32::MAX] {
+        refuses_row(&tape, &[base], 9);
+        refuses_row(&tape, &[base, 3], 9);
+        refuses_row(&tape, &[3, base], 11);
+        refuses_row(&tape, &[1, 2, 3, 4, base, 1], 11);
+        refuses_row(&tape, &[1, 2, base, 4, 3, 1], 9);
+    }
+    for base in [3, 5, 6] {
+        refuses_row(&tape, &[base], 11);
+    }
+    for place in 0..64 {
+        for (base, refusal) in [(0, 9), (7, 9), (u32::MAX, 9), (6, 11)] {
+            let mut row = [2; 64];
+            row[place] = base;
+            refuses_row(&tape, &row, refusal);
+        }
+    }
+    // A good row is raised, of no bases and of the most.
+    assert_eq!(raise(&tape, &mut []), Ok(()));
+    for count in [1, 2, 63, 64] {
+        let mut row = vec![2; count];
+        assert_eq!(raise(&tape, &mut row), Ok(()));
+        assert_eq!(row, vec![4; count]);
+    }
+    // Where r is p − 1 no base from 1 to p − 1 is refused.
+    let mut row = [1, 2, 3, 4, 5, 6];
+    assert_eq!(raise(&built(7, 6, 5, 2), &mut row), Ok(()));
+    assert_eq!(row, [1, 4, 5, 2, 3, 6]);
 }
 
 #[test]

@@ -103,6 +103,9 @@ fn tapes() {
     answers(&tape, "load 2", "1 2 1 1");
     answers(&tape, "run 1 2 1 1 0 11", "1 2 1 1");
     answers(&tape, "power 2", "2\n1 2 1 1");
+    answers(&tape, "raise 2 1 2", "2 1 2");
+    answers(&tape, "raise", "");
+    answers(&built(359, 179, 76, 3), "raise 4 0x10 064", "266 33 162");
     answers(&tape, "trace 11", "0 1 0 0");
     answers(&tape, "cut 0 2", "1342177284 1879048196");
     answers(&tape, "cut 5 5", "");
@@ -154,8 +157,15 @@ fn complaints() {
     complains("trace", "trace takes 1 parameter, 0 given");
     complains("--help me", "--help takes 0 parameters, 1 given");
     complains("play 1 2 3", "play takes 4 to 64 parameters, 3 given");
-    let many = "number".to_string() + &" 1".repeat(65);
-    complains(&many, "number takes 0 to 64 parameters, 65 given");
+    for (verb, count, takes) in [
+        ("number", 65, "0 to 64"),
+        ("play", 65, "4 to 64"),
+        ("raise", 67, "0 to 66"),
+    ] {
+        let many = verb.to_string() + &" 1".repeat(count);
+        let text = format!("{verb} takes {takes} parameters, {count} given");
+        complains(&many, &text);
+    }
     let not_32 = "not a whole number from 0 to 4294967295";
     for word in [
         "abc",
@@ -229,7 +239,7 @@ fn reasons_of_numbers() {
     let exponent = "3: k must be from 1 to r-1 and share no factor with r";
     refuses(&[], "build 5 4 2 basic", exponent);
     refuses(&[], "inverse 2 4", exponent);
-    let variant = "4: the variant is none of those known";
+    let variant = "4: the variant must be that of a named program";
     refuses(&[], "build 3 2 1 free", variant);
     refuses(&[], "build 3 2 1 4", variant);
     refuses(&[], "inverse 1 1", "2: r must be at least 2");
@@ -254,6 +264,8 @@ fn reasons_of_tapes() {
         "load 0",
         "run 0 0 0 0 9 9",
         "power 0",
+        "raise 0",
+        "raise",
         "trace 9",
         "cut 9 0",
     ] {
@@ -315,6 +327,19 @@ fn reasons_of_tapes() {
         "load 3",
         "11: the base's power r isn't 1",
     );
+    let named = "4: the variant must be that of a named program";
+    refuses(&free(7, &[]), "raise 0", named);
+    refuses(&with(0, 0x10000401), "raise", named);
+    for count in [65, 66] {
+        let many = "raise".to_string() + &" 0".repeat(count);
+        refuses(&CASE_A, &many, "14: a row has at most 64 bases");
+    }
+    refuses(&CASE_A, "raise 2 3", "9: the base must be from 1 to p-1");
+    refuses(
+        &built(7, 3, 2, 1),
+        "raise 2 3 0",
+        "11: the base's power r isn't 1",
+    );
     let growing: Vec<u32> = (0..100).map(|i| step(MUL, i % 2, 1 - i % 2)).collect();
     refuses(
         &free(3, &growing),
@@ -326,7 +351,7 @@ fn reasons_of_tapes() {
 #[test]
 fn bytes_that_are_no_whole_words() {
     let part = "fibexp: refused 6: standard input isn't whole words of 4 bytes\n";
-    for line in ["check", "load 2", "trace 0"] {
+    for line in ["check", "load 2", "raise 2 0", "trace 0"] {
         let words: Vec<&[u8]> = line.split(' ').map(str::as_bytes).collect();
         for count in [1, 5, 21, 2047, 2049] {
             let reply = reply(&words, &vec![0; count]);

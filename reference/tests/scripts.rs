@@ -83,6 +83,27 @@ fn tape_at_hand() {
 }
 
 #[test]
+fn a_row_of_bases() {
+    let words: Vec<String> = CASE_A.map(|word| word.to_string()).to_vec();
+    let tape = format!("tape {}\n", words.join(" "));
+    let long = format!("raise{}\n", " 3".repeat(66));
+    // It takes no notice of a room, and leaves the tape at hand.
+    prints(
+        &format!("{tape}room 1\nraise 2 1\n{long}raise 3\nraise\nraise = \n"),
+        "16\n1\n2 1\nfibexp: refused 14: a row has at most 64 bases\n\
+         fibexp: refused 9: the base must be from 1 to p-1\n\n\n= : yes\n",
+    );
+    prints(
+        &format!("{tape}raise{}\ncheck\n", " 2".repeat(67)),
+        "16\nfibexp: raise takes 0 to 66 parameters, 67 given\n0\n",
+    );
+    prints(
+        &format!("tape{}\n", " 2".repeat(65)),
+        "fibexp: tape takes 0 to 64 parameters, 65 given\n",
+    );
+}
+
+#[test]
 fn a_change_out_of_range() {
     let none = "fibexp: no such word in the tape\n";
     prints("change 0 0\n", none);
@@ -165,7 +186,7 @@ fn rooms() {
         "room 2\nbuild 3 2 1 1\nbuild 3 2 1 4\nbuild 3 2 1 x\ncheck\n",
         &format!(
             "2\n{short}255 255\n\
-             fibexp: refused 4: the variant is none of those known\n255 255\n\
+             fibexp: refused 4: the variant must be that of a named program\n255 255\n\
              fibexp: \"x\": no variant; basic, dual, hybrid or 1 to 3\n\
              fibexp: refused 6: a tape has 5 to 512 words\n"
         ),

@@ -1,4 +1,4 @@
-//! The functions of include/fibexp.h. Each service answers document 01's number, 0 where the call isn't
+//! The functions of include/fibexp.h. Each service answers the refusal's number, 0 where the call isn't
 //! refused; `hofstadter` answers G(n) and `height` h. `reply` answers the status of the tool's reply.
 
 mod c {
@@ -27,6 +27,7 @@ mod c {
             from: u32,
             to: u32,
         ) -> u32;
+        pub fn fibexp_raise(tape: *const u32, words: usize, bases: *mut u32, count: usize) -> u32;
         pub fn fibexp_trace(
             tape: *const u32,
             words: usize,
@@ -99,6 +100,10 @@ pub fn load(tape: &[u32], base: u32, registers: &mut [u32; 4]) -> u32 {
 
 pub fn run(tape: &[u32], registers: &mut [u32; 4], from: u32, to: u32) -> u32 {
     unsafe { c::fibexp_run(tape.as_ptr(), tape.len(), registers.as_mut_ptr(), from, to) }
+}
+
+pub fn raise(tape: &[u32], bases: &mut [u32]) -> u32 {
+    unsafe { c::fibexp_raise(tape.as_ptr(), tape.len(), bases.as_mut_ptr(), bases.len()) }
 }
 
 pub fn trace(tape: &[u32], position: u32, exponents: &mut [i64; 4]) -> u32 {

@@ -12,13 +12,14 @@ pub enum Service {
     Check,
     Load,
     Run,
+    Raise,
     Trace,
     Cut,
     Listing,
     Reply,
 }
 
-const SERVICES: [Service; 14] = [
+const SERVICES: [Service; 15] = [
     Service::Fibonacci,
     Service::Places,
     Service::Number,
@@ -29,14 +30,15 @@ const SERVICES: [Service; 14] = [
     Service::Check,
     Service::Load,
     Service::Run,
+    Service::Raise,
     Service::Trace,
     Service::Cut,
     Service::Listing,
     Service::Reply,
 ];
 
-/// 0 and document 01's refusals.
-const NUMBERS: usize = 14;
+/// 0 and the refusals of documents 01 and 02.
+const NUMBERS: usize = 15;
 
 impl Service {
     fn name(self) -> &'static str {
@@ -51,6 +53,7 @@ impl Service {
             Service::Check => "check",
             Service::Load => "load",
             Service::Run => "run",
+            Service::Raise => "raise",
             Service::Trace => "trace",
             Service::Cut => "cut",
             Service::Listing => "listing",
@@ -58,7 +61,7 @@ impl Service {
         }
     }
 
-    /// The refusals that document 01 lists for the service; of the tool's reply its other statuses.
+    /// The refusals that documents 01 and 02 list for the service; of the tool's reply its other statuses.
     fn refusals(self) -> &'static [usize] {
         match self {
             Service::Fibonacci => &[13],
@@ -70,6 +73,7 @@ impl Service {
             Service::Check => &[6, 7, 4, 1, 2, 3, 8],
             Service::Load => &[6, 7, 4, 1, 2, 3, 8, 9, 11],
             Service::Run => &[6, 7, 4, 1, 2, 3, 8, 9, 10],
+            Service::Raise => &[6, 7, 4, 1, 2, 3, 8, 14, 9, 11],
             Service::Trace => &[6, 7, 4, 1, 2, 3, 8, 10, 12],
             Service::Cut => &[6, 7, 4, 1, 2, 3, 8, 10],
             Service::Listing => &[6, 7, 4, 1, 2, 3, 8, 5],

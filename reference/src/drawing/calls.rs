@@ -46,6 +46,7 @@ fn round(lines: &mut Lines, fields: &Fields) {
 /// Every verb but build, most on the tape at hand.
 pub(super) fn asks(lines: &mut Lines, fields: &Fields) {
     powers(lines);
+    raises(lines);
     exponents(lines);
     list(lines);
     plays(lines);
@@ -59,11 +60,11 @@ pub(super) fn asks(lines: &mut Lines, fields: &Fields) {
 /// Besides the ways of `tapes::tape`, more often at the edge of the exponents' range and with a header that
 /// isn't the steps' own, or too short, so that each refusal of a tape is met often.
 pub(super) fn tape(fields: &Fields, noise: &mut Noise) -> Vec<u32> {
-    match noise.below(15) {
+    match noise.below(16) {
         0..=2 => tapes::edge(fields, noise),
-        3..=6 => tapes::header_of(fields, noise),
-        7 => tapes::too_short(noise),
-        8..=10 => named(fields.lawful(noise)),
+        3..=7 => tapes::header_of(fields, noise),
+        8 => tapes::too_short(noise),
+        9..=11 => named(fields.lawful(noise)),
         _ => tapes::tape(fields, noise),
     }
 }
@@ -110,6 +111,14 @@ fn base(noise: &mut Noise, p: u32, r: u32) -> u32 {
         0 => noise.pick(&[0, p, p.wrapping_add(1)]),
         1..=4 => noise.between(1, p.max(2) - 1),
         _ => values::base(noise, p, r),
+    }
+}
+
+fn raises(lines: &mut Lines) {
+    let (p, r) = modulus_and_order(&lines.tape);
+    for _ in 0..3 {
+        let bases = values::bases(&mut lines.noise, p, r);
+        lines.small_call("raise", &bases);
     }
 }
 

@@ -4,13 +4,14 @@ use crate::drawing::lines::Lines;
 use crate::drawing::noise::Noise;
 
 /// Verbs, each with a count of parameters that it takes.
-const VERBS: [(&str, usize); 25] = [
+const VERBS: [(&str, usize); 26] = [
     ("build", 4),
     ("check", 0),
     ("list", 0),
     ("load", 1),
     ("run", 6),
     ("power", 1),
+    ("raise", 3),
     ("trace", 1),
     ("cut", 2),
     ("play", 4),
@@ -32,6 +33,9 @@ const VERBS: [(&str, usize); 25] = [
     ("room", 1),
 ];
 
+/// More parameters than any verb takes.
+const TOO_MANY: usize = 67;
+
 /// A line with another verb, another count, or a parameter that isn't read. None changes the row.
 pub(super) fn line(lines: &mut Lines) {
     let noise = &mut lines.noise;
@@ -39,7 +43,7 @@ pub(super) fn line(lines: &mut Lines) {
     let line = match noise.below(4) {
         0 => word(noise),
         1 => {
-            let numbers = many_numbers(noise, 66);
+            let numbers = many_numbers(noise, TOO_MANY);
             [verb.as_bytes(), &numbers].concat()
         }
         2 if count > 1 => {

@@ -1,4 +1,4 @@
-//! Numbers, orders, lists of places, positions, registers, bases and rooms.
+//! Numbers, orders, lists of places, positions, registers, bases, rows of bases and rooms.
 
 use crate::drawing::noise::Noise;
 use crate::drawing::parameters::power;
@@ -8,6 +8,8 @@ use crate::{fibonacci, places};
 pub const MOST_PLACES: usize = 46;
 const LAST_INDEX: u32 = 93;
 const LAST_PLACE: u32 = 92;
+/// A base without a^r = 1 is looked for so often; where r is p − 1 there is none.
+const TRIES: u32 = 8;
 
 /// An index of a Fibonacci number.
 pub fn index(noise: &mut Noise) -> u32 {
@@ -190,16 +192,74 @@ pub fn base(noise: &mut Noise, p: u32, r: u32) -> u32 {
         1 => 1,
         2 => p.max(2) - 1,
         3..=6 => unit(noise, p),
-        _ if p < 3 || r == 0 => unit(noise, p),
-        _ => power(unit(noise, p), (p - 1) / r, p),
+        _ => allowed_base(noise, p, r),
     }
 }
 
-fn faulty_register(noise: &mut Noise, p: u32) -> u32 {
+/// A row of bases with a^r = 1; at times all are equal, and in half of the draws one or two are bad.
+pub fn bases(noise: &mut Noise, p: u32, r: u32) -> Vec<u32> {
+    let count = row_length(noise);
+    let mut row: Vec<u32> = (0..count).map(|_| allowed_base(noise, p, r)).collect();
+    if row.is_empty() {
+        return row;
+    }
+    match noise.below(16) {
+        0 => row.fill(base(noise, p, r)),
+        1 => row[place_in_row(noise, count)] = p.max(2) - 1,
+        2..=4 => row[place_in_row(noise, count)] = faulty_register(noise, p),
+        5..=7 => row[place_in_row(noise, count)] = foreign_base(noise, p, r),
+        8 | 9 => {
+            // Either may come first, which gives the refusal.
+            row[place_in_row(noise, count)] = faulty_register(noise, p);
+            row[place_in_row(noise, count)] = foreign_base(noise, p, r);
+        }
+        _ => {}
+    }
+    row
+}
+
+/// Most rows are short, some have 63 to 66 bases; 64 are the most that a row may have.
+fn row_length(noise: &mut Noise) -> usize {
+    match noise.below(16) {
+        0 => 0,
+        1..=4 => noise.pick(&[63, 64, 65, 66]),
+        5 => noise.index(67),
+        _ => 1 + noise.index(6),
+    }
+}
+
+/// A place of a row, its ends as often as all of it.
+fn place_in_row(noise: &mut Noise, count: usize) -> usize {
     match noise.below(4) {
+        0 => 0,
+        1 => count - 1,
+        _ => noise.index(count),
+    }
+}
+
+/// A base with a^r = 1, if p and r are those of a named program.
+fn allowed_base(noise: &mut Noise, p: u32, r: u32) -> u32 {
+    if p < 3 || r == 0 {
+        return unit(noise, p);
+    }
+    power(unit(noise, p), (p - 1) / r, p)
+}
+
+/// A base from 1 to p − 1 without a^r = 1, if one is soon found.
+fn foreign_base(noise: &mut Noise, p: u32, r: u32) -> u32 {
+    let p = p.max(2);
+    (0..TRIES)
+        .map(|_| unit(noise, p))
+        .find(|&base| power(base, r, p) != 1)
+        .unwrap_or(p - 1)
+}
+
+fn faulty_register(noise: &mut Noise, p: u32) -> u32 {
+    match noise.below(5) {
         0 => 0,
         1 => p,
         2 => p.wrapping_add(1),
+        3 => u32::MAX,
         _ => noise.word(),
     }
 }

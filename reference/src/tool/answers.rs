@@ -42,6 +42,7 @@ fn on_tape(call: &Call, tapes: Tapes) -> Answer {
             services::run(tape, [n[0], n[1], n[2], n[3]], n[4], n[5]).map(|four| line_of(&four))
         }
         Verb::Power => power(tape, n[0]),
+        Verb::Raise => raise(tape, n),
         Verb::Trace => services::trace(tape, n[0]).map(|four| line_of(&four)),
         Verb::Cut => services::cut(tape, n[0], n[1]).map(line_of),
         _ => {
@@ -95,6 +96,11 @@ fn power(tape: &[u32], base: u32) -> Answer {
     // An accepted tape has a head of four words and an end beside its steps.
     let end = services::run(tape, start, 0, tape.len() as u32 - 5)?;
     Ok([line_of(&end[1..2]), line_of(&end)].concat())
+}
+
+fn raise(tape: &[u32], mut bases: Vec<u32>) -> Answer {
+    services::raise(tape, &mut bases)?;
+    Ok(line_of(&bases))
 }
 
 fn meaning(word: u32) -> Vec<u8> {

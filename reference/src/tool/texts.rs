@@ -18,6 +18,7 @@ on the tape from standard input:
   load BASE              the four registers to start from
   run C D E F FROM TO    the four registers at position TO
   power BASE             load and run: register 1 (a named program's power), the registers
+  raise BASE..           each of up to 64 bases to the power k, by a named program
   trace POSITION         the four whole exponents
   cut FIRST LAST         the words of the steps FIRST + 1 to LAST
   play C D E F REQUEST.. a list of runs, each BEGIN END FROM TO: the registers at its end, each run's number
@@ -42,7 +43,9 @@ pub(super) const NO_WHOLE_WORDS: &str = "standard input isn't whole words of 4 b
 pub(super) fn reason(verb: Verb, number: u32) -> &'static str {
     match (number, verb) {
         (refusal::ORDER, Verb::Inverse) => "r must be at least 2",
-        (refusal::VARIANT, Verb::Build) => "the variant is none of those known",
+        (refusal::VARIANT, Verb::Build | Verb::Raise) => {
+            "the variant must be that of a named program"
+        }
         (refusal::REGISTER, Verb::Run) => "each register must be from 1 to p-1",
         (refusal::POSITION, Verb::Cut) => {
             "first and last must be positions up to the step count, first at most last"
@@ -67,6 +70,7 @@ fn common_reason(number: u32) -> &'static str {
         refusal::POSITION => "a position is above the step count",
         refusal::BASE => "the base's power r isn't 1",
         refusal::RANGE => "an exponent leaves -2^62 to 2^62",
-        _ => "not the places of a Zeckendorf form, from 92 down to 1",
+        refusal::INDEX => "not the places of a Zeckendorf form, from 92 down to 1",
+        _ => "a row has at most 64 bases",
     }
 }

@@ -8,6 +8,7 @@ pub(crate) enum Verb {
     Load,
     Run,
     Power,
+    Raise,
     Trace,
     Cut,
     Play,
@@ -46,8 +47,11 @@ const BYTE: u64 = u8::MAX as u64;
 const WORD: u64 = u32::MAX as u64;
 /// A row of tapes has no more words; a room neither.
 pub(crate) const MOST_ROW_WORDS: usize = 4096;
-/// No verb takes more parameters.
+/// Lists of requests, of places and of a tape's words have no more numbers.
 const MANY: usize = 64;
+/// No verb takes more parameters. A row of bases may have two fewer, so that the service tells of one that
+/// is too long.
+const MOST: usize = 66;
 
 const fn takes(name: &'static str, verb: Verb, least: usize, most: usize, largest: u64) -> Entry {
     Entry {
@@ -64,13 +68,14 @@ const fn exactly(name: &'static str, verb: Verb, count: usize) -> Entry {
 }
 
 /// What a command line may begin with.
-pub(crate) const VERBS: [Entry; 25] = [
+pub(crate) const VERBS: [Entry; 26] = [
     exactly("build", Verb::Build, 4),
     exactly("check", Verb::Check, 0),
     exactly("list", Verb::List, 0),
     exactly("load", Verb::Load, 1),
     exactly("run", Verb::Run, 6),
     exactly("power", Verb::Power, 1),
+    takes("raise", Verb::Raise, 0, MOST, WORD),
     exactly("trace", Verb::Trace, 1),
     exactly("cut", Verb::Cut, 2),
     takes("play", Verb::Play, 4, MANY, WORD),
@@ -112,6 +117,7 @@ impl Verb {
                 | Verb::Load
                 | Verb::Run
                 | Verb::Power
+                | Verb::Raise
                 | Verb::Trace
                 | Verb::Cut
                 | Verb::Play

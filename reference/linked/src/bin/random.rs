@@ -7,14 +7,15 @@
 //! and outputs lie between canaries, drawn anew for each call, and a refused call leaves all of them.
 //! The first difference is printed with its input and ends the program with status 1.
 //!
-//! The calls come in rounds. A round draws two tapes and makes 22 calls: of each tape check, load, run
-//! and trace, of one also cut and the listing; two builds; two each of places, number, G and the
-//! inverse; a Fibonacci number; a height. So the services over tapes, where most can go wrong, have
-//! about half of the calls. One round in four also gives the tool some forty command lines of every
-//! verb, a fifth of them damaged, with a third tape on standard input. Of the tapes nine in sixteen are what build writes for drawn parameters, four are hand-made,
-//! two have a header that belongs to other steps, one is any words; then three in eight are damaged.
-//! Half of the builds have a fault in p, r, k, the variant or all of them. The primes are those at the
-//! ends and 6000 drawn ones of every size up to 2^28.
+//! The calls come in rounds. A round draws two tapes and makes 24 calls: of each tape check, load, run,
+//! raise and trace, of one also cut and the listing; two builds; two each of places, number, G and the
+//! inverse; a Fibonacci number; a height. So the services that take or write tapes, where most can go
+//! wrong, have more than half of the calls. One round in four also gives the tool some forty command lines of every
+//! verb, a fifth of them damaged, with a third tape on standard input. Of the tapes nine in sixteen are
+//! what build writes for drawn parameters, four are hand-made, two have a header that belongs to other
+//! steps, one is any words; then three in eight are damaged. A row has 0 to 66 bases, and half of the rows
+//! have one or two that are drawn to be bad. Half of the builds have a fault in p, r, k, the variant or
+//! all of them. The primes are those at the ends and 6000 drawn ones of every size up to 2^28.
 
 use linked::lent::{inner, Canaries, Lent};
 use linked::proved;
@@ -78,6 +79,7 @@ impl Comparison {
             self.check(tape);
             self.load(tape);
             self.run(tape);
+            self.raise(tape);
             self.trace(tape);
         }
         self.cut(&first);
@@ -222,6 +224,27 @@ impl Comparison {
         let call = || format!("run {start:?} from {from} to {to} {}", hexadecimal(tape));
         let (answered, expected) = ((registers, &row[..]), (expected, tape));
         self.compare(Service::Run, call, (number, answered), (refusal, expected));
+    }
+
+    fn raise(&mut self, tape: &[u32]) {
+        let (p, r) = modulus_and_order(tape);
+        let bases = draw::bases(&mut self.noise, p, r);
+        let mut before = self.canaries.row(&mut self.noise, bases.len());
+        inner(&mut before, bases.len()).copy_from_slice(&bases);
+        let (mut row, mut expected) = (before.clone(), before);
+        let (number, after) = lend(tape, |tape| {
+            proved::raise(tape, inner(&mut row, bases.len()))
+        });
+        let answer = services::raise(tape, inner(&mut expected, bases.len()));
+        let refusal = answer.err().unwrap_or(0);
+        let call = || format!("raise {bases:?} {}", hexadecimal(tape));
+        let (answered, expected) = ((row, &after[..]), (expected, tape));
+        self.compare(
+            Service::Raise,
+            call,
+            (number, answered),
+            (refusal, expected),
+        );
     }
 
     fn trace(&mut self, tape: &[u32]) {

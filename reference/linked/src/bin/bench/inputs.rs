@@ -97,6 +97,8 @@ impl Size {
             }
         });
         tapes.iter().flatten().for_each(|tape| accepted(tape));
+        let named = tapes[1..].iter().flatten();
+        named.for_each(|tape| raised(tape, &bases));
         Inputs {
             p,
             r,
@@ -169,6 +171,12 @@ fn hand_made(noise: &mut Noise, p: u32) -> Vec<u32> {
 fn accepted(tape: &[u32]) {
     assert_eq!(proved::check(tape), 0);
     assert!(services::trace(tape, steps(tape)).is_ok());
+}
+
+/// The same of all bases in one row.
+fn raised(tape: &[u32], bases: &[u32]) {
+    assert_eq!(proved::raise(tape, &mut bases.to_vec()), 0);
+    assert_eq!(services::raise(tape, &mut bases.to_vec()), Ok(()));
 }
 
 fn places_of(n: u64) -> Vec<u8> {

@@ -3,10 +3,10 @@
 //!     bench [ROUNDS]
 //!
 //! A round goes over all that is measured: a batch of calls of the one side, then of the other, over the
-//! same inputs, which differ from call to call. A batch goes over all inputs, as often as it takes to
-//! last a quarter of a millisecond or more. Told is the least time per call over all rounds, since what
-//! else runs on the machine only adds to it; how many times the other's time the proved one is; and how
-//! many times the least the median over the rounds is.
+//! same inputs, which differ from call to call. A batch goes over all inputs, of rows of bases over the
+//! first eight, as often as it takes to last a quarter of a millisecond or more. Told is the least time
+//! per call over all rounds, since what else runs on the machine only adds to it; how many times the
+//! other's time the proved one is; and how many times the least the median over the rounds is.
 
 mod board;
 mod growth;

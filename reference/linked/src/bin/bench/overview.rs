@@ -7,7 +7,8 @@ use crate::timing::Pair;
 pub fn print(board: &Board, rounds: usize, small: &Inputs, large: &Inputs) {
     println!("Nanoseconds per call, the least of {rounds} rounds.");
     println!("Spread: the median over the rounds divided by the least, proved / reference.");
-    println!("Steps on average: {}.\n", steps_told(small, large));
+    println!("Steps on average: {}.", steps_told(small, large));
+    println!("In the rows of 64 bases a call is for all of them.\n");
     println!(
         "| service | variant |{}{} other algorithm for |",
         columns(small),

@@ -1,6 +1,6 @@
 //! The services: a line of the list and a function each.
 
-use crate::inputs::{Inputs, Variant, EVERY, MOST_PLACES, MOST_WORDS, NAMED, NONE};
+use crate::inputs::{Inputs, Variant, EVERY, INPUTS, MOST_PLACES, MOST_WORDS, NAMED, NONE};
 use crate::timing::Pair;
 use linked::proved;
 use reference as services;
@@ -8,6 +8,10 @@ use reference::drawing::tapes::steps;
 use std::hint::black_box;
 
 const MOST_LISTING: usize = 6137;
+/// A row has all bases, and these are as many as it may have.
+const BASES: usize = INPUTS;
+/// A call takes long with so many bases, so a batch has fewer.
+const ROWS: usize = 8;
 
 /// What is measured, with a row for each of its variants.
 pub struct Service {
@@ -38,6 +42,7 @@ const fn service(
 
 const PROGRAM: &str = "primes, forms, inverse";
 const RUN: &str = "primes, forms, inverse, product";
+const LOADS_AND_RUNS: &str = "both sides proved; the other is 64 loads and 64 runs";
 
 pub const CHECK: &str = "check";
 pub const RUNS: [&str; 2] = ["run forward", "run backward"];
@@ -49,6 +54,14 @@ pub static SERVICES: &[Service] = &[
     service("load", NAMED, false, PROGRAM, load),
     service(RUNS[0], EVERY, true, RUN, run_forward),
     service(RUNS[1], EVERY, true, RUN, run_backward),
+    service("raise, 64 bases", NAMED, false, RUN, raise),
+    service(
+        "64 bases: raise / loads and runs",
+        NAMED,
+        false,
+        LOADS_AND_RUNS,
+        raise_beside_runs,
+    ),
     service("trace", EVERY, true, PROGRAM, trace),
     service("cut", NAMED, false, PROGRAM, cut),
     service("listing", NAMED, false, PROGRAM, listing),
@@ -141,6 +154,45 @@ fn run(inputs: &Inputs, variant: u32, forward: bool) -> Pair<'_> {
             let _ = black_box(services::run(tape, black_box(start(i)), from, to));
         },
     )
+}
+
+/// All bases in one row.
+fn raise(inputs: &Inputs, variant: u32) -> Pair<'_> {
+    let mut row = [0; BASES];
+    Pair::over(ROWS, raise_proved(inputs, variant), move |i| {
+        let tape = black_box(inputs.tape(variant, i));
+        row.copy_from_slice(black_box(&inputs.bases));
+        let _ = black_box(services::raise(tape, &mut row));
+        black_box(&row);
+    })
+}
+
+/// Both sides are the proved library: a row at once, and each of its bases alone, loaded and run from end
+/// to end on the same tape.
+fn raise_beside_runs(inputs: &Inputs, variant: u32) -> Pair<'_> {
+    let mut row = [0; BASES];
+    let mut registers = [0; 4];
+    Pair::over(ROWS, raise_proved(inputs, variant), move |i| {
+        let tape = black_box(inputs.tape(variant, i));
+        row.copy_from_slice(black_box(&inputs.bases));
+        for base in &mut row {
+            black_box(proved::load(tape, *base, &mut registers));
+            black_box(proved::run(tape, &mut registers, 0, steps(tape)));
+            *base = registers[1];
+        }
+        black_box(&row);
+    })
+}
+
+/// The proved side of both.
+fn raise_proved(inputs: &Inputs, variant: u32) -> impl FnMut(usize) + '_ {
+    let mut row = [0; BASES];
+    move |i| {
+        let tape = black_box(inputs.tape(variant, i));
+        row.copy_from_slice(black_box(&inputs.bases));
+        black_box(proved::raise(tape, &mut row));
+        black_box(&row);
+    }
 }
 
 /// At the last position.

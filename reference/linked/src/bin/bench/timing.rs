@@ -16,9 +16,18 @@ pub struct Pair<'a> {
 
 impl<'a> Pair<'a> {
     pub fn new(proved: impl FnMut(usize) + 'a, reference: impl FnMut(usize) + 'a) -> Pair<'a> {
+        Pair::over(INPUTS, proved, reference)
+    }
+
+    /// Over the first inputs alone, where a call takes long.
+    pub fn over(
+        inputs: usize,
+        proved: impl FnMut(usize) + 'a,
+        reference: impl FnMut(usize) + 'a,
+    ) -> Pair<'a> {
         Pair {
-            proved: Side::new(INPUTS, proved),
-            reference: Side::new(INPUTS, reference),
+            proved: Side::new(inputs, proved),
+            reference: Side::new(inputs, reference),
         }
     }
 
