@@ -105,10 +105,10 @@ uint32_t fibexp_load(const uint32_t *tape, size_t words, uint32_t base, uint32_t
 uint32_t fibexp_run(const uint32_t *tape, size_t words, uint32_t registers[4], uint32_t from, uint32_t to);
 
 /*
- * Many bases in one pass through a named program, in place: each base is replaced by what fibexp_load and fibexp_run,
- * forward from end to end, would leave of it in register 1, which is its power base^k modulo p. Where any base is bad,
- * all stay. A row of 0 bases is answered too. Refusals: those of fibexp_check; VARIANT for a tape made by hand; COUNT;
- * then, base by base from the first on, REGISTER, BASE.
+ * Many bases in one pass through a named program, in place: each base is replaced by what fibexp_load of it and
+ * fibexp_run, forward from end to end, would leave in register 1, which is base^k modulo p. If any base is bad, the
+ * whole row stays. A row of 0 bases is answered too. Refusals: those of fibexp_check; VARIANT for a tape made by hand;
+ * COUNT; then, base by base from the first on, REGISTER, BASE.
  */
 uint32_t fibexp_raise(const uint32_t *tape, size_t words, uint32_t *bases, size_t count);
 

@@ -35,7 +35,7 @@ raiseRules h bases =
 unfoldable pub raised : List ℕ → ℕ → ℕ
 raised tape a = reg (after (forwardOutcome tape a) (start a)) 1
 
--- what comes of a tape, a row of bases and an answer
+-- check's refusals, then the service's own; x where none applies
 unfoldable pub onRow : {A : Type 0} → List ℕ → List ℕ → A → Outcome A
 onRow tape bases x = onTape tape (raiseRules (headerOf tape) bases) x
 

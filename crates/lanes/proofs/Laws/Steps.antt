@@ -1,5 +1,4 @@
--- A step in every lane: exchanging and multiplying rows does in each lane what the step does on its registers beside their inverses. And
--- a lane that sets out from (1, a, 1, 1) arrives as a's own run does.
+-- A step in every lane: exchanging and multiplying rows does in each lane what the step does on its registers beside their inverses.
 use mathlib.Core.Path.{_≡_, refl, sym, _∙_, ap, ap₂}
 use mathlib.Core.Bool.{cond}
 use mathlib.Core.List.{List}
@@ -67,7 +66,7 @@ module _ {t u count : ℕ} {before after : List ℕ} (c : Exchanged t u count be
   source-is : entry before u j ≡ reg old ss
   source-is = ap (λ (n : ℕ). entry before n j) es ∙ sym (lane-at before from j ss hs)
 
-  pub lane-exchanged : lane after from j ≡ set (set old tt (reg old ss)) ss (reg old tt)
+  lane-exchanged : lane after from j ≡ set (set old tt (reg old ss)) ss (reg old tt)
   lane-exchanged =
       lane-set after from j (set old tt (reg old ss)) (length-set old tt (reg old ss)) ss (reg old tt) hs
       (ap (λ (n : ℕ). entry after n j) (sym es) ∙ c .second j less ∙ target-is)
@@ -89,14 +88,14 @@ module _ {t u count : ℕ} {before after : List ℕ} (c : Exchanged t u count be
 
 module _ (m : Modulus) (t a b : ℕ) {count : ℕ} {before after : List ℕ} (c : Multiplied m t a b count before after) (inside : t < 4) (j : ℕ) (less : j < count)
     (few : count ≤ maxLanes) where
-  pub value-multiplied : lane after 0 j ≡ set (lane before 0 j) t (formTimes m (entry before t j) (entry before a j))
+  value-multiplied : lane after 0 j ≡ set (lane before 0 j) t (formTimes m (entry before t j) (entry before a j))
   value-multiplied =
       let here : 0 + t ≡ t = omega arith in
       lane-set after 0 j (lane before 0 j) refl t _ inside
       (ap (λ (n : ℕ). entry after n j) here ∙ c .first j less (λ e. omega arith))
       (λ i low ne. c .others (0 + i) j (λ e. ne (omega arith)) (λ e. omega arith) (omega arith) ∙ sym (lane-at before 0 j i low))
 
-  pub inverse-multiplied : lane after 4 j ≡ set (lane before 4 j) t (formTimes m (entry before (4 + t) j) (entry before b j))
+  inverse-multiplied : lane after 4 j ≡ set (lane before 4 j) t (formTimes m (entry before (4 + t) j) (entry before b j))
   inverse-multiplied =
       lane-set after 4 j (lane before 4 j) refl t _ inside
       (c .second j less)

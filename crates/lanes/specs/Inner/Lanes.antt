@@ -17,7 +17,7 @@ abbrev pub maxLanes : ℕ
 maxLanes = 64
 
 abbrev pub allWords : ℕ
-allWords = 512
+allWords = 8 * maxLanes
 
 -- what row i has in lane j
 abbrev pub entry : List ℕ → ℕ → ℕ → ℕ

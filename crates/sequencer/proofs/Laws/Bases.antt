@@ -46,7 +46,7 @@ module _ (tape bases : List ℕ) where
   unfolding raiseOutcome raisedBases onRow onTape
   raise-kept e = ap (λ o. after o bases) (still-refused 0 (map (raised tape) bases) _ e)
 
-  pub raise-replaced : {n : ℕ} → raiseOutcome tape bases ≡ answered n → raisedBases tape bases ≡ map (raised tape) bases
+  raise-replaced : {n : ℕ} → raiseOutcome tape bases ≡ answered n → raisedBases tape bases ≡ map (raised tape) bases
   unfolding raiseOutcome raisedBases onRow onTape
   raise-replaced e = ap (λ o. after o bases) (still-answered 0 (map (raised tape) bases) _ e)
 
@@ -92,7 +92,7 @@ raised-done tape a load = ap (λ o. reg (after o (start a)) 1) (forward-done tap
 -- ---- a row whose bases all pass
 
 module _ (tape : List ℕ) (h : Header) (e : acceptOutcome tape ≡ answered h) where
-  -- each base of it passes
+  -- its first base is one that load answers, and the others pass
   row-first : (a : ℕ) (bases : List ℕ) {x : ℕ} → outcome (rowRules h (a ∷ bases)) 0 ≡ answered x
       → (loadOutcome tape a ≡ answered (start a)) × (outcome (rowRules h bases) 0 ≡ answered x)
   unfolding rowRules
@@ -100,13 +100,14 @@ module _ (tape : List ℕ) (h : Header) (e : acceptOutcome tape ≡ answered h) 
       let parts = answered-before (baseRules h a) (rowRules h bases) 0 all in
       (load-rules tape h e a ∙ still-answered 0 (start a) (baseRules h a) (parts .0), parts .1)
 
-  -- so what holds of each base that load answers holds of the row
-  pub row-loaded : (bases : List ℕ) {x : ℕ} → outcome (rowRules h bases) 0 ≡ answered x → (j : ℕ) → j < length bases
+  -- so each base is one that load answers
+  row-loaded : (bases : List ℕ) {x : ℕ} → outcome (rowRules h bases) 0 ≡ answered x → (j : ℕ) → j < length bases
       → loadOutcome tape (getD bases j 0) ≡ answered (start (getD bases j 0))
   row-loaded [] all j less = absurd (not-suc-le-zero less)
   row-loaded (a ∷ bases) all zero less = row-first a bases all .0
   row-loaded (a ∷ bases) all (suc j) less = row-loaded bases (row-first a bases all .1) j (le-of-suc-le-suc less)
 
+  -- and two functions that agree on every base that load answers agree on the row
   pub row-map : (f g : ℕ → ℕ) → ((a : ℕ) → loadOutcome tape a ≡ answered (start a) → f a ≡ g a)
       → (bases : List ℕ) {x : ℕ} → outcome (rowRules h bases) 0 ≡ answered x → map f bases ≡ map g bases
   row-map f g same [] all = refl
@@ -116,12 +117,12 @@ module _ (tape : List ℕ) (h : Header) (e : acceptOutcome tape ≡ answered h) 
 
 -- ---- what an answer says
 
-pub record Raised (tape bases : List ℕ) : Type 0 where
-  pub accepted : acceptOutcome tape ≡ answered (headerOf tape)
-  pub named : isNamed (headerOf tape) ≡ true
-  pub row : outcome {A = ℕ} (rowRules (headerOf tape) bases) 0 ≡ answered 0
+record Raised (tape bases : List ℕ) : Type 0 where
+  accepted : acceptOutcome tape ≡ answered (headerOf tape)
+  named : isNamed (headerOf tape) ≡ true
+  row : outcome {A = ℕ} (rowRules (headerOf tape) bases) 0 ≡ answered 0
 
-pub raise-answered : (tape bases : List ℕ) → raiseOutcome tape bases ≡ answered 0 → Raised tape bases
+raise-answered : (tape bases : List ℕ) → raiseOutcome tape bases ≡ answered 0 → Raised tape bases
 unfolding raiseOutcome raiseRules onRow
 raise-answered tape bases e =
     let named = passed _ _ _ _ _ (answered-own tape _ 0 e) in
@@ -158,5 +159,5 @@ pub raise-empty : (tape : List ℕ) → checkOutcome tape ≡ answered 0 → isN
 raise-empty tape e named =
     let h = headerOf tape in
     let some = eqb-false (h .variant) 0 (not-true _ named) in
-    let passed = raise-passed tape [] h (still-answered 0 h (checkRules tape) e) [] (raise-row h [] 0 some (omega arith) ∙ row-none h 0) refl in
-    (sym (passed .0), sym (passed .1))
+    let both = raise-passed tape [] h (still-answered 0 h (checkRules tape) e) [] (raise-row h [] 0 some (omega arith) ∙ row-none h 0) refl in
+    (sym (both .0), sym (both .1))

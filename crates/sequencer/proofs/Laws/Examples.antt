@@ -151,7 +151,7 @@ abbrev Raises : List ℕ → List ℕ → Outcome ℕ → List ℕ → Type 0
 Raises tape bases answer row = (raiseOutcome tape bases ≡ answer) × (raisedBases tape bases ≡ row)
 
 -- 65 bases, the first of them bad
-abbrev pub many : List ℕ
+abbrev many : List ℕ
 many = 0 ∷ replicate 64 4
 
 -- In order: four bases; none; 2 to the power 5 isn't 1 modulo 11; 11 isn't below p; the first bad base decides the refusal, whichever

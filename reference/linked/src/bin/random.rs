@@ -10,12 +10,13 @@
 //! The calls come in rounds. A round draws two tapes and makes 24 calls: of each tape check, load, run,
 //! raise and trace, of one also cut and the listing; two builds; two each of places, number, G and the
 //! inverse; a Fibonacci number; a height. So the services that take or write tapes, where most can go
-//! wrong, have more than half of the calls. One round in four also gives the tool some forty command lines of every
-//! verb, a fifth of them damaged, with a third tape on standard input. Of the tapes nine in sixteen are
-//! what build writes for drawn parameters, four are hand-made, two have a header that belongs to other
-//! steps, one is any words; then three in eight are damaged. A row has 0 to 66 bases, and half of the rows
-//! have one or two that are drawn to be bad. Half of the builds have a fault in p, r, k, the variant or
-//! all of them. The primes are those at the ends and 6000 drawn ones of every size up to 2^28.
+//! wrong, have more than half of the calls. One round in four also gives the tool some forty command
+//! lines of every verb, a fifth of them damaged, with a third tape on standard input. Of the tapes
+//! nine in sixteen are what build writes for drawn parameters, four are hand-made, two have a header
+//! that belongs to other steps, one is any words; then three in eight are damaged. A row has 0 to 66
+//! bases, and half of the rows have one or two that are drawn to be bad. Half of the builds have a
+//! fault in p, r, k, the variant or all of them. The primes are those at the ends and 6000 drawn ones
+//! of every size up to 2^28.
 
 use linked::lent::{inner, Canaries, Lent};
 use linked::proved;
