@@ -1,0 +1,2 @@
+-- Matrices of whole numbers.
+pub mod Matrices
