@@ -3,6 +3,8 @@ pub mod Steps
 pub mod Runs
 pub mod Carried
 pub mod Lists
+pub mod Actions
+pub mod Ways
 pub mod Integers
 pub mod Exponents
 pub mod Orders

@@ -18,7 +18,7 @@ pub struct Exponents {
     pub f: i64,
 }
 
-// What a trace comes to: the four exponents, or a refusal.
+// Four whole exponents, or a refusal.
 pub enum ExponentsAnswer {
     Answered(Exponents),
     Refused(Refusal),

@@ -1,14 +1,14 @@
 -- Whole exponents: a step and its opposite undo each other, and each register holds a to its exponent, since a power of a sum is
--- the product of the powers, for exponents of either sign.
-use mathlib.Core.Path.{_≡_, refl, sym, _∙_, ap, ap₂}
+-- the product of the powers, for exponents of either sign, and what keeps sums keeps steps.
+use mathlib.Core.Path.{_≡_, refl, sym, _∙_, ap}
 use mathlib.Core.Bool.{Bool, true, false, cond}
-use mathlib.Core.List.{List, [], _∷_, map}
+use mathlib.Core.List.{List, map}
 use Prim.Native.Nat.{ℕ, zero, suc, _+_, _-_, _%_, _^_, _<_}
 use native.Mathlib.Nat.{sub-add-cancel}
 use native.Mathlib.Omega.{arith}
 use lib.Dec.{ltb}
 use lib.IntN.{ℤ, pos, negsuc, negℤ, _+ℤ_, _-ℤ_, subℕ, +ℤ-negℤ-cancel, -ℤ-+ℤ-cancel}
-use lib.ListN.{length, getD, set, take, length-set}
+use lib.ListN.{length, take}
 use borrow.Author.Tests.{ltb-true, ltb-false}
 use Rattle.modular.specs.Primes.{Prime}
 use Rattle.modular.specs.Residues.{Residue, times}
@@ -17,29 +17,36 @@ use Rattle.modular.proofs.Laws.Residues.{times-comm, times-assoc, times-one}
 use Rattle.modular.proofs.Laws.Group.{residue-inverse, inverse-times, inverse-inverse, inverse-one, inverse-product, mul-div}
 use Rattle.modular.proofs.Laws.Powers.{times-pow, power-zero, power-one, residue-pow}
 use Rattle.tape.specs.declared.Step.{Step}
-use Rattle.tape.specs.declared.Step.the-variants.{Mul, Div, Swp}
 use Rattle.tape.specs.Steps.{Sound, AllSound}
-use Rattle.machine.specs.Machine.{apply, inverseStep, doAll, undoAll, run, start}
-use Rattle.machine.specs.Exponents.{exponent, shift, shiftAll, startExponents, exponentsAt, powerOf}
-use Rattle.machine.proofs.Laws.Lists.{changed-back, exchange-twice, getD-map, map-set}
+use Rattle.machine.specs.Machine.{inverseStep, doAll, undoAll, run, inverted, start}
+use Rattle.machine.specs.Exponents.{shift, shiftAll, startExponents, exponentsAt, powerOf}
+use Rattle.machine.proofs.Laws.Actions.{act, actAll, Undoes, quotient, length-act, length-actAll, act-inverse, act-back, map-actAll, shift-act, shiftAll-act, doAll-act}
 use Rattle.machine.proofs.Laws.Steps.{residues-start}
 use Rattle.machine.proofs.Laws.Runs.{sound-take, run-form}
 
 -- ---- steps on exponents
 
 pub length-shift : (x : Step) (z : List ℤ) → length (shift x z) ≡ length z
-unfolding shift
-length-shift (Mul t s) z = simp length-set
-length-shift (Div t s) z = simp length-set
-length-shift (Swp t s) z = simp length-set
+length-shift x z = ap length (shift-act x z) ∙ length-act (pos 0) _+ℤ_ _-ℤ_ x z
 
--- a step and its opposite
+pub length-shiftAll : (xs : List Step) (z : List ℤ) → length (shiftAll xs z) ≡ length z
+length-shiftAll xs z = ap length (shiftAll-act xs z) ∙ length-actAll (pos 0) _+ℤ_ _-ℤ_ xs z
+
+-- a step and its opposite undo each other, and so do steps and the steps taken back
+undoes : (x y : ℤ) → Undoes (pos 0) _+ℤ_ _-ℤ_ x y
+undoes x y = (+ℤ-negℤ-cancel x y, -ℤ-+ℤ-cancel x y)
+
 pub shift-inverse-step : (x : Step) (z : List ℤ) → Sound x → length z ≡ 4 → shift (inverseStep x) (shift x z) ≡ z
-unfolding shift inverseStep
-shift-inverse-step (Mul t s) z a n = changed-back (pos 0) _-ℤ_ z t s _ (rw n (a .target-is-one)) (λ e. a .differ (sym e)) (+ℤ-negℤ-cancel (exponent z t) (exponent z s))
-shift-inverse-step (Div t s) z a n = changed-back (pos 0) _+ℤ_ z t s _ (rw n (a .target-is-one)) (λ e. a .differ (sym e)) (-ℤ-+ℤ-cancel (exponent z t) (exponent z s))
-shift-inverse-step (Swp t s) z a n =
-    exchange-twice (pos 0) z t s (rw n (a .0 .target-is-one)) (rw n (a .0 .source-is-one)) (a .0 .differ)
+shift-inverse-step x z a n =
+    shift-act (inverseStep x) (shift x z)
+    ∙ ap (act (pos 0) _+ℤ_ _-ℤ_ (inverseStep x)) (shift-act x z)
+    ∙ act-inverse (pos 0) _+ℤ_ _-ℤ_ x z a n (λ t s h k. undoes _ _)
+
+pub shift-back : (xs : List Step) (z : List ℤ) → AllSound xs → length z ≡ 4 → shiftAll (inverted xs) (shiftAll xs z) ≡ z
+shift-back xs z a n =
+    shiftAll-act (inverted xs) (shiftAll xs z)
+    ∙ ap (actAll (pos 0) _+ℤ_ _-ℤ_ (inverted xs)) (shiftAll-act xs z)
+    ∙ act-back (pos 0) _+ℤ_ _-ℤ_ undoes xs z a n
 
 -- ---- powers
 
@@ -77,6 +84,20 @@ module _ (p : ℕ) (pr : Prime p) (a : ℕ) (ra : Residue p a) where
           (ap (λ (x : ℕ). times p x (inverse p (power n))) (ap power (sym (sub-add-cancel (ltb-false m n e))) ∙ sym (power-times (m - n) n))
           ∙ mul-div p pr (power (m - n)) (power n) (power-residue (m - n)) (power-residue n))
 
+  pub powerOf-residue : (x : ℤ) → Residue p (powerOf p a x)
+  unfolding powerOf power
+  powerOf-residue (pos n) = power-residue n
+  powerOf-residue (negsuc n) = residue-inverse p pr (power (suc n)) (power-residue (suc n))
+
+  -- of 0 and of 1
+  pub powerOf-zero : powerOf p a (pos 0) ≡ 1
+  unfolding powerOf
+  powerOf-zero = power-zero p pr a
+
+  pub powerOf-one : powerOf p a (pos 1) ≡ a
+  unfolding powerOf
+  powerOf-one = power-one p pr a ra
+
   -- of a sum, of the opposite and of a difference
   pub powerOf-sum : (x y : ℤ) → powerOf p a (x +ℤ y) ≡ times p (powerOf p a x) (powerOf p a y)
   unfolding powerOf power
@@ -102,37 +123,14 @@ module _ (p : ℕ) (pr : Prime p) (a : ℕ) (ra : Residue p a) where
   abbrev held : List ℤ → List ℕ
   held z = map (powerOf p a) z
 
-  held-at : (z : List ℤ) (i : ℕ) → length z ≡ 4 → i < 4 → powerOf p a (exponent z i) ≡ getD (held z) i 0
-  held-at z i n h = sym (getD-map (powerOf p a) z i (pos 0) 0 (rw n h))
-
-  apply-held : (x : Step) (z : List ℤ) → Sound x → length z ≡ 4 → apply p x (held z) ≡ held (shift x z)
-  unfolding apply shift
-  apply-held (Mul t s) z h n =
-      sym
-      (map-set (powerOf p a) z t (exponent z t +ℤ exponent z s)
-      ∙ ap (set (held z) t)
-      (powerOf-sum p pr a ra (exponent z t) (exponent z s)
-      ∙ ap₂ (times p) (held-at z t n (h .target-is-one)) (held-at z s n (h .source-is-one))))
-  apply-held (Div t s) z h n =
-      sym
-      (map-set (powerOf p a) z t (exponent z t -ℤ exponent z s)
-      ∙ ap (set (held z) t)
-      (powerOf-less p pr a ra (exponent z t) (exponent z s)
-      ∙ ap₂ (λ (x y : ℕ). times p x (inverse p y)) (held-at z t n (h .target-is-one)) (held-at z s n (h .source-is-one))))
-  apply-held (Swp t s) z h n =
-      sym
-      (map-set (powerOf p a) (set z t (exponent z s)) s (exponent z t)
-      ∙ ap (λ (l : List ℕ). set l s (powerOf p a (exponent z t))) (map-set (powerOf p a) z t (exponent z s))
-      ∙ ap₂ (λ (x y : ℕ). set (set (held z) t y) s x) (held-at z t n (h .0 .target-is-one)) (held-at z s n (h .0 .source-is-one)))
-
   pub doAll-held : (xs : List Step) (z : List ℤ) → AllSound xs → length z ≡ 4 → doAll p xs (held z) ≡ held (shiftAll xs z)
-  unfolding doAll shiftAll
-  doAll-held [] z s n = refl
-  doAll-held (x ∷ xs) z s n = ap (doAll p xs) (apply-held x z (s .0) n) ∙ doAll-held xs (shift x z) (s .1) (length-shift x z ∙ n)
+  doAll-held xs z s n =
+      doAll-act p xs (held z)
+      ∙ sym (map-actAll (pos 0) _+ℤ_ _-ℤ_ 0 (times p) (quotient p) (powerOf p a) (powerOf-sum p pr a ra) (powerOf-less p pr a ra) xs z s n)
+      ∙ ap held (sym (shiftAll-act xs z))
 
   start-held : start a ≡ held startExponents
-  unfolding powerOf power
-  start-held = sym (simp (power-zero p pr a, power-one p pr a ra))
+  start-held = sym (simp (powerOf-zero p pr a ra, powerOf-one p pr a ra))
 
   -- after the first n steps from (1, a, 1, 1)
   pub registers-exponents : (xs : List Step) (n : ℕ) → AllSound xs → doAll p (take n xs) (start a) ≡ map (powerOf p a) (exponentsAt xs n)

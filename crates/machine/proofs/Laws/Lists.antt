@@ -11,14 +11,18 @@ use lib.Seq.{slice, set-set, set-comm, set-getD, getD-set-same, getD-set-other}
 
 -- ---- four entries
 
--- are the first four
+-- a fact of every four entries holds of a list of four
+pub of-four : {A : Type 0} (P : List A → Type 0) → ((a b c d : A) → P (a ∷ b ∷ c ∷ d ∷ [])) → (v : List A) → length v ≡ 4 → P v
+of-four P h [] n = absurd (omega arith)
+of-four P h (a ∷ []) n = absurd (omega arith)
+of-four P h (a ∷ b ∷ []) n = absurd (omega arith)
+of-four P h (a ∷ b ∷ c ∷ []) n = absurd (omega arith)
+of-four P h (a ∷ b ∷ c ∷ d ∷ []) n = h a b c d
+of-four P h (a ∷ b ∷ c ∷ d ∷ e ∷ v) n = absurd (omega arith)
+
+-- they are the first four
 pub four-first : {A : Type 0} (d : A) (v : List A) → length v ≡ 4 → getD v 0 d ∷ getD v 1 d ∷ getD v 2 d ∷ getD v 3 d ∷ [] ≡ v
-four-first d [] n = absurd (omega arith)
-four-first d (x ∷ []) n = absurd (omega arith)
-four-first d (x ∷ y ∷ []) n = absurd (omega arith)
-four-first d (x ∷ y ∷ z ∷ []) n = absurd (omega arith)
-four-first d (x ∷ y ∷ z ∷ w ∷ []) n = refl
-four-first d (x ∷ y ∷ z ∷ w ∷ u ∷ v) n = absurd (omega arith)
+four-first d = of-four (λ v. getD v 0 d ∷ getD v 1 d ∷ getD v 2 d ∷ getD v 3 d ∷ [] ≡ v) (λ x y z w. refl)
 
 -- ---- an entry changed and changed back
 

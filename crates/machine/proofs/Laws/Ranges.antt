@@ -3,7 +3,7 @@
 use mathlib.Core.Path.{_≡_, refl, sym, _∙_, ap, ap₂}
 use mathlib.Core.Bool.{true, false, _&&_}
 use mathlib.Core.List.{List, [], _∷_, _++_}
-use Prim.Native.Nat.{ℕ, zero, suc, _+_, _≤_, _^_}
+use Prim.Native.Nat.{ℕ, zero, suc, _+_, _<_, _≤_, _^_}
 use native.Mathlib.Omega.{arith}
 use lib.IntN.{ℤ, pos, negsuc, negℤ, _+ℤ_, _-ℤ_}
 use lib.Signed.{leZ, ltZ}
@@ -13,7 +13,7 @@ use Rattle.refusal.proofs.Laws.Tests.{both}
 use Rattle.tape.specs.declared.Step.{Step}
 use Rattle.tape.specs.Steps.{AllSound}
 use Rattle.machine.specs.Machine.{inverseStep, inverted}
-use Rattle.machine.specs.Exponents.{shift, shiftAll, startExponents, exponentsAt, inRange, allInRange, staysInRange}
+use Rattle.machine.specs.Exponents.{exponent, shift, shiftAll, startExponents, exponentsAt, inRange, allInRange, staysInRange}
 use Rattle.machine.proofs.Laws.Integers.{over, under, over-sum, under-sum, Within, within-less, within-more, le-leZ, leZ-true, ltZ-false}
 use Rattle.machine.proofs.Laws.Exponents.{length-shift, shift-inverse-step}
 
@@ -49,6 +49,21 @@ half-range x y xl xh yl yh =
       within-range (x -ℤ y) (within-less x y v w),
     )
 
+-- ---- of a list of exponents, each
+
+pub each-in-range : (z : List ℤ) → allInRange z ≡ true → (i : ℕ) → i < length z → inRange (exponent z i) ≡ true
+unfolding allInRange
+each-in-range [] all i h = absurd (omega arith)
+each-in-range (e ∷ z) all zero h = both (inRange e) (allInRange z) all .0
+each-in-range (e ∷ z) all (suc i) h = each-in-range z (both (inRange e) (allInRange z) all .1) i (omega arith)
+
+pub all-in-range : (z : List ℤ) → ((i : ℕ) → i < length z → inRange (exponent z i) ≡ true) → allInRange z ≡ true
+unfolding allInRange
+all-in-range [] each = refl
+all-in-range (e ∷ z) each = ap₂ _&&_ (each 0 (omega arith)) (all-in-range z (λ i h. each (suc i) (omega arith)))
+
+-- ---- of steps, at every position
+
 pub stays-first : (xs : List Step) (z : List ℤ) → staysInRange xs z ≡ true → allInRange z ≡ true
 unfolding staysInRange
 stays-first [] z s = s
@@ -62,6 +77,16 @@ stays-take (suc n) [] z s = s
 stays-take (suc n) (x ∷ xs) z s =
     let t = both (allInRange z) (staysInRange xs (shift x z)) s in
     ap₂ _&&_ (t .0) (stays-take n xs (shift x z) (t .1))
+
+pub stays-last : (xs : List Step) (z : List ℤ) → staysInRange xs z ≡ true → allInRange (shiftAll xs z) ≡ true
+unfolding staysInRange shiftAll
+stays-last [] z s = s
+stays-last (x ∷ xs) z s = stays-last xs (shift x z) (both (allInRange z) (staysInRange xs (shift x z)) s .1)
+
+pub stays-everywhere : (xs : List Step) (z : List ℤ) → ((n : ℕ) → allInRange (shiftAll (take n xs) z) ≡ true) → staysInRange xs z ≡ true
+unfolding staysInRange shiftAll
+stays-everywhere [] z at = at 0
+stays-everywhere (x ∷ xs) z at = ap₂ _&&_ (at 0) (stays-everywhere xs (shift x z) (λ n. at (suc n)))
 
 -- ---- the steps xs take the exponents z to w, within c at every position
 

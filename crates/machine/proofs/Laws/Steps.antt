@@ -9,14 +9,13 @@ use lib.ListN.{length, set, length-set}
 use lib.Seq.{getD-set-same, getD-set-other}
 use Rattle.modular.specs.Primes.{Prime}
 use Rattle.modular.specs.Residues.{Residue, times}
-use Rattle.modular.specs.Inverses.{inverse}
 use Rattle.modular.proofs.Laws.Group.{residue-one, residue-times, residue-inverse, mul-div, div-mul}
 use Rattle.tape.specs.declared.Step.{Step}
 use Rattle.tape.specs.declared.Step.the-variants.{Mul, Div, Swp}
-use Rattle.tape.specs.Steps.{Distinct, Sound, AllSound}
+use Rattle.tape.specs.Steps.{Sound, AllSound}
 use Rattle.tape.specs.Inner.Operations.{stepBy}
-use Rattle.machine.proofs.Laws.Lists.{changed-back, exchange-twice}
 use Rattle.machine.specs.Machine.{reg, apply, inverseStep, doAll, undoAll, inverted, Residues, start}
+use Rattle.machine.proofs.Laws.Actions.{act, quotient, act-inverse, apply-act}
 
 -- ---- steps and their opposites
 
@@ -127,21 +126,12 @@ module _ (p : ℕ) (pr : Prime p) where
 
   -- ---- doing and undoing
 
-  -- a register that another changed, and changes back
-  undo-with : (f : ℕ → ℕ → ℕ) (t s x : ℕ) (v : List ℕ) → Distinct t s → Residues p v → (Residue p (reg v t) → Residue p (reg v s) → f x (reg v s) ≡ reg v t)
-      → set (set v t x) t (f (reg (set v t x) t) (reg (set v t x) s)) ≡ v
-  undo-with f t s x v a g undoes =
-      changed-back 0 f v t s x (rw (g .four) (a .target-is-one)) (λ e. a .differ (sym e)) (undoes (g .residue t (a .target-is-one)) (g .residue s (a .source-is-one)))
-
-  undo-swp : (t s : ℕ) (v : List ℕ) → Distinct t s → Residues p v → apply p (Swp t s) (apply p (Swp t s) v) ≡ v
-  unfolding apply
-  undo-swp t s v a g = exchange-twice 0 v t s (rw (g .four) (a .target-is-one)) (rw (g .four) (a .source-is-one)) (a .differ)
-
   pub undo-apply : (x : Step) (v : List ℕ) → Sound x → Residues p v → apply p (inverseStep x) (apply p x v) ≡ v
-  unfolding inverseStep apply
-  undo-apply (Mul t s) v a g = undo-with (λ (y x : ℕ). times p y (inverse p x)) t s _ v a g (mul-div p pr _ _)
-  undo-apply (Div t s) v a g = undo-with (times p) t s _ v a g (div-mul p pr _ _)
-  undo-apply (Swp t s) v a g = undo-swp t s v (a .0) g
+  undo-apply x v a g =
+      apply-act p (inverseStep x) (apply p x v)
+      ∙ ap (act 0 (times p) (quotient p) (inverseStep x)) (apply-act p x v)
+      ∙ act-inverse 0 (times p) (quotient p) x v a (g .four)
+      (λ t s h k. (mul-div p pr _ _ (g .residue t h) (g .residue s k), div-mul p pr _ _ (g .residue t h) (g .residue s k)))
 
   pub apply-undo : (x : Step) (v : List ℕ) → Sound x → Residues p v → apply p x (apply p (inverseStep x) v) ≡ v
   apply-undo x v a g =

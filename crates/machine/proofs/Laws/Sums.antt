@@ -35,6 +35,11 @@ fits (negsuc n) h k = record { sfits = k }
 pub from-bits : (e : ℤ) → mag e < 2 ^ 63 → toZ w64 (ofZ w64 e) ≡ e
 from-bits e h = toZ-ofZ w64 e (record { sfits = h })
 
+-- and so do four
+pub four-from-bits : (w x y z : ℤ) → mag w < 2 ^ 63 → mag x < 2 ^ 63 → mag y < 2 ^ 63 → mag z < 2 ^ 63
+    → toZ w64 (ofZ w64 w) ∷ toZ w64 (ofZ w64 x) ∷ toZ w64 (ofZ w64 y) ∷ toZ w64 (ofZ w64 z) ∷ [] ≡ w ∷ x ∷ y ∷ z ∷ []
+four-from-bits w x y z a b c d = rw (from-bits w a, from-bits x b, from-bits y c, from-bits z d)
+
 pub range-fits : (e : ℤ) → inRange e ≡ true → SFits w64 e
 range-fits e r = let w = range-within e r in fits e (omega arith) (omega arith)
 
