@@ -1,4 +1,4 @@
--- Load, run and trace by cases, what their answers say, forward, and demand 3.
+-- Load, run, trace, table and cut by cases, what their answers say, forward, rows of bases, and demand 3.
 pub mod Cases
 pub mod Positions
 pub mod Requests
@@ -8,4 +8,5 @@ pub mod Bases
 pub mod Chains
 pub mod Rewinds
 pub mod Tracing
+pub mod Tables
 pub mod Examples

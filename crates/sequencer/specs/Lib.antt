@@ -1,7 +1,8 @@
--- REQUIREMENTS 8: load, run, trace and cut, and the words of demand 3; document 02: many bases in one pass.
+-- REQUIREMENTS 8: load, run, trace and cut, and the words of demand 3; document 02: many bases in one pass, the trace with four unknowns.
 pub mod Services
 pub mod Bases
 pub mod Lists
 pub mod Demand
 pub mod Tracing
+pub mod Tables
 pub mod Inner

@@ -1,5 +1,5 @@
-// REQUIREMENTS 8 and 16: load, run, trace, cut, rows of bases, and lists of runs. The definitions and laws of this layer, demand 3 among
-// them, and the type and the limit that they name; it has no functions.
+// REQUIREMENTS 8 and 16: load, run, trace, table, cut, rows of bases, and lists of runs. The definitions and laws of this layer, demand 3
+// among them, and the type and the limit that they name; it has no functions.
 use machine::Registers;
 use refusal::Refusal;
 

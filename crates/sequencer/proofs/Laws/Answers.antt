@@ -1,6 +1,6 @@
--- What an answer of load, run or cut says: their tape is accepted, each of their own rules is passed, and the registers or words are
--- those of the definition.
-use mathlib.Core.Path.{_≡_, refl, sym}
+-- What an answer of a service says: its tape is accepted, each of its own rules is passed, and the registers or words are those of the
+-- definition.
+use mathlib.Core.Path.{_≡_, refl, sym, subst}
 use mathlib.Core.Bool.{false}
 use mathlib.Core.List.{List, [], _∷_, _++_}
 use Prim.Native.Nat.{ℕ, suc, _≤_}
@@ -9,7 +9,7 @@ use lib.Dec.{leb, eqb}
 use lib.ListN.{length, set, take, drop}
 use lib.Seq.{sets, length-slice}
 use borrow.Author.Tests.{leb-false, eqb-false}
-use Rattle.refusal.specs.Outcomes.{Rule, answered, refusalNumber, after}
+use Rattle.refusal.specs.Outcomes.{Outcome, Rule, answered, refusalNumber, after}
 use Rattle.refusal.proofs.Laws.Rules.{passed, refused-where, zero-answered, other-refused}
 use Rattle.modular.specs.Primes.{Prime}
 use Rattle.modular.specs.Residues.{Residue}
@@ -30,6 +30,10 @@ use Rattle.sequencer.specs.Services.{badRegister, badRegisters, badBase,
 use Rattle.sequencer.specs.Lists.{Request, answerTo, numbersAll}
 use Rattle.sequencer.specs.Demand.{AsSaid, EachAsSaid}
 use Rattle.sequencer.proofs.Laws.Cases.{good-cut}
+
+-- what is said of an outcome is said of the answer that comes to it
+pub said-of : {A : Type 0} {o answer : Outcome A} (P Q : Outcome A → Type 0) → P o → Q o → answer ≡ o → (answer ≡ o) × (P answer × Q answer)
+said-of P Q p q e = (e, (subst P (sym e) p, subst Q (sym e) q))
 
 -- a number that refusal 9 lets pass
 pub good-register : (p x : ℕ) → badRegister p x ≡ false → Residue p x

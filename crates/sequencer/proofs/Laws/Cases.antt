@@ -1,26 +1,34 @@
--- The tests of load, run, trace and cut by cases, and what is left of the four on an accepted tape: their own rules.
-use mathlib.Core.Path.{_≡_, refl, sym, _∙_}
+-- The tests of load, run, trace, table and cut by cases, and what is left of the five on an accepted tape: their own rules.
+use mathlib.Core.Path.{_≡_, refl, sym, ap, _∙_}
 use mathlib.Core.Bool.{true, false, not, _||_, or-true, or-false}
 use mathlib.Core.List.{List, [], _∷_}
 use Prim.Native.Nat.{ℕ, _≤_, _<_, _%_, _^_}
 use native.Mathlib.Omega.{arith}
 use lib.Dec.{leb, ltb, eqb}
-use lib.ListN.{length}
+use lib.ListN.{length, take}
 use borrow.Author.Tests.{ltb-false, lt-ltb, le-ltb, eq-eqb, ne-eqb}
-use Rattle.refusal.specs.Outcomes.{Outcome, refused, answered, outcome, refusalNumber}
+use Rattle.refusal.specs.declared.Refusal.the-variants.{Position}
+use Rattle.refusal.specs.Refusals.{numberOf}
+use Rattle.refusal.specs.Outcomes.{Outcome, refused, answered, outcome, refusalNumber, gives, passes}
 use Rattle.refusal.proofs.Laws.Tests.{neither}
 use Rattle.modular.specs.Primes.{Prime}
 use Rattle.tape.specs.declared.Header.{Header}
+use Rattle.tape.specs.declared.Step.{Step}
 use Rattle.tape.specs.Layout.{headerOf, stepIndex, stepWords, stepWordsOf, part, stepsOf, allSteps}
+use Rattle.tape.specs.Inner.Operations.{rawSteps}
 use Rattle.tape.proofs.Laws.Rows.{words-count, part-inside}
 use Rattle.tape.proofs.Laws.Layout.{laid-out-long, laid-out-rules}
 use Rattle.machine.specs.Machine.{run, start}
 use Rattle.machine.specs.Exponents.{exponentsAt}
+use Rattle.tables.specs.Tables.{tableOf}
+use Rattle.tables.specs.Inner.Columns.{columnOutcome, columnsOutcome}
 use Rattle.program.specs.Services.{acceptOutcome}
 use Rattle.program.proofs.Laws.Checking.{accepted, header-is, steps-are}
 use Rattle.program.proofs.Laws.Accepting.{accepted-prime, accepted-odd}
 use Rattle.program.proofs.Laws.Door.{tape-accepted}
 use Rattle.sequencer.specs.Services.{badRegister, badRegisters, allowed, badBase, badCut, baseRules, positionRules, traceRules, cutRules, loadOutcome, runOutcome, traceOutcome, cutOutcome, cutPart}
+use Rattle.sequencer.specs.Tables.{tableRules, tableOutcome}
+use Rattle.sequencer.proofs.Laws.Positions.{part-steps, part-raw}
 
 -- ---- the tests
 
@@ -110,6 +118,13 @@ module _ (tape : List ℕ) (h : Header) (e : acceptOutcome tape ≡ answered h) 
   pub words-are : length (stepWordsOf tape) ≡ h .steps
   words-are = words-count tape ∙ sym (steps-are tape h e)
 
+  -- the steps that the words up to a position have in their digits are the tape's
+  pub raw-until : (position : ℕ) → position ≤ h .steps → rawSteps (part (stepWordsOf tape) 0 position) ≡ take position (stepsOf tape)
+  raw-until position inside =
+      let words = stepWordsOf tape in
+      let within : position ≤ length words = omega (arith, words-are) in
+      part-raw words words-steps 0 position (omega arith) within ∙ part-steps words 0 position (omega arith) within
+
   -- their own rules are left
   pub load-rules : (a : ℕ) → loadOutcome tape a ≡ outcome (baseRules h a) (start a)
   unfolding loadOutcome
@@ -125,6 +140,30 @@ module _ (tape : List ℕ) (h : Header) (e : acceptOutcome tape ≡ answered h) 
   unfolding traceOutcome
   trace-rules position =
       tape-accepted tape h e (λ (g : Header). traceRules g (stepsOf tape) position) (λ (g : Header). exponentsAt (stepsOf tape) position)
+
+  pub table-rules : (position : ℕ) → tableOutcome tape position ≡ outcome (tableRules h (stepsOf tape) position) (tableOf (take position (stepsOf tape)))
+  unfolding tableOutcome
+  table-rules position =
+      tape-accepted tape h e (λ (g : Header). tableRules g (stepsOf tape) position) (λ (g : Header). tableOf (take position (stepsOf tape)))
+
+  -- a position above the step count, and one up to it, where the columns of the steps in the words' digits decide
+  module _ (position : ℕ) where
+    pub trace-past : h .steps < position → traceOutcome tape position ≡ refused (numberOf Position)
+    unfolding traceRules
+    trace-past past = trace-rules position ∙ gives _ _ _ (lt-ltb _ _ past)
+
+    pub table-past : h .steps < position → tableOutcome tape position ≡ refused (numberOf Position)
+    unfolding tableRules
+    table-past past = table-rules position ∙ gives _ _ _ (lt-ltb _ _ past)
+
+    pub trace-by-column : position ≤ h .steps → traceOutcome tape position ≡ columnOutcome (rawSteps (part (stepWordsOf tape) 0 position)) 1
+    unfolding traceRules columnOutcome
+    trace-by-column inside =
+        trace-rules position ∙ passes _ _ _ (le-ltb _ _ inside) ∙ ap (λ (xs : List Step). columnOutcome xs 1) (sym (raw-until position inside))
+
+    pub table-by-columns : position ≤ h .steps → tableOutcome tape position ≡ columnsOutcome (rawSteps (part (stepWordsOf tape) 0 position))
+    unfolding tableRules columnsOutcome
+    table-by-columns inside = table-rules position ∙ passes _ _ _ (le-ltb _ _ inside) ∙ ap columnsOutcome (sym (raw-until position inside))
 
   pub cut-rules : (first last : ℕ) → cutOutcome tape first last ≡ outcome (cutRules h first last) (stepWords tape first last)
   unfolding cutOutcome
