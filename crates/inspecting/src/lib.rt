@@ -1,20 +1,18 @@
-// Trace and cut: what a tape shows without a run.
+// Trace, table and cut: what a tape shows without a run.
 ghost use mathlib.Core.Path.{_≡_};
-ghost use mathlib.Core.Bool.{true};
 ghost use Rattle.refusal.specs.Outcomes.{answered, refusalNumber};
-ghost use Rattle.tape.specs.Inner.Operations.{rawSteps};
-ghost use Rattle.machine.specs.Exponents.{exponentsOutcomeOf, allInRange, staysInRange, shiftAll};
+ghost use Rattle.machine.specs.Exponents.{exponentsOutcomeOf};
+ghost use Rattle.tables.specs.Tables.{tableOutcomeOf};
 ghost use Rattle.program.specs.Services.{acceptOutcome};
 ghost use Rattle.sequencer.specs.Services.{traceOutcome, cutOutcome, cutPart, badCut};
 ghost use Rattle.sequencer.specs.Tracing.{NeverOutside, MeansPowers};
-use decoding::operation_of;
-use exponent_steps::exponents_of;
-use exponent_steps::shift;
+ghost use Rattle.sequencer.specs.Tables.{tableOutcome, MeansProducts, HasSign};
 use machine::ExponentsAnswer;
 use parts::part;
 use parts::step_words;
 use parts::steps;
 use refusal::Refusal;
+use tables::TableAnswer;
 use tape::Header;
 use tape::HeaderAnswer;
 
@@ -27,6 +25,18 @@ pub fn trace(tape: &[u32], position: u32) -> ExponentsAnswer
     match accepting::accept(tape) {
         HeaderAnswer::Refused(e) => ExponentsAnswer::Refused(e),
         HeaderAnswer::Answered(header) => trace_accepted(tape, header, position),
+    }
+}
+
+// The exponent of each start value in each register at a position: check's refusals, 10, 12.
+pub fn table(tape: &[u32], position: u32) -> TableAnswer
+    ensures { λ answer. ⌜ tableOutcomeOf answer ≡ tableOutcome (now (tape .entry)) position ⌝ }
+    ensures { λ answer. ⌜ MeansProducts (now (tape .entry)) position (tableOutcomeOf answer) ⌝ }
+    ensures { λ answer. ⌜ HasSign (now (tape .entry)) position (tableOutcomeOf answer) ⌝ }
+{
+    match accepting::accept(tape) {
+        HeaderAnswer::Refused(e) => TableAnswer::Refused(e),
+        HeaderAnswer::Answered(header) => table_accepted(tape, header, position),
     }
 }
 
@@ -53,28 +63,18 @@ fn trace_accepted(tape: &[u32], header: Header, position: u32) -> ExponentsAnswe
     if header.steps < position {
         return ExponentsAnswer::Refused(Refusal::Position);
     }
-    let mut exponents: [i64; 4] = [0, 1, 0, 0];
-    if !shift_all(part(steps(tape), 0, position), &mut exponents) {
-        return ExponentsAnswer::Refused(Refusal::Range);
-    }
-    ExponentsAnswer::Answered(exponents_of(&exponents))
+    columns::column(part(steps(tape), 0, position), 1)
 }
 
-// The steps that some words have in their digits, on whole exponents: whether all stay in the range at every position. Where they do,
-// the row holds what the steps lead to.
-fn shift_all(words: &[u32], exponents: &mut [i64]) -> bool
-    requires { ⌜ allInRange (now exponents) ≡ true ⌝ }
-    ensures { λ inside. ⌜ inside ≡ staysInRange (rawSteps (now (words .entry))) (now (exponents .entry)) ⌝ }
-    ensures { λ inside. ⌜ (inside ≡ true → now (exponents .exit) ≡ shiftAll (rawSteps (now (words .entry))) (now (exponents .entry))) ⌝ }
+// The table of a program that is accepted: 10, 12.
+fn table_accepted(tape: &[u32], header: Header, position: u32) -> TableAnswer
+    requires { ⌜ acceptOutcome (now tape) ≡ answered header ⌝ }
+    ensures { λ answer. ⌜ tableOutcomeOf answer ≡ tableOutcome (now (tape .entry)) position ⌝ }
 {
-    let mut i: usize = 0;
-    while i < words.len() {
-        if !shift(exponents, operation_of(words[i])) {
-            return false;
-        }
-        i += 1;
+    if header.steps < position {
+        return TableAnswer::Refused(Refusal::Position);
     }
-    true
+    columns::table(part(steps(tape), 0, position))
 }
 
 // Cut of a program that is accepted: 10.

@@ -10,13 +10,9 @@ use lib.ListN.{length, getD, drop, drop-of-length-le}
 use lib.Seq.{drop-cons}
 use Rattle.refusal.proofs.Laws.Tests.{test-false}
 use Rattle.tape.specs.declared.Step.{Step}
-use Rattle.machine.specs.Exponents.{shift, shiftAll, startExponents, inRange, allInRange, staysInRange, makesInRange, shiftInRange}
+use Rattle.machine.specs.Exponents.{shift, shiftAll, allInRange, staysInRange, makesInRange, shiftInRange}
 use Rattle.machine.proofs.Laws.Ranges.{stays-first}
 use Rattle.machine.proofs.Laws.Sums.{step-range}
-
-pub start-range : allInRange startExponents ≡ true
-unfolding allInRange inRange
-start-range = refl
 
 -- what the steps xs make of z is what the steps ys, which are left, make of w
 pub record RestOfTrace (xs : List Step) (z : List ℤ) (ys : List Step) (w : List ℤ) : Type 0 where

@@ -10,8 +10,8 @@ use lib.ListN.{length, drop}
 use Rattle.tape.specs.Inner.Operations.{rawSteps}
 use Rattle.tape.proofs.Laws.Rows.{raw-count, raw-nth}
 use Rattle.machine.proofs.Laws.Traces.{RestOfTrace, all-left, none-left, leaves, goes-on}
-use Rattle.inspecting.proofs.shift_all.Statement.{statement}
-use Rattle.inspecting.proofs.shift_all.Tie as tie
+use Rattle.columns.proofs.shift_all.Statement.{statement}
+use Rattle.columns.proofs.shift_all.Tie as tie
 
 abbrev Inv-loop : tie.InvT-loop
 Inv-loop words exponents₀ i₀ exponents i =
