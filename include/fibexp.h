@@ -119,6 +119,14 @@ uint32_t fibexp_raise(const uint32_t *tape, size_t words, uint32_t *bases, size_
 uint32_t fibexp_trace(const uint32_t *tape, size_t words, uint32_t position, int64_t exponents[4]);
 
 /*
+ * The exponent of each start value in each register at a position. Start value j is what register j holds at position
+ * 0, and at the given one each register holds the product of the start values to its row's exponents, modulo p. Writes
+ * the sixteen exponents row by row: table[4 * i + j] is that of start value j in register i. Refusals: those of
+ * fibexp_check, POSITION, RANGE.
+ */
+uint32_t fibexp_table(const uint32_t *tape, size_t words, uint32_t position, int64_t table[16]);
+
+/*
  * Where in the tape the words of the steps numbered first + 1 to last stand: *count words from tape[*start] on. Writes
  * *start and *count. Refusals: those of fibexp_check, POSITION.
  */

@@ -1,5 +1,5 @@
 // The C interface: each service under a plain name, for C and Rust to link, and the command-line tool. include/fibexp.h declares these
-// functions. Each service but `fibexp_hofstadter` and `fibexp_height`, which refuse nothing, answers document 01's number, 0 on success,
+// functions. Each service but `fibexp_hofstadter` and `fibexp_height`, which refuse nothing, answers the refusal's number, 0 on success,
 // and writes through its references only then; `fibexp_listing` writes the line of a refused tape too. `fibexp_reply` and `fibexp_reads`
 // are the tool.
 ghost use mathlib.Core.Path.{_≡_};
@@ -10,9 +10,11 @@ ghost use Rattle.modular.specs.Inverses.{inverseOutcome};
 ghost use Rattle.fibonacci.specs.Hofstadter.{G};
 ghost use Rattle.fibonacci.specs.Height.{height};
 ghost use Rattle.fibonacci.specs.Services.{fibonacciOutcome, placesOutcome, placesBuffer, numberOutcome, bit};
+ghost use Rattle.tables.specs.Tables.{listOutcome};
 ghost use Rattle.program.specs.Services.{roomOutcome, buildOutcome, buildBuffer, checkOutcome};
 ghost use Rattle.sequencer.specs.Services.{loadOutcome, runOutcome, traceOutcome, cutOutcome, cutPart, cutStart, cutCount};
 ghost use Rattle.sequencer.specs.Bases.{raiseOutcome, raisedBases};
+ghost use Rattle.sequencer.specs.Tables.{tableOutcome};
 ghost use Rattle.listing.specs.Listing.{listingOf, listingAnswer, listingBuffer};
 ghost use Rattle.text.specs.Reading.{splitWords};
 ghost use Rattle.text.specs.Rows.{Put};
@@ -23,6 +25,7 @@ use memory::number_of;
 use memory::registers_in;
 use memory::store_exponents;
 use memory::store_registers;
+use memory::store_table;
 use memory::store_u64;
 use refusal::NumberAnswer;
 
@@ -139,6 +142,15 @@ pub extern "C" fn fibexp_trace(tape: &[u32], position: u32, exponents: &mut [i64
     ensures { λ _. ⌜ now (exponents .exit) ≡ after (traceOutcome (now (tape .entry)) position) (now (exponents .entry)) ⌝ }
 {
     store_exponents(inspecting::trace(tape, position), exponents)
+}
+
+// The table at a position, row by row: check's refusals, 10, 12.
+#[no_mangle]
+pub extern "C" fn fibexp_table(tape: &[u32], position: u32, table: &mut [i64; 16]) -> u32
+    ensures { λ number. ⌜ number ≡ refusalNumber (tableOutcome (now (tape .entry)) position) ⌝ }
+    ensures { λ _. ⌜ now (table .exit) ≡ after (listOutcome (tableOutcome (now (tape .entry)) position)) (now (table .entry)) ⌝ }
+{
+    store_table(inspecting::table(tape, position), table)
 }
 
 // Cut: check's refusals, 10. On success the count's words from the start on are the part that cut gives.

@@ -5,11 +5,13 @@ ghost use Rattle.refusal.specs.Outcomes.{numberOutcomeOf, refusalNumber, after}
 ghost use Rattle.fibonacci.specs.Services.{bit};
 ghost use Rattle.machine.specs.Machine.{valuesOf};
 ghost use Rattle.machine.specs.Exponents.{exponentsOutcomeOf};
+ghost use Rattle.tables.specs.Tables.{tableOutcomeOf, listOutcome};
 ghost use Rattle.sequencer.specs.Services.{registersOutcomeOf};
 use machine::ExponentsAnswer;
 use machine::Registers;
 use refusal::NumberAnswer;
 use sequencer::RegistersAnswer;
+use tables::TableAnswer;
 
 // The number of a service whose answer is stored nowhere.
 pub fn number_of(answer: NumberAnswer) -> u32
@@ -67,6 +69,36 @@ pub fn store_exponents(answer: ExponentsAnswer, row: &mut [i64; 4]) -> u32
             0
         }
         ExponentsAnswer::Refused(e) => refusal::number(e),
+    }
+}
+
+pub fn store_table(answer: TableAnswer, row: &mut [i64; 16]) -> u32
+    ensures { λ n. ⌜ n ≡ refusalNumber (tableOutcomeOf answer) ⌝ }
+    ensures { λ _. ⌜ now (row .exit) ≡ after (listOutcome (tableOutcomeOf answer)) (now (row .entry)) ⌝ }
+{
+    match answer {
+        TableAnswer::Answered(x) => {
+            *row = [
+                x.c.c,
+                x.c.d,
+                x.c.e,
+                x.c.f,
+                x.d.c,
+                x.d.d,
+                x.d.e,
+                x.d.f,
+                x.e.c,
+                x.e.d,
+                x.e.e,
+                x.e.f,
+                x.f.c,
+                x.f.d,
+                x.f.e,
+                x.f.f,
+            ];
+            0
+        }
+        TableAnswer::Refused(e) => refusal::number(e),
     }
 }
 
