@@ -79,6 +79,7 @@ fn on_tape(verb: TapeVerb, act: Act) -> Act
         TapeVerb::Power => Act::Reply,
         TapeVerb::Raise => Act::Reply,
         TapeVerb::Trace => Act::Reply,
+        TapeVerb::Table => Act::Reply,
         TapeVerb::Cut => Act::Reply,
         TapeVerb::Play => Act::Reply,
     }

@@ -7,8 +7,9 @@ ghost use Rattle.refusal.specs.Outcomes.{numberOutcomeOf};
 ghost use Rattle.text.specs.Text.{newline, numberLine, numbersLine};
 ghost use Rattle.text.specs.Rows.{Put};
 ghost use Rattle.machine.specs.Exponents.{exponentsOutcomeOf};
+ghost use Rattle.tables.specs.Tables.{tableOutcomeOf};
 ghost use Rattle.sequencer.specs.Services.{registersOutcomeOf};
-ghost use Rattle.tool.specs.Texts.{exponentsLine, powerLines, reasonFor};
+ghost use Rattle.tool.specs.Texts.{exponentsLine, tableLines, powerLines, reasonFor};
 ghost use Rattle.tool.specs.Replies.{refuses, printed};
 ghost use Rattle.tool.specs.Rows.{Told};
 use machine::ExponentsAnswer;
@@ -22,7 +23,9 @@ use refusal::REASONS;
 use results::exponents;
 use results::power;
 use results::registers;
+use results::rows;
 use sequencer::RegistersAnswer;
+use tables::TableAnswer;
 use text::NEWLINE;
 use tool::REFUSED;
 use tool::Reply;
@@ -90,5 +93,15 @@ pub fn print_exponents(buffer: &mut [u8], own: u32, answer: ExponentsAnswer) -> 
     match answer {
         ExponentsAnswer::Answered(values) => exponents(buffer, values),
         ExponentsAnswer::Refused(e) => refuse(buffer, own, refusal::number(e)),
+    }
+}
+
+// A table, a line for each register, or the refusal.
+pub fn print_table(buffer: &mut [u8], own: u32, answer: TableAnswer) -> Reply
+    ensures { λ r. ⌜ Told (now (buffer .entry)) (printed own (tableOutcomeOf answer) tableLines) r (now (buffer .exit)) ⌝ }
+{
+    match answer {
+        TableAnswer::Answered(table) => rows(buffer, table),
+        TableAnswer::Refused(e) => refuse(buffer, own, refusal::number(e)),
     }
 }

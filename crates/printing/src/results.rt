@@ -6,7 +6,8 @@ ghost use Rattle.text.specs.Text.{whole, numberLine, numbersLine};
 ghost use Rattle.text.specs.Rows.{Put};
 ghost use Rattle.machine.specs.Machine.{valuesOf};
 ghost use Rattle.machine.specs.Exponents.{exponentsOf};
-ghost use Rattle.tool.specs.Texts.{exponentsLine, powerLines};
+ghost use Rattle.tables.specs.Tables.{matrixOf};
+ghost use Rattle.tool.specs.Texts.{exponentsLine, tableLines, powerLines};
 ghost use Rattle.tool.specs.Replies.{answers};
 ghost use Rattle.tool.specs.Rows.{Told};
 use lines::number_line;
@@ -15,6 +16,7 @@ use machine::Exponents;
 use machine::Registers;
 use putting::put_byte;
 use putting::put_whole;
+use tables::Table;
 use text::BLANK;
 use text::NEWLINE;
 use tool::ANSWERED;
@@ -57,13 +59,34 @@ pub(crate) fn power(buffer: &mut [u8], registers: Registers) -> Reply
 pub(crate) fn exponents(buffer: &mut [u8], exponents: Exponents) -> Reply
     ensures { λ r. ⌜ Told (now (buffer .entry)) (answers (exponentsLine (exponentsOf exponents))) r (now (buffer .exit)) ⌝ }
 {
-    let c = put_exponent(buffer, 0, exponents.c, BLANK);
-    let d = put_exponent(buffer, c, exponents.d, BLANK);
-    let e = put_exponent(buffer, d, exponents.e, BLANK);
     Reply {
         status: ANSWERED,
-        length: put_exponent(buffer, e, exponents.f, NEWLINE),
+        length: put_row(buffer, 0, exponents),
     }
+}
+
+// The rows of a table, a line each.
+pub(crate) fn rows(buffer: &mut [u8], table: Table) -> Reply
+    ensures { λ r. ⌜ Told (now (buffer .entry)) (answers (tableLines (matrixOf table))) r (now (buffer .exit)) ⌝ }
+{
+    let c = put_row(buffer, 0, table.c);
+    let d = put_row(buffer, c, table.d);
+    let e = put_row(buffer, d, table.e);
+    Reply {
+        status: ANSWERED,
+        length: put_row(buffer, e, table.f),
+    }
+}
+
+// Four exponents, and the end of the line.
+fn put_row(buffer: &mut [u8], at: usize, row: Exponents) -> usize
+    ensures { λ next. ⌜ Put (now (buffer .entry)) at (exponentsLine (exponentsOf row)) next (now (buffer .exit)) ⌝ }
+    ensures { λ _. ⌜ length (exponentsLine (exponentsOf row)) ≤ 88 ⌝ }
+{
+    let c = put_exponent(buffer, at, row.c, BLANK);
+    let d = put_exponent(buffer, c, row.d, BLANK);
+    let e = put_exponent(buffer, d, row.e, BLANK);
+    put_exponent(buffer, e, row.f, NEWLINE)
 }
 
 // A whole number, and a byte.

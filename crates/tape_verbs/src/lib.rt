@@ -23,6 +23,7 @@ use printing::answer;
 use printing::print_exponents;
 use printing::print_power;
 use printing::print_registers;
+use printing::print_table;
 use printing::refuse;
 use putting::put_words;
 use refusal::NumberAnswer;
@@ -62,6 +63,7 @@ pub fn on_tape(
         TapeVerb::Power => print_power(text, own, running::forward(tape, parameter(given, 0))),
         TapeVerb::Raise => raise(own, given, tape, text),
         TapeVerb::Trace => print_exponents(text, own, inspecting::trace(tape, parameter(given, 0))),
+        TapeVerb::Table => print_table(text, own, inspecting::table(tape, parameter(given, 0))),
         TapeVerb::Cut => cut(own, tape, parameter(given, 0), parameter(given, 1), text),
         TapeVerb::Play => play(given, tapes, text),
     }

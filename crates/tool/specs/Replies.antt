@@ -20,10 +20,11 @@ use Rattle.named.specs.Named.{namedWords}
 use Rattle.program.specs.Services.{buildOutcome, checkOutcome, acceptOutcome}
 use Rattle.sequencer.specs.Services.{loadOutcome, runOutcome, forwardOutcome, traceOutcome, cutOutcome}
 use Rattle.sequencer.specs.Bases.{raiseOutcome, raisedBases}
+use Rattle.sequencer.specs.Tables.{tableOutcome}
 use Rattle.sequencer.specs.Lists.{Request, afterAll, numbersAll, requestsOf}
 use Rattle.listing.specs.Listing.{linesFor}
 use Rattle.tool.specs.declared.TapeVerb.{TapeVerb}
-use Rattle.tool.specs.declared.TapeVerb.the-variants.{Check, Listing, Load, Run, Power, Raise, Trace, Cut, Play}
+use Rattle.tool.specs.declared.TapeVerb.the-variants.{Check, Listing, Load, Run, Power, Raise, Trace, Table, Cut, Play}
 use Rattle.tool.specs.declared.NumberVerb.{NumberVerb}
 use Rattle.tool.specs.declared.NumberVerb.the-variants.{Decode, Fibonacci, Places, NumberOf, Hofstadter, Inverse, Height, Prime, MulMod, PowMod}
 use Rattle.tool.specs.declared.Verb.{Verb}
@@ -31,7 +32,7 @@ use Rattle.tool.specs.declared.Verb.the-variants.{Unknown, Build, Script
 use Rattle.tool.specs.declared.Row.{Row}
 use Rattle.tool.specs.Verbs.{takesTape, takesLines, givesTape}
 use Rattle.tool.specs.Calls.{Asked, noWord, noVerb, wrongCount, unread, known, askedBy}
-use Rattle.tool.specs.Texts.{exponentsLine, powerLines, meaning, versionLine, refusalLine, noVerbLine, wrongCountLine, unreadLine, scriptLine, usage}
+use Rattle.tool.specs.Texts.{exponentsLine, tableLines, powerLines, meaning, versionLine, refusalLine, noVerbLine, wrongCountLine, unreadLine, scriptLine, usage}
 
 pub record Replied : Type 0 where
   -- 0 answered, 1 refused, 2 not understood
@@ -116,6 +117,7 @@ tapeReply Run own v tape tapes = printed own (runOutcome tape (registersIn v) (a
 tapeReply Power own v tape tapes = printed own (forwardOutcome tape (at v 0)) powerLines
 tapeReply Raise own v tape tapes = raisedAll own v tape
 tapeReply Trace own v tape tapes = printed own (traceOutcome tape (at v 0)) exponentsLine
+tapeReply Table own v tape tapes = printed own (tableOutcome tape (at v 0)) tableLines
 tapeReply Cut own v tape tapes = printed own (cutOutcome tape (at v 0) (at v 1)) numbersLine
 tapeReply Play own v tape tapes = played v tapes
 

@@ -8,6 +8,7 @@ use lib.ListN.{getD, drop}
 use Rattle.refusal.specs.Reasons.{reasons, ownReasons}
 use Rattle.text.specs.Text.{ascii, decimal, whole, newline, line, numberLine, numbersLine}
 use Rattle.text.specs.Quoting.{quoted}
+use Rattle.matrices.specs.Matrices.{Matrix}
 use Rattle.tape.specs.declared.Step.{Step}
 use Rattle.tape.specs.declared.Step.the-variants.{Mul, Div, Swp}
 use Rattle.tape.specs.declared.Decoded.{Decoded}
@@ -21,6 +22,14 @@ use Rattle.tool.specs.Verbs.{isVariant}
 -- whole numbers, with a minus sign where they are negative
 abbrev pub exponentsLine : List ℤ → List ℕ
 exponentsLine values = line (map whole values)
+
+-- the line of row i of a table
+abbrev pub rowLine : Matrix → ℕ → List ℕ
+rowLine m i = exponentsLine (getD m i [])
+
+-- a line for each register
+abbrev pub tableLines : Matrix → List ℕ
+tableLines m = rowLine m 0 ++ rowLine m 1 ++ rowLine m 2 ++ rowLine m 3
 
 -- register 1 on a line of its own, and the four registers
 abbrev pub powerLines : List ℕ → List ℕ
@@ -109,6 +118,7 @@ usage =
     ∷ ascii "  power BASE             load and run: register 1 (a named program's power), the registers"
     ∷ ascii "  raise BASE..           each of up to 64 bases to the power k, by a named program"
     ∷ ascii "  trace POSITION         the four whole exponents"
+    ∷ ascii "  table POSITION         the exponent of each start value in each register, a line for each register"
     ∷ ascii "  cut FIRST LAST         the words of the steps FIRST + 1 to LAST"
     ∷ ascii "  play C D E F REQUEST.. a list of runs, each BEGIN END FROM TO: the registers at its end, each run's number"
     ∷ ascii "on numbers:"

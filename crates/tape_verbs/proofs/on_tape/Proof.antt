@@ -48,11 +48,15 @@ returns-7 c = rw (c .before .before .before .before .before .before .enum-told7 
 
 returns-8 : tie.Need-returns-8
 unfolding tapeReply
-returns-8 c = rw (c .before .before .before .before .before .before .enum-told8 .given .1) (rw (c .before .before .before .before .before .parameter4 .ensures, c .before .before .before .before .parameter5 .ensures, c .before .before .before .before .before .before .before .before .first .ensures) at (c .before .before .cut .ensures))
+returns-8 c = rw (c .before .before .before .before .before .before .enum-told8 .given .1) (rw (c .before .before .before .table .ensures .0, c .before .before .before .before .parameter4 .ensures, c .before .before .before .before .before .before .before .before .first .ensures) at (c .before .before .print-table .ensures))
 
 returns-9 : tie.Need-returns-9
 unfolding tapeReply
-returns-9 c = rw (c .before .before .before .before .enum-told9 .given .1) (rw (c .before .before .before .before .before .before .first .ensures) at (c .before .before .play .ensures))
+returns-9 c = rw (c .before .before .before .before .before .before .enum-told9 .given .1) (rw (c .before .before .before .before .before .parameter5 .ensures, c .before .before .before .before .parameter6 .ensures, c .before .before .before .before .before .before .before .before .first .ensures) at (c .before .before .cut .ensures))
+
+returns-10 : tie.Need-returns-10
+unfolding tapeReply
+returns-10 c = rw (c .before .before .before .before .enum-told10 .given .1) (rw (c .before .before .before .before .before .before .first .ensures) at (c .before .before .play .ensures))
 
 pub on-tape-spec : {M : Type 1} → statement M
 on-tape-spec =
@@ -85,6 +89,10 @@ on-tape-spec =
     (λ c κs. search needs)
     (λ c κs. search needs)
     (λ c. search needs)
+    (λ c κs. search needs)
+    (λ c κs. search needs)
+    (λ c κs. search needs)
+    (λ c. search needs)
     play-requires
     (λ c. search needs)
     returns
@@ -103,4 +111,6 @@ on-tape-spec =
     (λ c. search needs)
     returns-8
     (λ c. search needs)
-    returns-9)
+    returns-9
+    (λ c. search needs)
+    returns-10)

@@ -22,6 +22,7 @@ use Rattle.tape.specs.Layout.{isLength, isHeader, isFreeOrNamed, allSteps, isEn
 use Rattle.encoding.specs.Encoding.{tapeOf, bytesOf, noTape, tapeIn}
 use Rattle.machine.specs.Machine.{apply, inverseStep, doAll, run, inverted}
 use Rattle.machine.specs.Exponents.{shift, shiftAll, inRange, allInRange, staysInRange}
+use Rattle.tables.specs.Tables.{tableOf, tableStays}
 use Rattle.named.specs.Generators.{ascend, basic, drawn}
 use Rattle.named.specs.Named.{basicForms, formsIn, namedSteps, namedWords}
 use Rattle.named.specs.Members.{sameStep, sameSteps, isOneOf}
@@ -31,6 +32,7 @@ use Rattle.program.specs.Door.{onTape}
 use Rattle.program.specs.Same.{sameWords}
 use Rattle.sequencer.specs.Services.{badRegister, badRegisters, allowed, badBase, baseRules, loadOutcome, positionRules, runOutcome, forwardOutcome, traceRules, traceOutcome, badCut, cutRules, cutOutcome}
 use Rattle.sequencer.specs.Bases.{rowRules, raiseRules, raised, onRow, raiseOutcome, raisedBases}
+use Rattle.sequencer.specs.Tables.{tableRules, tableOutcome}
 use Rattle.sequencer.specs.Lists.{afterAll, numbersAll, requestsOf}
 use Rattle.listing.specs.Listing.{stepLines}
 use Rattle.tool.specs.Verbs.{entries, names, rows, indexIn, rowNamed, variantIn, parameterIn}
@@ -82,6 +84,7 @@ examples =
     ∷ tape-prints ("power" ∷ "3" ∷ []) "3\n3 3 1 1\n"
     ∷ named-prints ("raise" ∷ "2" ∷ "4" ∷ []) "4 2\n"
     ∷ tape-prints ("trace" ∷ "1" ∷ []) "1 1 0 0\n"
+    ∷ tape-prints ("table" ∷ "1" ∷ []) "1 1 0 0\n0 1 0 0\n0 0 1 0\n0 0 0 1\n"
     ∷ tape-replies ("cut" ∷ "1" ∷ "0" ∷ []) (refuses 10 10)
     ∷ tape-prints ("play" ∷ "1" ∷ "3" ∷ "1" ∷ "1" ∷ "0" ∷ "6" ∷ "0" ∷ "1" ∷ []) "3 3 1 1 0\n"
     ∷ prints ("decode" ∷ "0x70000004" ∷ []) "swp 0 1\n"
@@ -97,5 +100,5 @@ examples =
     ∷ []
 
 pub examples-hold : AllHold examples
-unfolding reply askedBy numbersFrom parameterIn variantIn rowNamed indexIn names rows entries built tapeReply numberReply digitOf allDigits valueFrom numberFrom inBase isHexadecimal parseNumber sameWords onTape decimalWithin decimal whole line outcome tapeIn noTape tapeOf bytesOf isLength isHeader isFreeOrNamed allSteps isEnd laidOut part programWords encoded stepWord decoded headingIn actionIn swapIn namedSteps formsIn basicForms drawn basic ascend inverted inverseStep isOneOf sameSteps sameStep checkRules buildOutcome badModulus badOrder badVariant isPrime greatest gcd badExponent inverse inverseOutcome remainder times badRegister badRegisters allowed badBase loadOutcome baseRules positionRules traceRules runOutcome forwardOutcome traceOutcome badCut cutRules cutOutcome rowRules raiseRules raised onRow raiseOutcome raisedBases afterAll numbersAll requestsOf run doAll apply staysInRange allInRange inRange shiftAll shift stepLines fib lucas pad greedy zeckendorf placesFrom weight arePlaces reaches firstFrom height hofstadterTo G fibonacciOutcome numberOutcome
-examples-hold = (refl, (refl, (refl, (refl, (refl, (refl, (refl, (refl, (refl, (refl, (refl, (refl, (refl, (refl, (refl, (refl, (refl, (refl, (refl, (refl, (refl, (refl, (refl, tt)))))))))))))))))))))))
+unfolding reply askedBy numbersFrom parameterIn variantIn rowNamed indexIn names rows entries built tapeReply numberReply digitOf allDigits valueFrom numberFrom inBase isHexadecimal parseNumber sameWords onTape decimalWithin decimal whole line outcome tapeIn noTape tapeOf bytesOf isLength isHeader isFreeOrNamed allSteps isEnd laidOut part programWords encoded stepWord decoded headingIn actionIn swapIn namedSteps formsIn basicForms drawn basic ascend inverted inverseStep isOneOf sameSteps sameStep checkRules buildOutcome badModulus badOrder badVariant isPrime greatest gcd badExponent inverse inverseOutcome remainder times badRegister badRegisters allowed badBase loadOutcome baseRules positionRules traceRules runOutcome forwardOutcome traceOutcome badCut cutRules cutOutcome rowRules raiseRules raised onRow raiseOutcome raisedBases tableRules tableOutcome tableOf tableStays afterAll numbersAll requestsOf run doAll apply staysInRange allInRange inRange shiftAll shift stepLines fib lucas pad greedy zeckendorf placesFrom weight arePlaces reaches firstFrom height hofstadterTo G fibonacciOutcome numberOutcome
+examples-hold = (refl, (refl, (refl, (refl, (refl, (refl, (refl, (refl, (refl, (refl, (refl, (refl, (refl, (refl, (refl, (refl, (refl, (refl, (refl, (refl, (refl, (refl, (refl, (refl, tt))))))))))))))))))))))))

@@ -5,7 +5,7 @@ use mathlib.Core.List.{List, [], _∷_, _++_, map, append-assoc}
 use Prim.Native.Nat.{ℕ, suc, _^_, _≤_, _<_}
 use native.Mathlib.Omega.{arith}
 use lib.IntN.{ℤ, pos, negsuc}
-use lib.ListN.{length}
+use lib.ListN.{length, length-append}
 use lib.Signed.{mag}
 use Rattle.text.specs.Text.{decimal, whole, blank, newline, line}
 use Rattle.text.specs.Rows.{Put}
@@ -51,8 +51,12 @@ four-put w x y z p q r s =
     (put-word (whole x) (whole y) (whole z ∷ []) q (put-word (whole y) (whole z) [] r (put-last (whole z) s)))
 
 pub four-short : (w x y z : ℤ) → length (whole w) ≤ 21 → length (whole x) ≤ 21 → length (whole y) ≤ 21 → length (whole z) ≤ 21
-    → length (line (map whole (w ∷ x ∷ y ∷ z ∷ []))) ≤ maxText
+    → length (line (map whole (w ∷ x ∷ y ∷ z ∷ []))) ≤ 88
 four-short w x y z a b c d = omega (arith, line-length (whole w) (whole x ∷ whole y ∷ whole z ∷ []))
+
+-- four such lines
+pub lines-short : (a b c d : List ℕ) → length a ≤ 88 → length b ≤ 88 → length c ≤ 88 → length d ≤ 88 → length (a ++ b ++ c ++ d) ≤ maxText
+lines-short a b c d i j k l = omega (arith, length-append (a ++ b ++ c) d, length-append (a ++ b) c, length-append a b)
 
 -- ---- complaints
 

@@ -11,7 +11,7 @@ abbrev pub plainCount : ℕ
 plainCount = 7
 
 abbrev pub tapeCount : ℕ
-tapeCount = 9
+tapeCount = 10
 
 abbrev pub numberCount : ℕ
 numberCount = 10
