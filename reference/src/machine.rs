@@ -1,11 +1,11 @@
-//! Load, run, raise, lists of runs, trace and cut: what the steps of an accepted tape do.
+//! Load, run, raise, lists of runs, trace, table and cut: what the steps of an accepted tape do.
 
 use crate::modular::Modulus;
 use crate::program::accept;
 use crate::refusal;
 use crate::tape::{self, Program};
 
-/// Exponents of a trace stay from −2^62 to 2^62.
+/// Exponents of a trace or table stay from −2^62 to 2^62.
 const EXPONENT_LIMIT: u64 = 1 << 62;
 /// A row of bases has no more.
 const MOST_BASES: usize = 64;
@@ -92,6 +92,18 @@ pub fn trace(tape: &[u32], position: u32) -> Result<[i64; 4], u32> {
         }
     }
     Ok(exponents)
+}
+
+/// Table: check's refusals, then 10, 12; answers a row for each register, with the exponent of each start
+/// value in it at a position.
+pub fn table(tape: &[u32], position: u32) -> Result<[[i64; 4]; 4], u32> {
+    let program = accept(tape)?;
+    let position = self::position(&program, position)?;
+    let mut rows = [[1, 0, 0, 0], [0, 1, 0, 0], [0, 0, 1, 0], [0, 0, 0, 1]];
+    for &step in &program.steps[..position] {
+        act_on_exponents(&mut rows, step).ok_or(refusal::RANGE)?;
+    }
+    Ok(rows)
 }
 
 /// Cut: check's refusals, then 10; answers the step words numbered first + 1 to last.
@@ -210,6 +222,24 @@ fn act_on_rows(rows: &mut [Vec<Unit>; 4], modulus: Modulus, step: u32) {
         let factor = if kind == tape::MUL { by } else { by.inverted() };
         *old = old.times(factor, modulus);
     }
+}
+
+/// Does one step for the exponents of all start values; none where an exponent leaves the limits, which
+/// only those of the step's target can.
+fn act_on_exponents(rows: &mut [[i64; 4]; 4], step: u32) -> Option<()> {
+    let (target, source) = (tape::target(step), tape::source(step));
+    let kind = tape::kind(step);
+    if kind == tape::SWP {
+        rows.swap(target, source);
+        return Some(());
+    }
+    let by = rows[source];
+    for (exponent, by) in rows[target].iter_mut().zip(by) {
+        let change = if kind == tape::MUL { by } else { -by };
+        let sum = exponent.checked_add(change);
+        *exponent = sum.filter(|sum| sum.unsigned_abs() <= EXPONENT_LIMIT)?;
+    }
+    Some(())
 }
 
 /// Undone, mul is div, div is mul, swp is swp.

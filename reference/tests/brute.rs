@@ -244,8 +244,8 @@ fn named_programs_of_large_orders() {
     }
 }
 
-fn power(a: u32, k: u32, p: u32) -> u32 {
-    let (p, mut square, mut rest, mut result) = (p as u64, a as u64, k, 1);
+fn power(a: u32, k: impl Into<u64>, p: u32) -> u32 {
+    let (p, mut square, mut rest, mut result) = (p as u64, a as u64, k.into(), 1);
     while rest > 0 {
         if rest % 2 == 1 {
             result = result * square % p;
@@ -433,5 +433,251 @@ fn chains() {
             assert_eq!(run(&tape, registers, 0, steps + 1), Err(10));
         }
         assert_eq!(registers, [1, power(a, e, p), 1, 1]);
+    }
+}
+
+type Table = [[i64; 4]; 4];
+
+const IDENTITY: Table = [[1, 0, 0, 0], [0, 1, 0, 0], [0, 0, 1, 0], [0, 0, 0, 1]];
+
+fn steps_of(tape: &[u32]) -> &[u32] {
+    &tape[4..tape.len() - 1]
+}
+
+/// The tables at all positions as they are defined: a column for each start value alone, whose exponents
+/// the steps change. None from where one of the sixteen leaves the range.
+fn tables_by_columns(steps: &[u32]) -> Vec<Option<Table>> {
+    let mut columns = IDENTITY.map(|column| column.map(i128::from));
+    let mut tables = vec![Some(IDENTITY)];
+    for &word in steps {
+        columns.iter_mut().for_each(|column| shift(column, word));
+        if columns.iter().flatten().any(|e| e.abs() > 1 << 62) {
+            break;
+        }
+        let rows = [0, 1, 2, 3].map(|i| columns.map(|column| column[i] as i64));
+        tables.push(Some(rows));
+    }
+    tables.resize(steps.len() + 1, None);
+    tables
+}
+
+fn shift(exponents: &mut [i128; 4], word: u32) {
+    let (target, source) = ((word & 3) as usize, (word >> 2 & 3) as usize);
+    match word >> 28 {
+        MUL => exponents[target] += exponents[source],
+        DIV => exponents[target] -= exponents[source],
+        _ => exponents.swap(target, source),
+    }
+}
+
+/// The textbook's expansion along the first row, modulo 2^128: exact where no entry is above 2^30.
+fn determinant(rows: &[Vec<i128>]) -> i128 {
+    let Some((first, rest)) = rows.split_first() else {
+        return 1;
+    };
+    let terms = first.iter().enumerate().map(|(j, entry)| {
+        let minor: Vec<Vec<i128>> = rest
+            .iter()
+            .map(|row| [&row[..j], &row[j + 1..]].concat())
+            .collect();
+        let term = entry.wrapping_mul(determinant(&minor));
+        if j % 2 == 0 {
+            term
+        } else {
+            term.wrapping_neg()
+        }
+    });
+    terms.fold(0, i128::wrapping_add)
+}
+
+/// The tables of a program at all positions: those of the definition, and 12 exactly where it has none;
+/// their second column is the trace, and their determinant tells whether the swaps are even or odd.
+/// Answers how many are refused.
+fn tables_agree(tape: &[u32]) -> usize {
+    let steps = steps_of(tape);
+    let defined = tables_by_columns(steps);
+    for (position, &expected) in defined.iter().enumerate() {
+        let found = table(tape, position as u32);
+        assert_eq!(found, expected.ok_or(12), "{position} of {steps:x?}");
+        let Ok(rows) = found else { continue };
+        assert_eq!(trace(tape, position as u32), Ok(rows.map(|row| row[1])));
+        let done = steps[..position].iter();
+        let swaps = done.filter(|&word| word >> 28 == SWP).count();
+        let entries = rows.map(|row| row.map(i128::from).to_vec());
+        assert_eq!(determinant(&entries), [1, -1][swaps % 2]);
+    }
+    defined.iter().filter(|table| table.is_none()).count()
+}
+
+/// The named programs of every order, exponent and variant for a small prime.
+fn named_programs(p: u32) -> Vec<Vec<u32>> {
+    let mut tapes = vec![];
+    for r in (2..p).filter(|&r| (p - 1).is_multiple_of(r)) {
+        for k in (1..r).filter(|&k| gcd(k, r) == 1) {
+            tapes.extend([1, 2, 3].map(|variant| built(p, r, k, variant)));
+        }
+    }
+    tapes
+}
+
+/// A hand-made program of drawn steps, or of drawn multiplications alone, whose exponents grow.
+fn drawn_program(noise: &mut Noise, p: u32, most: u64, growing: bool) -> Vec<u32> {
+    let steps: Vec<u32> = (0..noise.below(most + 1))
+        .map(|_| match random_step(noise) {
+            word if growing => MUL << 28 | word & 15,
+            word => word,
+        })
+        .collect();
+    free(p, &steps)
+}
+
+#[test]
+fn tables_of_named_programs() {
+    for p in (3..=43).filter(|&p| common::is_prime(p)) {
+        for tape in named_programs(p) {
+            assert_eq!(tables_agree(&tape), 0);
+        }
+    }
+    for variant in 1..=3 {
+        for (p, r, k) in [(359, 179, 76), (65537, 65536, 12345)] {
+            tables_agree(&built(p, r, k, variant));
+        }
+        tables_agree(&built(268435399, 268435398, 123456791, variant));
+    }
+}
+
+/// Some of them leave the range, and come back at times.
+#[test]
+fn tables_of_drawn_programs() {
+    let mut noise = Noise(41);
+    let (mut refused, mut answered) = (0, 0);
+    for count in 0..60 {
+        let tape = drawn_program(&mut noise, 7, 507, count % 2 == 0);
+        let outside = tables_agree(&tape);
+        refused += outside;
+        answered += tape.len() - 4 - outside;
+    }
+    assert!(refused > 1000 && answered > 1000);
+}
+
+/// The product of the start values to the exponents of a row. An exponent below 0 is one of the inverse,
+/// which is a^(p − 2).
+fn product_of(start: [u32; 4], row: [i64; 4], p: u32) -> u32 {
+    let factors = start.iter().zip(row).map(|(&a, e)| {
+        let unit = if e < 0 { power(a, p - 2, p) } else { a };
+        power(unit, e.unsigned_abs(), p) as u64
+    });
+    factors.fold(1, |x, factor| x * factor % p as u64) as u32
+}
+
+/// At all positions each register is the product of the start values to its row's exponents.
+fn products_agree(tape: &[u32], p: u32, starts: &[[u32; 4]]) {
+    for position in 0..=steps_of(tape).len() as u32 {
+        let Ok(rows) = table(tape, position) else {
+            continue;
+        };
+        for &start in starts {
+            let products = rows.map(|row| product_of(start, row, p));
+            assert_eq!(run(tape, start, 0, position), Ok(products));
+        }
+    }
+}
+
+fn drawn_start(noise: &mut Noise, p: u32) -> [u32; 4] {
+    [(); 4].map(|_| 1 + noise.below(p as u64 - 1) as u32)
+}
+
+/// Every start modulo 3 and 5.
+#[test]
+fn every_start_in_every_register() {
+    let mut noise = Noise(43);
+    for p in [3, 5] {
+        let mut tapes = named_programs(p);
+        tapes.extend((0..8).map(|_| drawn_program(&mut noise, p, 30, false)));
+        let digits = |number: u32| [0, 1, 2, 3].map(|at| number / (p - 1).pow(at) % (p - 1));
+        let starts: Vec<[u32; 4]> = (0..(p - 1).pow(4))
+            .map(|number| digits(number).map(|digit| 1 + digit))
+            .collect();
+        for tape in tapes {
+            products_agree(&tape, p, &starts);
+        }
+    }
+}
+
+#[test]
+fn drawn_starts_in_every_register() {
+    let mut noise = Noise(47);
+    for p in (7..=31).filter(|&p| common::is_prime(p)) {
+        for tape in named_programs(p) {
+            products_agree(&tape, p, &[drawn_start(&mut noise, p)]);
+        }
+    }
+    let p = 268435399;
+    for variant in 1..=3 {
+        let tape = built(p, p - 1, 123456791, variant);
+        products_agree(&tape, p, &[drawn_start(&mut noise, p)]);
+    }
+    for count in 0..40 {
+        let tape = drawn_program(&mut noise, p, 200, count % 4 == 0);
+        products_agree(&tape, p, &[drawn_start(&mut noise, p)]);
+    }
+}
+
+/// The steps really done on the way from one position to another.
+fn way(steps: &[u32], from: usize, to: usize) -> Vec<u32> {
+    if from <= to {
+        return steps[from..to].to_vec();
+    }
+    let undone = |&word: &u32| match word >> 28 {
+        SWP => word,
+        kind => (MUL + DIV - kind) << 28 | word & 15,
+    };
+    steps[to..from].iter().rev().map(undone).collect()
+}
+
+/// The table of a way, by a hand-made program of its steps.
+fn table_of(way: &[u32]) -> Table {
+    table(&free(3, way), way.len() as u32).expect("a way whose exponents stay in the range")
+}
+
+/// Sums of four products of exponents fit 128 bits.
+fn times(left: Table, right: Table) -> [[i128; 4]; 4] {
+    let dot = |row: [i64; 4], j: usize| (0..4).map(|k| row[k] as i128 * right[k][j] as i128).sum();
+    left.map(|row| [0, 1, 2, 3].map(|j| dot(row, j)))
+}
+
+/// On the way between two positions of a program: the table of the way back times that of the way out is
+/// the identity; that of the way out times the one at its beginning is the one at its end; and a run that
+/// way makes products by its exponents.
+fn way_agrees(tape: &[u32], p: u32, from: usize, to: usize, start: [u32; 4]) {
+    let steps = steps_of(tape);
+    let [out, back] = [way(steps, from, to), way(steps, to, from)].map(|way| table_of(&way));
+    let wide = |table: Table| table.map(|row| row.map(i128::from));
+    assert_eq!(times(back, out), wide(IDENTITY), "{from} to {to}");
+    let [begin, end] = [from, to].map(|position| table(tape, position as u32).unwrap());
+    assert_eq!(times(out, begin), wide(end), "{from} to {to}");
+    let products = out.map(|row| product_of(start, row, p));
+    assert_eq!(run(tape, start, from as u32, to as u32), Ok(products));
+}
+
+#[test]
+fn ways_out_and_back() {
+    let mut noise = Noise(53);
+    let mut tapes = vec![(3, CASE_A.to_vec())];
+    tapes.extend([1, 2, 3].map(|variant| (359, built(359, 179, 76, variant))));
+    tapes.extend((0..30).map(|_| (31, drawn_program(&mut noise, 31, 30, false))));
+    for (p, tape) in tapes {
+        let count = steps_of(&tape).len();
+        for (from, to) in (0..=count).flat_map(|from| (0..=count).map(move |to| (from, to))) {
+            way_agrees(&tape, p, from, to, drawn_start(&mut noise, p));
+        }
+    }
+    for variant in 1..=3 {
+        let tape = built(65537, 65536, 12345, variant);
+        let count = steps_of(&tape).len() as u64;
+        for _ in 0..200 {
+            let [from, to] = [(); 2].map(|_| noise.below(count + 1) as usize);
+            way_agrees(&tape, 65537, from, to, drawn_start(&mut noise, 65537));
+        }
     }
 }

@@ -5,7 +5,7 @@ use reference::script::script;
 use std::collections::HashMap;
 
 /// The refusals that documents 01 and 02 list for the services behind the verbs.
-const REFUSALS: [(&str, &[u32]); 12] = [
+const REFUSALS: [(&str, &[u32]); 13] = [
     ("fibonacci", &[13]),
     ("places", &[5]),
     ("number", &[12, 13]),
@@ -17,6 +17,7 @@ const REFUSALS: [(&str, &[u32]); 12] = [
     ("power", &[6, 7, 4, 1, 2, 3, 8, 9, 11]),
     ("raise", &[6, 7, 4, 1, 2, 3, 8, 14, 9, 11]),
     ("trace", &[6, 7, 4, 1, 2, 3, 8, 10, 12]),
+    ("table", &[6, 7, 4, 1, 2, 3, 8, 10, 12]),
     ("cut", &[6, 7, 4, 1, 2, 3, 8, 10]),
 ];
 const OFTEN: usize = 20;
@@ -124,6 +125,25 @@ fn rows_of_bases_of_every_length() {
         let refused = |text: &str| text.starts_with("fibexp: refused 14: ");
         assert!(count(length, refused) >= FEW, "{length} bases");
     }
+}
+
+/// A table is asked behind each trace, at the same position. It is refused for the range where the trace is,
+/// and at times where the trace is answered.
+#[test]
+fn tables_leave_the_range_beside_traces() {
+    let told = told(&calls::script());
+    let refused = |text: &str| text.starts_with("fibexp: refused 12: ");
+    let answered = |text: &str| !text.starts_with("fibexp: ");
+    let beside = told
+        .iter()
+        .zip(&told[1..])
+        .filter(|(first, second)| first.0.starts_with("trace ") && second.0.starts_with("table "));
+    let mut alone = 0;
+    for ((_, trace), (line, table)) in beside {
+        assert!(refused(table) || !refused(trace), "{line}");
+        alone += (refused(table) && answered(trace)) as usize;
+    }
+    assert!(alone >= OFTEN, "{alone} times");
 }
 
 #[test]

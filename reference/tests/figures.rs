@@ -1,4 +1,4 @@
-//! Every figure of document 01, and every row of the paper's Figure 7.
+//! Every figure of document 01, two of request T-02, and every row of the paper's Figure 7.
 
 mod common;
 
@@ -74,6 +74,20 @@ fn bench_r_179() {
     assert_eq!(trace(&built(359, 179, 76, 3), 76), Ok([0, 76, -8055, 0]));
 }
 
+/// The tables at the ends of case A, whose eleven steps are soon done by hand, and of the hybrid program.
+#[test]
+fn tables_at_the_end() {
+    let case_a = [[1, 0, 0, 0], [1, 1, 1, 0], [-2, 0, -1, 0], [0, 0, 0, 1]];
+    assert_eq!(table(&CASE_A, 11), Ok(case_a));
+    let hybrid = [
+        [13, 0, 21, 0],
+        [21, 76, 34, 0],
+        [-3084, -8055, -4990, 0],
+        [0, 0, 0, 1],
+    ];
+    assert_eq!(table(&built(359, 179, 76, 3), 76), Ok(hybrid));
+}
+
 #[test]
 fn bench_refusals() {
     let mut row = [0; 512];
@@ -91,6 +105,8 @@ fn a_free_tape_with_no_steps() {
     assert_eq!(check(&tape), Ok(()));
     assert_eq!(run(&tape, [1, 2, 3, 6], 0, 0), Ok([1, 2, 3, 6]));
     assert_eq!(trace(&tape, 0), Ok([0, 1, 0, 0]));
+    let identity = [[1, 0, 0, 0], [0, 1, 0, 0], [0, 0, 1, 0], [0, 0, 0, 1]];
+    assert_eq!(table(&tape, 0), Ok(identity));
     assert_eq!(load(&tape, 3), Ok([1, 3, 1, 1]));
     assert_eq!(cut(&tape, 0, 0), Ok(&[][..]));
     assert_eq!(listing(&bytes(&tape)), b"free p=7 r=0 k=0 steps=0\n");

@@ -373,6 +373,9 @@ fn positions() {
     assert_eq!(run(&tape, [1; 4], 19, 19), Ok([1; 4]));
     assert_eq!(trace(&tape, 20), Err(10));
     assert!(trace(&tape, 19).is_ok());
+    assert_eq!(table(&tape, 20), Err(10));
+    assert_eq!(table(&tape, u32::MAX), Err(10));
+    assert!(table(&tape, 19).is_ok());
     assert_eq!(cut(&tape, 0, 20), Err(10));
     assert_eq!(cut(&tape, 20, 20), Err(10));
     assert_eq!(cut(&tape, 3, 2), Err(10));
@@ -464,6 +467,98 @@ fn range() {
         Ok((1, -limit))
     );
     assert_eq!(trace(&tape, at + 1), Err(12));
+}
+
+/// Table's refusals apply in the order of check's 6, 7, 4, 1, 2, 3, 8, then 10, 12.
+#[test]
+fn table_order() {
+    let named = built(7, 3, 2, 1);
+    let growing: Vec<u32> = (0..200).map(|i| step(MUL, 2 + i % 2, 3 - i % 2)).collect();
+    let tape = free(7, &growing);
+    let broken = [
+        (named[..4].to_vec(), 6),
+        (free(7, &[step(MUL, 2, 3); 508]), 6),
+        (with(&named, 4, 0), 7),
+        (with(&tape, 4, 0), 7),
+        (stepless(4, 9, 0, 0), 4),
+        (with(&tape, 0, 0x10000401), 4),
+        (with(&tape, 1, 0x20000009), 1),
+        (stepless(1, 9, 0, 0), 1),
+        (stepless(2, 7, 4, 0), 2),
+        (stepless(3, 7, 6, 4), 3),
+        (stepless(1, 7, 3, 2), 8),
+        (with(&named, 4, step(DIV, 0, 1)), 8),
+    ];
+    for (tape, refusal) in &broken {
+        // Each comes before 10, and before 12, of the long ones at position 200.
+        for position in [0, 1, 19, 20, 200, 201, 512, u32::MAX] {
+            assert_eq!(table(tape, position), Err(*refusal), "{position}");
+        }
+    }
+    // 10 comes before 12, and no position within is refused but for the range.
+    assert_eq!(table(&tape, 201), Err(10));
+    assert_eq!(table(&tape, u32::MAX), Err(10));
+    for position in 0..=200 {
+        let expected = if position < 90 { None } else { Some(12) };
+        assert_eq!(table(&tape, position).err(), expected, "{position}");
+        // The start value 1 stays in its register.
+        assert_eq!(trace(&tape, position), Ok([0, 1, 0, 0]));
+    }
+}
+
+/// The steps of a climb on registers 0 and 1, done on two others.
+fn on_registers(steps: &[u32], target: u32, source: u32) -> Vec<u32> {
+    let registers = [target, source];
+    let moved = |&word: &u32| {
+        let [first, second] = [word & 3, word >> 2 & 3].map(|at| registers[at as usize]);
+        match word >> 28 {
+            SWP => step(SWP, first.min(second), first.max(second)),
+            kind => step(kind, first, second),
+        }
+    };
+    steps.iter().map(moved).collect()
+}
+
+/// The ends of the range for each register and each start value that isn't its own.
+#[test]
+fn table_range() {
+    for target in 0..4 {
+        for source in (0..4).filter(|&source| source != target) {
+            reaches_the_ends(target, source);
+        }
+    }
+}
+
+/// The exponent of the source's start value climbs to 2^62 in the target. A third register then holds
+/// −2^62, and a fourth one 1 from the beginning on, which takes either past its end.
+fn reaches_the_ends(target: u32, source: u32) {
+    let limit = 1i64 << 62;
+    let others: Vec<u32> = (0..4).filter(|x| ![target, source].contains(x)).collect();
+    let [low, one] = [others[0], others[1]];
+    let climb = on_registers(&short_climb(limit), target, source);
+    let (first, last) = (step(MUL, one, source), step(DIV, low, target));
+    let begin = [&[first][..], &climb, &[last]].concat();
+    let at = begin.len() as u32;
+    for (there, back, register) in [(MUL, DIV, target), (DIV, MUL, low)] {
+        let more = [step(there, register, one), step(back, register, one)];
+        let tape = free(7, &[&begin[..], &more].concat());
+        let rows = table(&tape, at).unwrap();
+        assert_eq!(rows[target as usize][source as usize], limit);
+        assert_eq!(rows[low as usize][source as usize], -limit);
+        assert_eq!(rows[one as usize][source as usize], 1);
+        assert_eq!(table(&tape, at + 1), Err(12));
+        assert_eq!(table(&tape, at + 2), Err(12));
+        assert_eq!(table(&tape, at + 3), Err(10));
+        // A trace tells of start value 1 alone.
+        let traced = if source == 1 { Some(12) } else { None };
+        assert_eq!(trace(&tape, at + 1).err(), traced);
+        assert_eq!(trace(&tape, at + 2).err(), traced);
+    }
+    // 2^63 and −2^63 are outside.
+    for past in [step(DIV, target, low), step(DIV, low, target)] {
+        let tape = free(7, &[&begin[..], &[past]].concat());
+        assert_eq!(table(&tape, at + 1), Err(12));
+    }
 }
 
 #[test]

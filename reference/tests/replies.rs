@@ -107,6 +107,8 @@ fn tapes() {
     answers(&tape, "raise", "");
     answers(&built(359, 179, 76, 3), "raise 4 0x10 064", "266 33 162");
     answers(&tape, "trace 11", "0 1 0 0");
+    answers(&tape, "table 0", "1 0 0 0\n0 1 0 0\n0 0 1 0\n0 0 0 1");
+    answers(&tape, "table 0xB", "1 0 0 0\n1 1 1 0\n-2 0 -1 0\n0 0 0 1");
     answers(&tape, "cut 0 2", "1342177284 1879048196");
     answers(&tape, "cut 5 5", "");
     // An empty list, a request, one with numbers left over, tapes that aren't inside.
@@ -155,6 +157,8 @@ fn complaints() {
     complains("build 3 2 1", "build takes 4 parameters, 3 given");
     complains("check all", "check takes 0 parameters, 1 given");
     complains("trace", "trace takes 1 parameter, 0 given");
+    complains("table", "table takes 1 parameter, 0 given");
+    complains("table 1 2", "table takes 1 parameter, 2 given");
     complains("--help me", "--help takes 0 parameters, 1 given");
     complains("play 1 2 3", "play takes 4 to 64 parameters, 3 given");
     for (verb, count, takes) in [
@@ -267,6 +271,7 @@ fn reasons_of_tapes() {
         "raise 0",
         "raise",
         "trace 9",
+        "table 9",
         "cut 9 0",
     ] {
         refuses(&[], line, length);
@@ -315,11 +320,9 @@ fn reasons_of_tapes() {
         "run 1 2 1 1 0 12",
         "10: a position is above the step count",
     );
-    refuses(
-        &CASE_A,
-        "trace 12",
-        "10: a position is above the step count",
-    );
+    for line in ["trace 12", "table 12", "table 4294967295"] {
+        refuses(&CASE_A, line, "10: a position is above the step count");
+    }
     let cut = "10: first and last must be positions up to the step count, first at most last";
     refuses(&CASE_A, "cut 3 2", cut);
     refuses(
@@ -341,17 +344,19 @@ fn reasons_of_tapes() {
         "11: the base's power r isn't 1",
     );
     let growing: Vec<u32> = (0..100).map(|i| step(MUL, i % 2, 1 - i % 2)).collect();
-    refuses(
-        &free(3, &growing),
-        "trace 100",
-        "12: an exponent leaves -2^62 to 2^62",
-    );
+    let range = "12: an exponent leaves -2^62 to 2^62";
+    refuses(&free(3, &growing), "trace 100", range);
+    refuses(&free(3, &growing), "table 100", range);
+    // Of start value 1 alone they don't.
+    let aside: Vec<u32> = (0..100).map(|i| step(MUL, 2 + i % 2, 3 - i % 2)).collect();
+    refuses(&free(3, &aside), "table 100", range);
+    answers(&free(3, &aside), "trace 100", "0 1 0 0");
 }
 
 #[test]
 fn bytes_that_are_no_whole_words() {
     let part = "fibexp: refused 6: standard input isn't whole words of 4 bytes\n";
-    for line in ["check", "load 2", "raise 2 0", "trace 0"] {
+    for line in ["check", "load 2", "raise 2 0", "trace 0", "table 0"] {
         let words: Vec<&[u8]> = line.split(' ').map(str::as_bytes).collect();
         for count in [1, 5, 21, 2047, 2049] {
             let reply = reply(&words, &vec![0; count]);

@@ -104,6 +104,21 @@ fn a_row_of_bases() {
 }
 
 #[test]
+fn a_table() {
+    let rows = "1 0 0 0\n0 1 0 0\n0 0 1 0\n0 0 0 1\n";
+    // Four lines are no text that a line could have; it takes no notice of a room.
+    prints(
+        "tape 0x10000001 0x20000007 0x30000000 0x40000000 0xF0000000\ntable 0\n\
+         table 0 = 1 0 0 0\nroom 1\ntable 0\ntable 1\ntable 1 = 0\n",
+        &format!(
+            "5\n{rows}{rows}= 1 0 0 0: no\n1\n{rows}\
+             fibexp: refused 10: a position is above the step count\n\
+             fibexp: refused 10: a position is above the step count\n= 0: no\n"
+        ),
+    );
+}
+
+#[test]
 fn a_change_out_of_range() {
     let none = "fibexp: no such word in the tape\n";
     prints("change 0 0\n", none);

@@ -34,6 +34,7 @@ mod c {
             position: u32,
             exponents: *mut i64,
         ) -> u32;
+        pub fn fibexp_table(tape: *const u32, words: usize, position: u32, table: *mut i64) -> u32;
         pub fn fibexp_cut(
             tape: *const u32,
             words: usize,
@@ -108,6 +109,11 @@ pub fn raise(tape: &[u32], bases: &mut [u32]) -> u32 {
 
 pub fn trace(tape: &[u32], position: u32, exponents: &mut [i64; 4]) -> u32 {
     unsafe { c::fibexp_trace(tape.as_ptr(), tape.len(), position, exponents.as_mut_ptr()) }
+}
+
+/// The table row by row.
+pub fn table(tape: &[u32], position: u32, table: &mut [i64; 16]) -> u32 {
+    unsafe { c::fibexp_table(tape.as_ptr(), tape.len(), position, table.as_mut_ptr()) }
 }
 
 pub fn cut(tape: &[u32], first: u32, last: u32, start: &mut u32, count: &mut u32) -> u32 {

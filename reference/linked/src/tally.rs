@@ -14,12 +14,13 @@ pub enum Service {
     Run,
     Raise,
     Trace,
+    Table,
     Cut,
     Listing,
     Reply,
 }
 
-const SERVICES: [Service; 15] = [
+const SERVICES: [Service; 16] = [
     Service::Fibonacci,
     Service::Places,
     Service::Number,
@@ -32,6 +33,7 @@ const SERVICES: [Service; 15] = [
     Service::Run,
     Service::Raise,
     Service::Trace,
+    Service::Table,
     Service::Cut,
     Service::Listing,
     Service::Reply,
@@ -55,6 +57,7 @@ impl Service {
             Service::Run => "run",
             Service::Raise => "raise",
             Service::Trace => "trace",
+            Service::Table => "table",
             Service::Cut => "cut",
             Service::Listing => "listing",
             Service::Reply => "reply",
@@ -74,7 +77,7 @@ impl Service {
             Service::Load => &[6, 7, 4, 1, 2, 3, 8, 9, 11],
             Service::Run => &[6, 7, 4, 1, 2, 3, 8, 9, 10],
             Service::Raise => &[6, 7, 4, 1, 2, 3, 8, 14, 9, 11],
-            Service::Trace => &[6, 7, 4, 1, 2, 3, 8, 10, 12],
+            Service::Trace | Service::Table => &[6, 7, 4, 1, 2, 3, 8, 10, 12],
             Service::Cut => &[6, 7, 4, 1, 2, 3, 8, 10],
             Service::Listing => &[6, 7, 4, 1, 2, 3, 8, 5],
             Service::Reply => &[1, 2],

@@ -57,14 +57,15 @@ pub(super) fn asks(lines: &mut Lines, fields: &Fields) {
     odd::line(lines);
 }
 
-/// Besides the ways of `tapes::tape`, more often at the edge of the exponents' range and with a header that
-/// isn't the steps' own, or too short, so that each refusal of a tape is met often.
+/// Besides the ways of `tapes::tape`, more often at the edge of the exponents' range and with a header or
+/// a step that isn't the program's own, or too short, so that each refusal of a tape is met often.
 pub(super) fn tape(fields: &Fields, noise: &mut Noise) -> Vec<u32> {
-    match noise.below(16) {
-        0..=2 => tapes::edge(fields, noise),
-        3..=7 => tapes::header_of(fields, noise),
-        8 => tapes::too_short(noise),
-        9..=11 => named(fields.lawful(noise)),
+    match noise.below(18) {
+        0..=3 => tapes::edge(fields, noise),
+        4..=8 => tapes::header_of(fields, noise),
+        9 => tapes::changed_step(fields, noise),
+        10 => tapes::too_short(noise),
+        11..=13 => named(fields.lawful(noise)),
         _ => tapes::tape(fields, noise),
     }
 }
@@ -122,11 +123,13 @@ fn raises(lines: &mut Lines) {
     }
 }
 
+/// Traces and tables at the same positions, where the one may be answered and the other not; and cuts.
 fn exponents(lines: &mut Lines) {
     let count = steps(&lines.tape);
     for _ in 0..2 {
         let position = values::last_position(&mut lines.noise, count);
         lines.small_call("trace", &[position]);
+        lines.small_call("table", &[position]);
     }
     let (first, last) = values::positions(&mut lines.noise, count);
     lines.small_call("cut", &[first, last]);

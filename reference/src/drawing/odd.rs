@@ -4,7 +4,7 @@ use crate::drawing::lines::Lines;
 use crate::drawing::noise::Noise;
 
 /// Verbs, each with a count of parameters that it takes.
-const VERBS: [(&str, usize); 26] = [
+const VERBS: [(&str, usize); 27] = [
     ("build", 4),
     ("check", 0),
     ("list", 0),
@@ -13,6 +13,7 @@ const VERBS: [(&str, usize); 26] = [
     ("power", 1),
     ("raise", 3),
     ("trace", 1),
+    ("table", 1),
     ("cut", 2),
     ("play", 4),
     ("decode", 1),

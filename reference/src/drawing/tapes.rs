@@ -19,8 +19,13 @@ const DIV: u32 = 6;
 const SWP: u32 = 7;
 const END: u32 = 15;
 
+/// With these bits turned a mul is the div that undoes it, and a div the mul.
+const UNDONE: u32 = (MUL ^ DIV) * PAYLOADS;
+
 /// The exponents' range ends here.
 const EXPONENT_LIMIT: u64 = 1 << 62;
+/// Longer climbs to it are drawn anew, which keeps scripts small.
+const MOST_CLIMB: usize = 180;
 
 /// A tape: named ones and hand-made ones, three in eight of them damaged, and rows of any words.
 pub fn tape(fields: &Fields, noise: &mut Noise) -> Vec<u32> {
@@ -92,34 +97,52 @@ pub fn short(p: u32, noise: &mut Noise) -> Vec<u32> {
     laid_out([0, p, 0, 0], &steps)
 }
 
-/// A hand-made program after which an exponent is 2^62, or beside it, or that with a minus sign.
+/// A hand-made program after which an exponent is 2^62, or beside it, or that with a minus sign, and up
+/// to three steps behind it. In half of the draws it is an exponent of start value 1, which a trace tells;
+/// those of the others only a table does.
 pub fn edge(fields: &Fields, noise: &mut Noise) -> Vec<u32> {
-    let highest = EXPONENT_LIMIT - 1 + noise.below(3) as u64;
+    let highest = EXPONENT_LIMIT + 1 - noise.pick(&[0, 0, 1, 2]);
     let kind = noise.pick(&[MUL, DIV]);
+    let pair = if noise.once_in(3) {
+        (0, 1)
+    } else {
+        two_registers(noise)
+    };
     let mut steps = loop {
         let other = 1 + noise.number() % (highest - 1);
-        if let Some(steps) = climb(highest, other, kind) {
+        if let Some(steps) = climb(highest, other, kind, pair) {
             break steps;
         }
     };
-    for _ in 0..noise.below(4) {
-        steps.push(step(noise));
-    }
+    let tail = tail(&steps, noise);
+    steps.extend(tail);
     laid_out([0, fields.modulus(noise), 0, 0], &steps)
 }
 
-/// The steps from (0, 1, 0, 0) to registers 0 and 1 with these exponents, the first with a minus sign
-/// for div: Euclid's subtractions in reverse. None where they share a factor or are too many.
-fn climb(highest: u64, other: u64, kind: u32) -> Option<Vec<u32>> {
+/// Up to three steps: any, or the last of a climb undone.
+fn tail(climb: &[u32], noise: &mut Noise) -> Vec<u32> {
+    let count = noise.index(4);
+    if noise.once_in(2) {
+        (0..count).map(|_| step(noise)).collect()
+    } else {
+        let last = climb.iter().rev().take(count);
+        last.map(|word| word ^ UNDONE).collect()
+    }
+}
+
+/// The steps after which the exponents of the second register's start value in the two registers are
+/// these, the first with a minus sign for div: Euclid's subtractions in reverse. None where they share a
+/// factor or the steps are too many.
+fn climb(highest: u64, other: u64, kind: u32, pair: (u32, u32)) -> Option<Vec<u32>> {
     let (mut first, mut second) = (highest, other);
     let mut steps = Vec::new();
-    while first > 0 && second > 0 && steps.len() < MOST_STEPS as usize - 4 {
+    while first > 0 && second > 0 && steps.len() < MOST_CLIMB {
         if first >= second {
             first -= second;
-            steps.push(step_word(kind, 0, 1));
+            steps.push(step_word(kind, pair.0, pair.1));
         } else {
             second -= first;
-            steps.push(step_word(kind, 1, 0));
+            steps.push(step_word(kind, pair.1, pair.0));
         }
     }
     steps.reverse();
@@ -137,6 +160,18 @@ fn header_and_steps(fields: &Fields, noise: &mut Noise) -> Vec<u32> {
 pub fn header_of(fields: &Fields, noise: &mut Noise) -> Vec<u32> {
     let mut tape = named(fields.lawful(noise));
     change_header(&mut tape, fields, noise);
+    tape
+}
+
+/// A named program of which one step is another, or has a bit turned.
+pub fn changed_step(fields: &Fields, noise: &mut Noise) -> Vec<u32> {
+    let mut tape = named(fields.lawful(noise));
+    let inside = HEADER_WORDS + noise.index(tape.len() - FRAME_WORDS);
+    if noise.once_in(2) {
+        tape[inside] = step(noise);
+    } else {
+        tape[inside] ^= 1 << noise.below(32);
+    }
     tape
 }
 

@@ -154,7 +154,8 @@ pub fn position(noise: &mut Noise, count: u32) -> u32 {
     }
 }
 
-/// A position to trace to: the last one as often as any, since most programs leave the range late.
+/// A position of a trace or table: the last one as often as any, since most programs leave the range
+/// late.
 pub fn last_position(noise: &mut Noise, count: u32) -> u32 {
     if noise.once_in(2) {
         count

@@ -44,6 +44,7 @@ fn on_tape(call: &Call, tapes: Tapes) -> Answer {
         Verb::Power => power(tape, n[0]),
         Verb::Raise => raise(tape, n),
         Verb::Trace => services::trace(tape, n[0]).map(|four| line_of(&four)),
+        Verb::Table => table(tape, n[0]),
         Verb::Cut => services::cut(tape, n[0], n[1]).map(line_of),
         _ => {
             let registers = [n[0], n[1], n[2], n[3]];
@@ -101,6 +102,12 @@ fn power(tape: &[u32], base: u32) -> Answer {
 fn raise(tape: &[u32], mut bases: Vec<u32>) -> Answer {
     services::raise(tape, &mut bases)?;
     Ok(line_of(&bases))
+}
+
+/// A line for each register.
+fn table(tape: &[u32], position: u32) -> Answer {
+    let rows = services::table(tape, position)?;
+    Ok(rows.map(|row| line_of(&row)).concat())
 }
 
 fn meaning(word: u32) -> Vec<u8> {

@@ -20,6 +20,7 @@ on the tape from standard input:
   power BASE             load and run: register 1 (a named program's power), the registers
   raise BASE..           each of up to 64 bases to the power k, by a named program
   trace POSITION         the four whole exponents
+  table POSITION         the exponent of each start value in each register, a line for each register
   cut FIRST LAST         the words of the steps FIRST + 1 to LAST
   play C D E F REQUEST.. a list of runs, each BEGIN END FROM TO: the registers at its end, each run's number
 on numbers:

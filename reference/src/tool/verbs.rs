@@ -10,6 +10,7 @@ pub(crate) enum Verb {
     Power,
     Raise,
     Trace,
+    Table,
     Cut,
     Play,
     Decode,
@@ -68,7 +69,7 @@ const fn exactly(name: &'static str, verb: Verb, count: usize) -> Entry {
 }
 
 /// What a command line may begin with.
-pub(crate) const VERBS: [Entry; 26] = [
+pub(crate) const VERBS: [Entry; 27] = [
     exactly("build", Verb::Build, 4),
     exactly("check", Verb::Check, 0),
     exactly("list", Verb::List, 0),
@@ -77,6 +78,7 @@ pub(crate) const VERBS: [Entry; 26] = [
     exactly("power", Verb::Power, 1),
     takes("raise", Verb::Raise, 0, MOST, WORD),
     exactly("trace", Verb::Trace, 1),
+    exactly("table", Verb::Table, 1),
     exactly("cut", Verb::Cut, 2),
     takes("play", Verb::Play, 4, MANY, WORD),
     exactly("decode", Verb::Decode, 1),
@@ -119,6 +121,7 @@ impl Verb {
                 | Verb::Power
                 | Verb::Raise
                 | Verb::Trace
+                | Verb::Table
                 | Verb::Cut
                 | Verb::Play
         )

@@ -7,9 +7,9 @@
 //! and outputs lie between canaries, drawn anew for each call, and a refused call leaves all of them.
 //! The first difference is printed with its input and ends the program with status 1.
 //!
-//! The calls come in rounds. A round draws two tapes and makes 24 calls: of each tape check, load, run,
-//! raise and trace, of one also cut and the listing; two builds; two each of places, number, G and the
-//! inverse; a Fibonacci number; a height. So the services that take or write tapes, where most can go
+//! The calls come in rounds. A round draws two tapes and makes 26 calls: of each tape check, load, run,
+//! raise, trace and table, of one also cut and the listing; two builds; two each of places, number, G and
+//! the inverse; a Fibonacci number; a height. So the services that take or write tapes, where most can go
 //! wrong, have more than half of the calls. One round in four also gives the tool some forty command
 //! lines of every verb, a fifth of them damaged, with a third tape on standard input. Of the tapes
 //! nine in sixteen are what build writes for drawn parameters, four are hand-made, two have a header
@@ -82,6 +82,7 @@ impl Comparison {
             self.run(tape);
             self.raise(tape);
             self.trace(tape);
+            self.table(tape);
         }
         self.cut(&first);
         self.listing(&second);
@@ -266,6 +267,22 @@ impl Comparison {
         );
     }
 
+    fn table(&mut self, tape: &[u32]) {
+        let position = draw::last_position(&mut self.noise, steps(tape));
+        let lent = Lent::new(&mut self.noise, sixteen_exponents);
+        let mut table = lent;
+        let (number, row) = lend(tape, |tape| proved::table(tape, position, &mut table.value));
+        let (refusal, expected) = lent.settled(services::table(tape, position).map(row_by_row));
+        let call = || format!("table {position} {}", hexadecimal(tape));
+        let (answered, expected) = ((table, &row[..]), (expected, tape));
+        self.compare(
+            Service::Table,
+            call,
+            (number, answered),
+            (refusal, expected),
+        );
+    }
+
     fn cut(&mut self, tape: &[u32]) {
         let (first, last) = self.cut_positions(steps(tape));
         let lent = Lent::new(&mut self.noise, Noise::word);
@@ -411,6 +428,15 @@ fn four_words(noise: &mut Noise) -> [u32; 4] {
 
 fn four_exponents(noise: &mut Noise) -> [i64; 4] {
     [0; 4].map(|_| noise.number() as i64)
+}
+
+fn sixteen_exponents(noise: &mut Noise) -> [i64; 16] {
+    [0; 16].map(|_| noise.number() as i64)
+}
+
+/// The table as the C interface has it: the exponent of start value j in register i is number 4 i + j.
+fn row_by_row(rows: [[i64; 4]; 4]) -> [i64; 16] {
+    std::array::from_fn(|at| rows[at / 4][at % 4])
 }
 
 /// Where in the tape a part of it stands.

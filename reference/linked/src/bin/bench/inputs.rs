@@ -171,6 +171,7 @@ fn hand_made(noise: &mut Noise, p: u32) -> Vec<u32> {
 fn accepted(tape: &[u32]) {
     assert_eq!(proved::check(tape), 0);
     assert!(services::trace(tape, steps(tape)).is_ok());
+    assert!(services::table(tape, steps(tape)).is_ok());
 }
 
 /// The same of all bases in one row.

@@ -42,6 +42,7 @@ const fn service(
 
 const PROGRAM: &str = "primes, forms, inverse";
 const RUN: &str = "primes, forms, inverse, product";
+const TABLE: &str = "primes, forms, inverse, passes";
 const LOADS_AND_RUNS: &str = "both sides proved; the other is 64 loads and 64 runs";
 
 pub const CHECK: &str = "check";
@@ -63,6 +64,7 @@ pub static SERVICES: &[Service] = &[
         raise_beside_runs,
     ),
     service("trace", EVERY, true, PROGRAM, trace),
+    service("table", EVERY, true, TABLE, table),
     service("cut", NAMED, false, PROGRAM, cut),
     service("listing", NAMED, false, PROGRAM, listing),
     service("inverse", NONE, false, "inverse", inverse),
@@ -207,6 +209,22 @@ fn trace(inputs: &Inputs, variant: u32) -> Pair<'_> {
         move |i| {
             let tape = black_box(inputs.tape(variant, i));
             let _ = black_box(services::trace(tape, steps(tape)));
+        },
+    )
+}
+
+/// At the last position too.
+fn table(inputs: &Inputs, variant: u32) -> Pair<'_> {
+    let mut exponents = [0; 16];
+    Pair::new(
+        move |i| {
+            let tape = black_box(inputs.tape(variant, i));
+            black_box(proved::table(tape, steps(tape), &mut exponents));
+            black_box(&exponents);
+        },
+        move |i| {
+            let tape = black_box(inputs.tape(variant, i));
+            let _ = black_box(services::table(tape, steps(tape)));
         },
     )
 }
