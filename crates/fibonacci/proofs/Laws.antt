@@ -7,6 +7,7 @@ pub mod Forms
 pub mod Zeckendorf
 pub mod Places
 pub mod Height
+pub mod Ranges
 pub mod Lengths
 pub mod Taking
 pub mod BitStrings

@@ -15,6 +15,58 @@ const F_48: u64 = 4807526976;
 // Half of L_48.
 const HALF_L_48: u64 = 5374978561;
 
+// A row for each h from 1 to 47: the first r that has it, and the last. The last is L_h where h is odd and L_h - 1 where h is even; for 47 it
+// is the largest number of 32 bits, which is below L_47.
+const RANGES: [[u32; 2]; 47] = [
+    [0, 1], // h = 1
+    [2, 2], // h = 2
+    [3, 4], // h = 3
+    [5, 6], // h = 4
+    [7, 11], // h = 5
+    [12, 17], // h = 6
+    [18, 29], // h = 7
+    [30, 46], // h = 8
+    [47, 76], // h = 9
+    [77, 122], // h = 10
+    [123, 199], // h = 11
+    [200, 321], // h = 12
+    [322, 521], // h = 13
+    [522, 842], // h = 14
+    [843, 1364], // h = 15
+    [1365, 2206], // h = 16
+    [2207, 3571], // h = 17
+    [3572, 5777], // h = 18
+    [5778, 9349], // h = 19
+    [9350, 15126], // h = 20
+    [15127, 24476], // h = 21
+    [24477, 39602], // h = 22
+    [39603, 64079], // h = 23
+    [64080, 103681], // h = 24
+    [103682, 167761], // h = 25
+    [167762, 271442], // h = 26
+    [271443, 439204], // h = 27
+    [439205, 710646], // h = 28
+    [710647, 1149851], // h = 29
+    [1149852, 1860497], // h = 30
+    [1860498, 3010349], // h = 31
+    [3010350, 4870846], // h = 32
+    [4870847, 7881196], // h = 33
+    [7881197, 12752042], // h = 34
+    [12752043, 20633239], // h = 35
+    [20633240, 33385281], // h = 36
+    [33385282, 54018521], // h = 37
+    [54018522, 87403802], // h = 38
+    [87403803, 141422324], // h = 39
+    [141422325, 228826126], // h = 40
+    [228826127, 370248451], // h = 41
+    [370248452, 599074577], // h = 42
+    [599074578, 969323029], // h = 43
+    [969323030, 1568397606], // h = 44
+    [1568397607, 2537720636], // h = 45
+    [2537720637, 4106118242], // h = 46
+    [4106118243, 4294967295], // h = 47
+];
+
 // Two neighbouring Fibonacci numbers.
 struct Neighbours(u64, u64);
 
@@ -42,21 +94,21 @@ pub fn hofstadter(n: u64) -> u64
     quotient
 }
 
-// Document 01's h: the least positive h with r < phi^h, found by going up the Lucas numbers.
+// Document 01's h: the least positive h with r < phi^h, read off the list. r is in the first range that doesn't end below it; where that is
+// none of the first 46, it is the last. Since the rounds have a limit, the compiler unrolls the loop into comparisons with numbers, and no
+// list is written out on the stack.
 pub fn height(r: u32) -> u32
     ensures { λ h. ⌜ h ≡ height r ⌝ }
 {
-    let wanted = r as u64;
-    let mut before: u64 = 2;
-    let mut lucas: u64 = 1;
-    let mut h: u32 = 1;
-    while lucas + (h % 2) as u64 <= wanted {
-        let next = before + lucas;
-        before = lucas;
-        lucas = next;
-        h += 1;
+    let ranges = RANGES;
+    let mut row: usize = 0;
+    while row < 46 {
+        if r <= ranges[row][1] {
+            return row as u32 + 1;
+        }
+        row += 1;
     }
-    h
+    47
 }
 
 // F_index, and 0 where it does not fit.

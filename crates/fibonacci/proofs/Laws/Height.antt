@@ -2,17 +2,16 @@
 -- ℓ', the least odd one, is h, or the number after it, which reaches r too.
 use mathlib.Core.Path.{_≡_, refl, sym, ap, _∙_}
 use mathlib.Core.Bool.{Bool, true, false, not, _&&_, cond, and-false, true≢false}
-use Prim.Native.Nat.{ℕ, zero, suc, _+_, _*_, _-_, _%_, _≤_, _<_, _^_}
-use native.Mathlib.Nat.{le-refl, add-comm}
-use native.Mathlib.Numerals.{add-one, sub-one}
+use Prim.Native.Nat.{ℕ, zero, suc, _+_, _-_, _≤_, _<_, _^_}
+use native.Mathlib.Nat.{le-refl}
 use native.Mathlib.Omega.{arith}
 use native.Mathlib.Decide.{decLe, decLt}
 use lib.ListN.{length}
-use borrow.Author.Tests.{leb-true, le-leb, lt-leb}
+use borrow.Author.Tests.{leb-true, le-leb}
 use Rattle.fibonacci.specs.Fibonacci.{fib, lucas, odd}
 use Rattle.fibonacci.specs.Forms.{zeckendorf}
 use Rattle.fibonacci.specs.Height.{reaches, firstFrom, height, oddHeight}
-use Rattle.fibonacci.proofs.Laws.Fibonacci.{odd-one, odd-zero, odd-next, lucas-next, lucas-grows, lucas-exceeds, lucas-positive, lucas-below-fib}
+use Rattle.fibonacci.proofs.Laws.Fibonacci.{odd-next, lucas-grows, lucas-exceeds, lucas-positive, lucas-below-fib}
 use Rattle.fibonacci.proofs.Laws.Zeckendorf.{zeckendorf-length}
 use Rattle.refusal.proofs.Laws.Tests.{both}
 
@@ -25,14 +24,6 @@ reaches-odd r h o l = rw o (le-leb r (lucas h) l)
 pub reaches-even : (r h : ℕ) → odd h ≡ false → r < lucas h → reaches r h ≡ true
 unfolding reaches
 reaches-even r h o l = rw o (le-leb r (lucas h - 1) (omega arith))
-
-pub fails-odd : (r h : ℕ) → odd h ≡ true → lucas h < r → reaches r h ≡ false
-unfolding reaches
-fails-odd r h o l = rw o (lt-leb r (lucas h) l)
-
-pub fails-even : (r h : ℕ) → odd h ≡ false → 0 < lucas h → lucas h ≤ r → reaches r h ≡ false
-unfolding reaches
-fails-even r h o p l = rw o (lt-leb r (lucas h - 1) (omega arith))
 
 pub odd-reaches : (r h : ℕ) → odd h ≡ true → reaches r h ≡ true → r ≤ lucas h
 unfolding reaches
@@ -178,57 +169,3 @@ height-le-odd r = height-le r (odd-height-least r .from) (odd-height-reaches r)
 pub odd-height-28 : (r : ℕ) → r < 2 ^ 28 → oddHeight r ≤ 41
 unfolding reaches lucas
 odd-height-28 r h = first-le {j = 41} (odd-height-least r) (omega arith) (le-leb r 370248451 (omega arith))
-
--- ---- going up to h, one number after another, by the test that the code makes
-
-pub climb-fails : (r h : ℕ) → lucas h + h % 2 ≤ r → reaches r h ≡ false
-climb-fails r h l = go (odd h) refl
-  where
-    go : (t : Bool) → odd h ≡ t → reaches r h ≡ false
-    go true o = fails-odd r h o (omega (arith, odd-one h o))
-    go false o = fails-even r h o (lucas-positive h) (omega arith)
-
-pub climb-reaches : (r h : ℕ) → r < lucas h + h % 2 → reaches r h ≡ true
-climb-reaches r h l = go (odd h) refl
-  where
-    go : (t : Bool) → odd h ≡ t → reaches r h ≡ true
-    go true o = reaches-odd r h o (omega (arith, odd-one h o))
-    go false o = reaches-even r h o (omega (arith, odd-zero h o))
-
-pub record Climbing (r before now h : ℕ) : Type 0 where
-  pub before-is : before ≡ lucas (h - 1)
-  pub now-is : now ≡ lucas h
-  pub from : 1 ≤ h
-  pub upto : h ≤ height r
-  pub before-small : before ≤ r + 2
-  pub now-small : now ≤ 2 * r + 2
-
-pub climbing-starts : (r : ℕ) → Climbing r 2 1 1
-unfolding lucas
-climbing-starts r = record { before-is = refl; now-is = refl; from = omega arith; upto = height-least r .from; before-small = omega arith; now-small = omega arith }
-
-pub climbing-goes-on : {r before now h : ℕ} → Climbing r before now h → now + h % 2 ≤ r → h < height r
-climbing-goes-on {r} {before} {now} {h} c l = elim (decLe (suc h) (height r)) [
-  | yes k ↦ k
-  | no k ↦
-      let e : height r ≡ h = omega (arith, c .upto) in
-      absurd (true≢false (sym (height-least r .passes) ∙ rw e (climb-fails r h (rw (c .now-is) at l))))
-]
-
-lucas-at : (h : ℕ) → 1 ≤ h → lucas (h + 1) ≡ lucas (h - 1) + lucas h
-lucas-at zero p = absurd (omega arith)
-lucas-at (suc h) p = rw (add-one, sub-one, lucas-next) (add-comm (lucas (suc h)) (lucas h))
-
-pub climbing-next : {r before now h : ℕ} → Climbing r before now h → now + h % 2 ≤ r → Climbing r now (before + now) (h + 1)
-climbing-next {r} {before} {now} {h} c l = record {
-  before-is = c .now-is ∙ ap lucas (omega arith);
-  now-is = rw (c .before-is, c .now-is) (sym (lucas-at h (c .from)));
-  from = omega arith;
-  upto = omega (arith, climbing-goes-on c l);
-  before-small = omega arith;
-  now-small = omega (arith, c .before-small);
-}
-
-pub climbing-ends : {r before now h : ℕ} → Climbing r before now h → r < now + h % 2 → h ≡ height r
-climbing-ends {r} {before} {now} {h} c l =
-    omega (arith, c .upto, height-le r (c .from) (climb-reaches r h (rw (c .now-is) at l)))

@@ -1,32 +1,33 @@
--- `height` meets its contract: the loop goes up the Lucas numbers as long as they do not reach r (Laws/Height).
+-- `height` meets its contract: its list passes the test of Laws/Ranges of `fibonacci`, as antt computes, and the loop goes past the ranges that
+-- end below r. Past the first 46 h is 47, since no number of 32 bits has a larger one.
+use mathlib.Core.Path.{refl}
 use Prim.Native.Nat.{_-_}
 use native.Mathlib.Omega.{arith}
 use borrow.Author.Needs.{needs}
-use Rattle.fibonacci.specs.Height.{height}
-use Rattle.fibonacci.proofs.Laws.Height.{Climbing, height-32, climbing-starts, climbing-goes-on, climbing-next, climbing-ends}
+use Rattle.fibonacci.specs.Fibonacci.{lucas}
+use Rattle.fibonacci.proofs.Laws.Height.{height-32}
+use Rattle.fibonacci.proofs.Laws.Ranges.{lastOf, isRange, areRanges, Searching, searching-starts, searching-next, searching-ends}
 use Rattle.golden.proofs.height.Statement.{statement}
 use Rattle.golden.proofs.height.Tie as tie
 
 abbrev Inv-loop : tie.InvT-loop
-Inv-loop r wanted before₀ lucas₀ h₀ before lucas h = Climbing r before lucas h
+Inv-loop r ranges row₀ row = Searching r ranges row
 
 abbrev μ-loop : tie.MeasureT-loop
-μ-loop r wanted before₀ lucas₀ h₀ before lucas h = height r - h
+μ-loop r ranges row₀ row = 46 - row
 
 loop-holds : tie.Need-loop-holds Inv-loop μ-loop
-loop-holds c = climbing-starts _
-
-add-h : tie.Need-add-h Inv-loop μ-loop
-add-h c = omega (arith, climbing-goes-on (c .before .loop .inv) (c .loop-test .taken), height-32 (c .before .before .args .r) (omega arith))
-
-loop-less : tie.Need-loop-less Inv-loop μ-loop
-loop-less c = omega (arith, climbing-goes-on (c .before .loop .inv) (c .loop-test .taken))
-
-loop-again : tie.Need-loop-again Inv-loop μ-loop
-loop-again c = climbing-next (c .before .loop .inv) (c .loop-test .taken)
+unfolding areRanges isRange lastOf lucas
+loop-holds c = searching-starts (c .args .r) _ refl
 
 returns : tie.Need-returns Inv-loop μ-loop
-returns c = climbing-ends (c .before .loop .inv) (c .loop-test .left)
+returns c = searching-ends (c .before .before .before .loop .inv) (search needs) (omega arith) (c .if1 .taken)
+
+loop-again : tie.Need-loop-again Inv-loop μ-loop
+loop-again c = searching-next (c .before .before .before .loop .inv) (search needs) (omega arith) (c .if1 .left)
+
+returns-2 : tie.Need-returns-2 Inv-loop μ-loop
+returns-2 c = omega (arith, c .before .loop .inv .past, height-32 (c .before .before .args .r) (omega arith))
 
 pub height-spec : {M : Type 1} → statement M
 height-spec =
@@ -38,7 +39,10 @@ height-spec =
     (λ c. search needs)
     (λ c. search needs)
     (λ c. search needs)
-    add-h
-    loop-less
+    (λ c. search needs)
+    (λ c. search needs)
+    returns
+    (λ c. search needs)
+    (λ c. search needs)
     loop-again
-    returns)
+    returns-2)
