@@ -19,7 +19,7 @@ use Rattle.fibonacci.proofs.Laws.Height.{height-least, height-le}
 unfoldable pub lastOf : ℕ → ℕ
 lastOf h = min (cond (odd h) (lucas h) (lucas h - 1)) (2 ^ 32 - 1)
 
--- below a limit it makes no difference
+-- for an r up to a limit it makes no difference to cut n down to the limit
 leb-min : (r n : ℕ) {limit : ℕ} → r ≤ limit → leb r (min n limit) ≡ leb r n
 leb-min r n {limit} l = elim (decLe n limit) [
   | yes k ↦ rw (min-eq-left k)
@@ -47,11 +47,15 @@ range-ends : (first h : ℕ) (range : List ℕ) → isRange first h range ≡ tr
 unfolding isRange
 range-ends first h range t = eqb-true _ _ (both (eqb (getD range 0 0) first) _ t .1)
 
+-- where a row's range ends
+abbrev pub endOf : List (List ℕ) → ℕ → ℕ
+endOf ranges row = getD (getD ranges row []) 1 0
+
 row-ends :
     (ranges : List (List ℕ)) (first h row : ℕ) →
     areRanges first h ranges ≡ true →
     row < length ranges →
-    getD (getD ranges row []) 1 0 ≡ lastOf (row + h)
+    endOf ranges row ≡ lastOf (row + h)
 unfolding areRanges
 row-ends [] first h row rule inside = absurd (omega arith)
 row-ends (range ∷ ranges) first h zero rule inside = rw (zero-add h) (range-ends first h range (both (isRange first h range) _ rule .0))
@@ -68,13 +72,13 @@ pub searching-starts : (r : ℕ) (ranges : List (List ℕ)) → areRanges 0 1 ra
 searching-starts r ranges rule = record { rule = rule; past = height-least r .from }
 
 module _ {r : ℕ} {ranges : List (List ℕ)} {row : ℕ} (s : Searching r ranges row) (small : r < 2 ^ 32) (inside : row < length ranges) where
-  row-tells : leb r (getD (getD ranges row []) 1 0) ≡ reaches r (row + 1)
+  row-tells : leb r (endOf ranges row) ≡ reaches r (row + 1)
   row-tells = rw (row-ends ranges 0 1 row (s .rule) inside) (sym (reaches-last r (row + 1) small))
 
-  pub searching-next : getD (getD ranges row []) 1 0 < r → Searching r ranges (row + 1)
+  pub searching-next : endOf ranges row < r → Searching r ranges (row + 1)
   searching-next below =
       let fails : ¬ (height r ≡ row + 1) = λ e. true≢false (sym (height-least r .passes) ∙ rw e (sym row-tells ∙ lt-leb _ _ below)) in
       record { rule = s .rule; past = omega (arith, s .past) }
 
-  pub searching-ends : r ≤ getD (getD ranges row []) 1 0 → row + 1 ≡ height r
+  pub searching-ends : r ≤ endOf ranges row → row + 1 ≡ height r
   searching-ends reached = omega (arith, s .past, height-le r {j = row + 1} (omega arith) (sym row-tells ∙ le-leb _ _ reached))

@@ -1,4 +1,4 @@
--- `height` meets its contract: its list passes the test of Laws/Ranges of `fibonacci`, as antt computes, and the loop goes past the ranges that
+-- `height` meets its contract: its list passes the test of `fibonacci` Laws/Ranges, which antt computes, and the loop goes past the ranges that
 -- end below r. Past the first 46 h is 47, since no number of 32 bits has a larger one.
 use mathlib.Core.Path.{refl}
 use Prim.Native.Nat.{_-_}
