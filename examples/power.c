@@ -1,6 +1,7 @@
 /*
- * Writes the hybrid program for p = 359, r = 179 and k = 76, the source's worked example, runs it forward from the base
- * 4, so that register 1 holds 4^76 modulo 359, then backward to the base again, and prints its listing.
+ * Writes the hybrid program for p = 359, r = 179 and k = 76, the source's worked example, and loads the base 4. Does a
+ * single step and runs on to the end, so that register 1 holds 4^76 modulo 359, then runs back to the base, and prints
+ * the program's listing.
  *
  *     rt staticlib capi
  *     cc -std=c99 -Wall -Wextra -Werror -Iinclude examples/power.c target/staticlib/libcapi.a -o target/power
@@ -16,10 +17,11 @@ static int refused(const char *call, uint32_t number)
     return 1;
 }
 
-static void print_registers(uint32_t position, const uint32_t registers[4])
+/* The position comes last in a record. */
+static void print_record(const uint32_t record[5])
 {
-    printf("position %u: %u %u %u %u\n", (unsigned)position, (unsigned)registers[0], (unsigned)registers[1],
-           (unsigned)registers[2], (unsigned)registers[3]);
+    printf("position %u: %u %u %u %u\n", (unsigned)record[4], (unsigned)record[0], (unsigned)record[1],
+           (unsigned)record[2], (unsigned)record[3]);
 }
 
 /* A listing is made from bytes, the least significant of a word first. */
@@ -37,22 +39,27 @@ int main(void)
     if (number != FIBEXP_OK)
         return refused("build", number);
 
-    uint32_t registers[4];
-    number = fibexp_load(tape, words, 4, registers);
+    uint32_t record[5];
+    number = fibexp_load(tape, words, 4, record);
     if (number != FIBEXP_OK)
         return refused("load", number);
-    print_registers(0, registers);
+    print_record(record);
+
+    number = fibexp_step(tape, words, record, 0);
+    if (number != FIBEXP_OK)
+        return refused("step", number);
+    print_record(record);
 
     uint32_t steps = tape[words - 1] & 0xFFFFFFF; /* the end word holds the step count */
-    number = fibexp_run(tape, words, registers, 0, steps);
+    number = fibexp_run(tape, words, record, steps);
     if (number != FIBEXP_OK)
         return refused("run", number);
-    print_registers(steps, registers);
+    print_record(record);
 
-    number = fibexp_run(tape, words, registers, steps, 0);
+    number = fibexp_run(tape, words, record, 0);
     if (number != FIBEXP_OK)
         return refused("run back", number);
-    print_registers(0, registers);
+    print_record(record);
 
     static uint8_t bytes[FIBEXP_MOST_TAPE_BYTES];
     static uint8_t lines[FIBEXP_MOST_LISTING];

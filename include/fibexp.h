@@ -23,7 +23,7 @@ extern "C" {
 #endif
 
 /* The version, as the verb `version` of the tool prints it. */
-#define FIBEXP_VERSION "1.0.0"
+#define FIBEXP_VERSION "2.0.0"
 
 /* The refusals. */
 enum fibexp_refusal {
@@ -37,7 +37,7 @@ enum fibexp_refusal {
     FIBEXP_WORD = 7,      /* a word, its place or the end's count breaks the layout */
     FIBEXP_MISMATCH = 8,  /* a named program's steps aren't those built for its p, r, k and variant */
     FIBEXP_REGISTER = 9,  /* a register or base is 0 or at least p */
-    FIBEXP_POSITION = 10, /* a position above the step count; in a cut also first above last */
+    FIBEXP_POSITION = 10, /* a position above the step count; a step past either end; a cut's first above its last */
     FIBEXP_BASE = 11,     /* named program, and base^r isn't 1 modulo p */
     FIBEXP_RANGE = 12,    /* an exponent outside -2^62 to 2^62, or a sum of places above 64 bits */
     FIBEXP_INDEX = 13,    /* an index above 93, or a list that isn't a Zeckendorf form of places 1 to 92 */
@@ -95,14 +95,28 @@ uint32_t fibexp_build(uint32_t p, uint32_t r, uint32_t k, uint32_t variant, uint
  */
 uint32_t fibexp_check(const uint32_t *tape, size_t words);
 
-/* Writes the registers (1, base, 1, 1). Refusals: those of fibexp_check, REGISTER, BASE. */
-uint32_t fibexp_load(const uint32_t *tape, size_t words, uint32_t base, uint32_t registers[4]);
+/*
+ * A register record is five numbers: the four registers, and in record[4] the position at which they stand. The caller
+ * may set record[4], to 0 or to the step count, which is words - 5, before any run; so the same program runs forward a
+ * second time.
+ */
+
+/* Writes the record (1, base, 1, 1) at position 0. Refusals: those of fibexp_check, REGISTER, BASE. */
+uint32_t fibexp_load(const uint32_t *tape, size_t words, uint32_t base, uint32_t record[5]);
 
 /*
- * Runs the tape from one position to another, backward where `to` is the smaller: the registers go in as they stand at
- * `from` and come out as they stand at `to`. Refusals: those of fibexp_check, REGISTER, POSITION.
+ * Runs the tape from the record's position to another, backward where `to` is the smaller, and writes the record as it
+ * stands there: record[4] is then `to`. Refusals: those of fibexp_check, REGISTER, POSITION, which is given where
+ * record[4] or `to` is above the step count.
  */
-uint32_t fibexp_run(const uint32_t *tape, size_t words, uint32_t registers[4], uint32_t from, uint32_t to);
+uint32_t fibexp_run(const uint32_t *tape, size_t words, uint32_t record[5], uint32_t to);
+
+/*
+ * One step, as fibexp_run does to the neighbouring position: forward where `backward` is 0, else backward. Refusals:
+ * those of fibexp_check, REGISTER, POSITION, which is given where record[4] is above the step count and for a step past
+ * either end.
+ */
+uint32_t fibexp_step(const uint32_t *tape, size_t words, uint32_t record[5], uint32_t backward);
 
 /*
  * Many bases in one pass through a named program, in place: each base is replaced by what fibexp_load of it and

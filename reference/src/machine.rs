@@ -1,17 +1,19 @@
-//! Load, run, raise, lists of runs, trace, table and cut: what the steps of an accepted tape do.
+//! Load, run, single steps, raise, lists of runs, trace, table and cut: what the steps of an accepted
+//! tape do.
 
 use crate::modular::Modulus;
 use crate::program::accept;
 use crate::refusal;
 use crate::tape::{self, Program};
+use crate::Record;
 
 /// Exponents of a trace or table stay from −2^62 to 2^62.
 const EXPONENT_LIMIT: u64 = 1 << 62;
 /// A row of bases has no more.
 const MOST_BASES: usize = 64;
 
-/// Load: check's refusals, then 9, 11; answers (1, a, 1, 1).
-pub fn load(tape: &[u32], base: u32) -> Result<[u32; 4], u32> {
+/// Load: check's refusals, then 9, 11; answers (1, a, 1, 1) at position 0.
+pub fn load(tape: &[u32], base: u32) -> Result<Record, u32> {
     let program = accept(tape)?;
     if !is_register(base, program.p) {
         return Err(refusal::REGISTER);
@@ -20,31 +22,45 @@ pub fn load(tape: &[u32], base: u32) -> Result<[u32; 4], u32> {
     if program.variant != tape::FREE && !order_kept() {
         return Err(refusal::BASE);
     }
-    Ok([1, base, 1, 1])
+    Ok(Record::at(0, [1, base, 1, 1]))
 }
 
-/// Run: check's refusals, then 9, 10; answers the registers at position `to`.
-pub fn run(tape: &[u32], registers: [u32; 4], from: u32, to: u32) -> Result<[u32; 4], u32> {
-    let program = accept(tape)?;
-    if !registers
-        .iter()
-        .all(|&register| is_register(register, program.p))
-    {
-        return Err(refusal::REGISTER);
-    }
-    let (from, to) = (position(&program, from)?, position(&program, to)?);
+/// Run: check's refusals, then 9, 10; answers the record at position `to`.
+pub fn run(tape: &[u32], record: Record, to: u32) -> Result<Record, u32> {
+    let (program, from) = stand(tape, record)?;
+    let end = position(&program, to)?;
     let modulus = Modulus::new(program.p);
-    let mut units = with_inverses(registers, modulus);
-    if from <= to {
-        for &step in &program.steps[from..to] {
+    let mut units = with_inverses(record.registers, modulus);
+    if from <= end {
+        for &step in &program.steps[from..end] {
             act(&mut units, modulus, tape::kind(step), step);
         }
     } else {
-        for &step in program.steps[to..from].iter().rev() {
+        for &step in program.steps[end..from].iter().rev() {
             act(&mut units, modulus, undone(tape::kind(step)), step);
         }
     }
-    Ok(units.map(|unit| unit.value as u32))
+    Ok(Record::at(to, units.map(|unit| unit.value as u32)))
+}
+
+/// One step: check's refusals, then 9, 10, which a step past either end gets too; answers the record at
+/// the next position, or at the one before.
+pub fn step(tape: &[u32], record: Record, backward: bool) -> Result<Record, u32> {
+    let (program, at) = stand(tape, record)?;
+    let index = if backward {
+        at.checked_sub(1)
+    } else {
+        Some(at)
+    };
+    let step = index.and_then(|index| program.steps.get(index));
+    let &step = step.ok_or(refusal::POSITION)?;
+    let (kind, after) = if backward {
+        (undone(tape::kind(step)), record.position - 1)
+    } else {
+        (tape::kind(step), record.position + 1)
+    };
+    let registers = acted(record.registers, Modulus::new(program.p), kind, step);
+    Ok(Record::at(after, registers))
 }
 
 /// Raise: check's refusals, then 4 for a free program, 14, and base by base 9, 11. Each base becomes what
@@ -114,24 +130,40 @@ pub fn cut(tape: &[u32], first: u32, last: u32) -> Result<&[u32], u32> {
 }
 
 /// A list of runs on tapes that stand in one row of words. A request is four numbers: where its tape
-/// begins and ends in the row, and two positions; numbers left over are no request. A tape that isn't
-/// inside the row is the empty one. Each run gets the registers as the runs before it left them, and a
-/// refused run leaves them. Told are the registers at the end, and of each run its number.
-pub fn play(row: &[u32], requests: &[u32], registers: [u32; 4]) -> ([u32; 4], Vec<u32>) {
-    let mut after = registers;
+/// begins and ends in the row, its turn, and where to run to; numbers left over are no request. A tape
+/// that isn't inside the row is the empty one. Turn 0 is none, and any other sets the record's position to
+/// one less. Each run gets the record as those before it left it, and a refused one leaves it as its turn
+/// did. Told are the record at the end, and of each run its number.
+pub fn play(row: &[u32], requests: &[u32], record: Record) -> (Record, Vec<u32>) {
+    let mut after = record;
     let mut numbers = Vec::new();
     for request in requests.chunks_exact(4) {
         let (begin, end) = (request[0] as usize, request[1] as usize);
         let tape = row.get(begin..end).unwrap_or_default();
-        numbers.push(match run(tape, after, request[2], request[3]) {
-            Ok(registers) => {
-                after = registers;
+        if let Some(position) = request[2].checked_sub(1) {
+            after = after.turned(position);
+        }
+        numbers.push(match run(tape, after, request[3]) {
+            Ok(record) => {
+                after = record;
                 0
             }
             Err(number) => number,
         });
     }
     (after, numbers)
+}
+
+/// What every call with a record tests first: check's refusals, then 9, then 10 for the record's own
+/// position. Answers the tape's program and that position.
+pub(crate) fn stand(tape: &[u32], record: Record) -> Result<(Program<'_>, usize), u32> {
+    let program = accept(tape)?;
+    let good = |&register: &u32| is_register(register, program.p);
+    if !record.registers.iter().all(good) {
+        return Err(refusal::REGISTER);
+    }
+    let at = position(&program, record.position)?;
+    Ok((program, at))
 }
 
 /// A register with its inverse modulo p.
@@ -192,6 +224,25 @@ fn act(units: &mut [Unit; 4], modulus: Modulus, kind: u32, step: u32) {
         _ => return units.swap(target, source),
     };
     units[target] = units[target].times(factor, modulus);
+}
+
+/// One step of the given kind on registers without their inverses: only a division inverts.
+fn acted(registers: [u32; 4], modulus: Modulus, kind: u32, step: u32) -> [u32; 4] {
+    let (target, source) = (tape::target(step), tape::source(step));
+    let mut after = registers;
+    if kind == tape::SWP {
+        after.swap(target, source);
+        return after;
+    }
+    let by = registers[source] as u64;
+    let factor = match kind {
+        tape::MUL => by,
+        _ => modulus
+            .inverse(by)
+            .expect("p is prime and each register below it"),
+    };
+    after[target] = modulus.product(registers[target] as u64, factor) as u32;
+    after
 }
 
 /// A base of a named program: its refusals 9, 11. Where a^r is 1, a^(r − 1) is the inverse, so one power

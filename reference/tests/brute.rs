@@ -171,9 +171,10 @@ fn named(p: u32, r: u32, k: u32, a: u32) {
         assert!(steps <= bound, "{p} {r} {k} {variant}");
         assert_eq!(check(&tape), Ok(()));
         let start = load(&tape, a).unwrap();
-        let ended = run(&tape, start, 0, steps).unwrap();
-        assert_eq!(ended, [1, power, 1, 1], "{p} {r} {k} {variant}");
-        assert_eq!(run(&tape, ended, steps, 0), Ok(start));
+        let ended = run(&tape, start, steps).unwrap();
+        let expected = Record::at(steps, [1, power, 1, 1]);
+        assert_eq!(ended, expected, "{p} {r} {k} {variant}");
+        assert_eq!(run(&tape, ended, 0), Ok(start));
         let exponents = trace(&tape, steps)
             .unwrap()
             .map(|exponent| exponent.rem_euclid(r as i64));
@@ -233,9 +234,9 @@ fn named_programs_of_large_orders() {
             let steps = tape.len() as u32 - 5;
             assert!(steps <= most && tape.len() <= 512);
             let start = load(&tape, a).unwrap();
-            let ended = run(&tape, start, 0, steps).unwrap();
-            assert_eq!(ended, [1, power(a, k, p), 1, 1]);
-            assert_eq!(run(&tape, ended, steps, 0), Ok(start));
+            let ended = run(&tape, start, steps).unwrap();
+            assert_eq!(ended, Record::at(steps, [1, power(a, k, p), 1, 1]));
+            assert_eq!(run(&tape, ended, 0), Ok(start));
             assert_eq!(
                 trace(&tape, steps).unwrap().map(|e| e.rem_euclid(r as i64)),
                 [0, k as i64, 0, 0]
@@ -259,10 +260,8 @@ fn power(a: u32, k: impl Into<u64>, p: u32) -> u32 {
 /// What load and run from end to end leave of each base in register 1.
 fn each_alone(tape: &[u32], bases: &[u32]) -> Vec<u32> {
     let steps = tape.len() as u32 - 5;
-    bases
-        .iter()
-        .map(|&base| run(tape, load(tape, base).unwrap(), 0, steps).unwrap()[1])
-        .collect()
+    let alone = |&base: &u32| run(tape, load(tape, base).unwrap(), steps).unwrap();
+    bases.iter().map(|base| alone(base).registers[1]).collect()
 }
 
 /// The row after its raise, which isn't refused.
@@ -367,28 +366,18 @@ fn free_programs_step_by_step() {
                 .rev()
                 .for_each(|&word| plain_step(&mut plain, p as u64, word, true));
         }
-        let there = run(&tape, start.map(|x| x as u32), from as u32, to as u32).unwrap();
-        assert_eq!(there.map(u64::from), plain);
-        let back = run(&tape, there, to as u32, from as u32).unwrap();
-        assert_eq!(back.map(u64::from), start);
+        let record = Record::at(from as u32, start.map(|x| x as u32));
+        let there = run(&tape, record, to as u32).unwrap();
+        assert_eq!(there, Record::at(to as u32, plain.map(|x| x as u32)));
+        assert_eq!(run(&tape, there, from as u32), Ok(record));
         exponents_agree(&tape, p, start[1] as u32);
-    }
-}
-
-fn random_step(noise: &mut Noise) -> u32 {
-    let target = noise.below(4) as u32;
-    let source = (target + 1 + noise.below(3) as u32) % 4;
-    match noise.below(3) {
-        0 => step(MUL, target, source),
-        1 => step(DIV, target, source),
-        _ => step(SWP, target.min(source), target.max(source)),
     }
 }
 
 fn exponents_agree(tape: &[u32], p: u32, a: u32) {
     let start = load(tape, a).unwrap();
     for position in 0..=tape.len() as u32 - 5 {
-        let registers = run(tape, start, 0, position).unwrap();
+        let registers = run(tape, start, position).unwrap().registers;
         if let Ok(exponents) = trace(tape, position) {
             let powers = exponents.map(|e| power(a, e.rem_euclid(p as i64 - 1) as u32, p));
             assert_eq!(registers, powers);
@@ -405,44 +394,37 @@ fn named_programs_step_by_step() {
         let mut plain = [1, 4, 1, 1];
         for (i, &word) in tape[4..tape.len() - 1].iter().enumerate() {
             plain_step(&mut plain, 359, word, false);
-            assert_eq!(
-                run(&tape, [1, 4, 1, 1], 0, i as u32 + 1)
-                    .unwrap()
-                    .map(u64::from),
-                plain
-            );
+            let there = run(&tape, Record::at(0, [1, 4, 1, 1]), i as u32 + 1);
+            assert_eq!(there.unwrap().registers.map(u64::from), plain);
         }
     }
 }
 
-/// A chain of demand 3: programs for one p and r end to end, refused runs between them.
+/// A chain of demand 3: programs for one p and r end to end, each behind a turn, refused runs between
+/// them.
 #[test]
 fn chains() {
     let (p, r, a) = (359, 179, 4);
     let mut noise = Noise(11);
     for _ in 0..20 {
-        let (mut registers, mut e) = ([1, a, 1, 1], 1);
+        let (mut record, mut e) = (Record::at(0, [1, a, 1, 1]), 1);
         for _ in 0..8 {
             let k = 1 + noise.below(178) as u32;
             let tape = built(p, r, k, 1 + noise.below(3) as u32);
             let steps = tape.len() as u32 - 5;
             let forward = noise.below(2) == 0;
             let (from, to) = if forward { (0, steps) } else { (steps, 0) };
-            registers = run(&tape, registers, from, to).unwrap();
+            record = run(&tape, record.turned(from), to).unwrap();
             e = e * if forward { k } else { inverse(k, r).unwrap() } % r;
-            assert_eq!(run(&tape, registers, 0, steps + 1), Err(10));
+            assert_eq!(run(&tape, record, steps + 1), Err(10));
         }
-        assert_eq!(registers, [1, power(a, e, p), 1, 1]);
+        assert_eq!(record.registers, [1, power(a, e, p), 1, 1]);
     }
 }
 
 type Table = [[i64; 4]; 4];
 
 const IDENTITY: Table = [[1, 0, 0, 0], [0, 1, 0, 0], [0, 0, 1, 0], [0, 0, 0, 1]];
-
-fn steps_of(tape: &[u32]) -> &[u32] {
-    &tape[4..tape.len() - 1]
-}
 
 /// The tables at all positions as they are defined: a column for each start value alone, whose exponents
 /// the steps change. None from where one of the sixteen leaves the range.
@@ -578,13 +560,10 @@ fn products_agree(tape: &[u32], p: u32, starts: &[[u32; 4]]) {
         };
         for &start in starts {
             let products = rows.map(|row| product_of(start, row, p));
-            assert_eq!(run(tape, start, 0, position), Ok(products));
+            let there = run(tape, Record::at(0, start), position);
+            assert_eq!(there, Ok(Record::at(position, products)));
         }
     }
-}
-
-fn drawn_start(noise: &mut Noise, p: u32) -> [u32; 4] {
-    [(); 4].map(|_| 1 + noise.below(p as u64 - 1) as u32)
 }
 
 /// Every start modulo 3 and 5.
@@ -657,7 +636,8 @@ fn way_agrees(tape: &[u32], p: u32, from: usize, to: usize, start: [u32; 4]) {
     let [begin, end] = [from, to].map(|position| table(tape, position as u32).unwrap());
     assert_eq!(times(out, begin), wide(end), "{from} to {to}");
     let products = out.map(|row| product_of(start, row, p));
-    assert_eq!(run(tape, start, from as u32, to as u32), Ok(products));
+    let there = run(tape, Record::at(from as u32, start), to as u32);
+    assert_eq!(there, Ok(Record::at(to as u32, products)));
 }
 
 #[test]

@@ -3,9 +3,10 @@
 use reference::drawing::calls;
 use reference::script::script;
 use std::collections::HashMap;
+use std::ops::RangeInclusive;
 
 /// The refusals that documents 01 and 02 list for the services behind the verbs.
-const REFUSALS: [(&str, &[u32]); 13] = [
+const REFUSALS: [(&str, &[u32]); 14] = [
     ("fibonacci", &[13]),
     ("places", &[5]),
     ("number", &[12, 13]),
@@ -14,6 +15,7 @@ const REFUSALS: [(&str, &[u32]); 13] = [
     ("check", &[6, 7, 4, 1, 2, 3, 8]),
     ("load", &[6, 7, 4, 1, 2, 3, 8, 9, 11]),
     ("run", &[6, 7, 4, 1, 2, 3, 8, 9, 10]),
+    ("step", &[6, 7, 4, 1, 2, 3, 8, 9, 10]),
     ("power", &[6, 7, 4, 1, 2, 3, 8, 9, 11]),
     ("raise", &[6, 7, 4, 1, 2, 3, 8, 14, 9, 11]),
     ("trace", &[6, 7, 4, 1, 2, 3, 8, 10, 12]),
@@ -22,44 +24,77 @@ const REFUSALS: [(&str, &[u32]); 13] = [
 ];
 const OFTEN: usize = 20;
 const FEW: usize = 8;
+/// A position far past the end of any tape.
+const FAR: u32 = 1 << 31;
 
-/// Each line of a script with what it prints.
-fn told(lines: &[u8]) -> Vec<(String, String)> {
+/// A line of a script, what it prints, and how many words the tape at hand then has.
+struct Told {
+    line: String,
+    text: String,
+    words: u32,
+}
+
+impl Told {
+    fn verb(&self) -> &str {
+        self.line.split(' ').next().unwrap_or_default()
+    }
+
+    /// 0 for an answer, else the refusal's number; none where the line isn't understood. `list` has its
+    /// refusals among its answers.
+    fn number(&self) -> Option<u32> {
+        let refused = ["fibexp: refused ", "refused "];
+        match refused
+            .iter()
+            .find_map(|begin| self.text.strip_prefix(begin))
+        {
+            Some(rest) => rest.split([':', '\n']).next().unwrap().parse().ok(),
+            None if self.text.starts_with("fibexp: ") => None,
+            None => Some(0),
+        }
+    }
+}
+
+/// The numbers of a line: its parameters, or what it prints.
+fn numbers(line: &str) -> Vec<u32> {
+    let number = |word: &str| match word.strip_prefix("0x") {
+        Some(digits) => u32::from_str_radix(digits, 16).ok(),
+        None => word.parse().ok(),
+    };
+    line.split_whitespace().filter_map(number).collect()
+}
+
+fn told(lines: &[u8]) -> Vec<Told> {
     let split = |text: &[u8]| String::from_utf8_lossy(text).into_owned();
     let lines: Vec<&[u8]> = lines
         .strip_suffix(b"\n")
         .unwrap()
         .split(|&byte| byte == b'\n')
         .collect();
-    // A comment behind each line, which is copied, ends what the line prints.
+    // A comment behind each line, which is copied, ends what the line prints. `drop 0` changes nothing, and
+    // tells how many words there are.
     let marked: Vec<u8> = lines
         .iter()
-        .flat_map(|line| [line, &b"\n#@\n"[..]].concat())
+        .flat_map(|line| [line, &b"\n#@\ndrop 0\n#@\n"[..]].concat())
         .collect();
     let said = split(&script(&marked));
     let said: Vec<&str> = said.split("#@\n").collect();
-    assert_eq!(said.len(), lines.len() + 1);
-    lines
-        .iter()
-        .map(|line| split(line))
-        .zip(said.iter().map(|text| text.to_string()))
-        .collect()
+    assert_eq!(said.len(), 2 * lines.len() + 1);
+    let each = lines.iter().zip(said.chunks_exact(2));
+    each.map(|(line, said)| Told {
+        line: split(line),
+        text: said[0].to_string(),
+        words: said[1].trim_end().parse().unwrap(),
+    })
+    .collect()
 }
 
-/// How often each verb gave each refusal, 0 for an answer; `list` has its refusals among its answers.
-fn tally(told: &[(String, String)]) -> HashMap<(String, u32), usize> {
+/// How often each verb gave each refusal, 0 for an answer.
+fn tally(told: &[Told]) -> HashMap<(String, u32), usize> {
     let mut counts = HashMap::new();
-    for (line, text) in told {
-        let verb = line.split(' ').next().unwrap_or_default().to_string();
-        let number = match text
-            .strip_prefix("fibexp: refused ")
-            .or(text.strip_prefix("refused "))
-        {
-            Some(rest) => rest.split([':', '\n']).next().unwrap().parse().unwrap(),
-            None if text.starts_with("fibexp: ") => continue,
-            None => 0,
-        };
-        *counts.entry((verb, number)).or_default() += 1;
+    for line in told {
+        if let Some(number) = line.number() {
+            *counts.entry((line.verb().to_string(), number)).or_default() += 1;
+        }
     }
     counts
 }
@@ -96,7 +131,7 @@ fn every_refusal_often() {
     }
     let begins = |text: &str| {
         told.iter()
-            .filter(|(_, said)| said.starts_with(text))
+            .filter(|line| line.text.starts_with(text))
             .count()
     };
     assert!(begins("fibexp: a row of tapes has at most 4096 words") >= OFTEN);
@@ -110,9 +145,9 @@ fn every_refusal_often() {
 fn rows_of_bases_of_every_length() {
     let told = told(&calls::script());
     let count = |length: usize, is_it: fn(&str) -> bool| {
-        let raises = told.iter().filter(|(line, text)| {
-            let words: Vec<&str> = line.split(' ').collect();
-            words[0] == "raise" && words.len() == length + 1 && is_it(text)
+        let raises = told.iter().filter(|line| {
+            let words = line.line.split(' ').count();
+            line.verb() == "raise" && words == length + 1 && is_it(&line.text)
         });
         raises.count()
     };
@@ -137,13 +172,139 @@ fn tables_leave_the_range_beside_traces() {
     let beside = told
         .iter()
         .zip(&told[1..])
-        .filter(|(first, second)| first.0.starts_with("trace ") && second.0.starts_with("table "));
+        .filter(|(first, second)| first.verb() == "trace" && second.verb() == "table");
     let mut alone = 0;
-    for ((_, trace), (line, table)) in beside {
-        assert!(refused(table) || !refused(trace), "{line}");
-        alone += (refused(table) && answered(trace)) as usize;
+    for (trace, table) in beside {
+        let (traced, tabled) = (&trace.text, &table.text);
+        assert!(refused(tabled) || !refused(traced), "{}", table.line);
+        alone += (refused(tabled) && answered(traced)) as usize;
     }
     assert!(alone >= OFTEN, "{alone} times");
+}
+
+/// Where a position lies beside a tape's step count; none where nothing tells it from others.
+fn place(position: u32, count: u32) -> Option<&'static str> {
+    match position {
+        0 => Some("first"),
+        _ if position == count - 1 => Some("before the last"),
+        _ if position == count => Some("last"),
+        _ if position == count + 1 => Some("past the last"),
+        _ if position >= FAR => Some("far"),
+        _ => None,
+    }
+}
+
+/// Of the lines of a verb that are answered, or refused for a position: how often so, by what tells them
+/// apart. Tapes have three steps or more, so that the places differ.
+fn answered_or_refused_for_position(
+    told: &[Told],
+    verb: &str,
+    what: impl Fn(&[u32], u32) -> Vec<(&'static str, &'static str)>,
+) -> HashMap<(&'static str, &'static str, u32), usize> {
+    let mut counts = HashMap::new();
+    let lines = told.iter().filter(|line| line.verb() == verb);
+    for line in lines.filter(|line| line.words >= 8) {
+        let Some(number @ (0 | 10)) = line.number() else {
+            continue;
+        };
+        for (first, second) in what(&numbers(&line.line), line.words - 5) {
+            *counts.entry((first, second, number)).or_default() += 1;
+        }
+    }
+    counts
+}
+
+/// Runs begin and end at both ends, and are refused just past the last position and far from it.
+#[test]
+fn runs_from_and_to_both_ends() {
+    let told = told(&calls::script());
+    let counts = answered_or_refused_for_position(&told, "run", |numbers, count| {
+        let from = place(numbers[4], count).map(|place| ("from", place));
+        let to = place(numbers[5], count).map(|place| ("to", place));
+        from.into_iter().chain(to).collect()
+    });
+    let often = |way, place, number| counts.get(&(way, place, number)).copied().unwrap_or(0);
+    for way in ["from", "to"] {
+        for place in ["first", "before the last", "last"] {
+            assert!(often(way, place, 0) >= FEW, "{way} {place}");
+        }
+        for place in ["past the last", "far"] {
+            assert_eq!(often(way, place, 0), 0, "{way} {place}");
+            assert!(often(way, place, 10) >= FEW, "{way} {place}");
+        }
+    }
+}
+
+/// Single steps both ways from both ends, and from positions that aren't there.
+#[test]
+fn steps_both_ways_from_both_ends() {
+    let told = told(&calls::script());
+    let counts = answered_or_refused_for_position(&told, "step", |numbers, count| {
+        let way = if numbers[5] == 0 {
+            "forward"
+        } else {
+            "backward"
+        };
+        let at = place(numbers[4], count).map(|place| (way, place));
+        at.into_iter().collect()
+    });
+    let cases = [
+        ("forward", "first", 0),
+        ("forward", "before the last", 0),
+        ("forward", "last", 10),
+        ("forward", "past the last", 10),
+        ("forward", "far", 10),
+        ("backward", "first", 10),
+        ("backward", "before the last", 0),
+        ("backward", "last", 0),
+        ("backward", "past the last", 10),
+        ("backward", "far", 10),
+    ];
+    for (way, place, number) in cases {
+        let often = |number| counts.get(&(way, place, number)).copied().unwrap_or(0);
+        assert!(often(number) >= FEW, "{way} {place}");
+        assert_eq!(often(10 - number), 0, "{way} {place}");
+    }
+    // Each number but 0 says backward.
+    for direction in [0, 1, 2, u32::MAX] {
+        let steps = told.iter().filter(|line| line.verb() == "step");
+        let such = steps.filter(|line| numbers(&line.line).get(5) == Some(&direction));
+        assert!(such.count() >= FEW, "{direction}");
+    }
+}
+
+/// The runs of a list: the turn and the number of each.
+fn runs_of_list(told: &Told) -> Vec<(u32, u32)> {
+    let (asked, said) = (numbers(&told.line), numbers(&told.text));
+    let requests = asked[5..].chunks_exact(4);
+    let turns = requests.map(|request| request[2]);
+    turns.zip(said[5..].iter().copied()).collect()
+}
+
+/// Runs of lists with a turn and without one meet each refusal; those behind a turn far past the end are
+/// refused for it, and at times the next one begins where a refused run's turn has left the record.
+#[test]
+fn lists_with_turns() {
+    let told = told(&calls::script());
+    let is_play = |line: &&Told| line.verb() == "play" && line.number() == Some(0);
+    let lists: Vec<Vec<(u32, u32)>> = told.iter().filter(is_play).map(runs_of_list).collect();
+    let count = |turns: RangeInclusive<u32>, refusal: u32| {
+        let is_it = |&&(turn, number): &&(u32, u32)| turns.contains(&turn) && number == refusal;
+        lists.iter().flatten().filter(is_it).count()
+    };
+    for refusal in [0, 6, 7, 4, 1, 2, 3, 8, 9, 10] {
+        let (without, with) = (count(0..=0, refusal), count(1..=u32::MAX, refusal));
+        assert!(
+            without >= FEW && with >= FEW,
+            "{refusal}: {without}, {with}"
+        );
+    }
+    assert!(count(1..=1, 0) >= OFTEN);
+    assert!(count(FAR..=u32::MAX, 10) >= FEW);
+    assert_eq!(count(FAR..=u32::MAX, 0), 0);
+    let goes_on = |two: &&[(u32, u32)]| two[0].0 > 1 && two[0].1 != 0 && two[1] == (0, 0);
+    let behind = lists.iter().flat_map(|list| list.windows(2));
+    assert!(behind.filter(goes_on).count() >= FEW);
 }
 
 #[test]

@@ -1,4 +1,5 @@
-//! Every figure of document 01, two of request T-02, and every row of the paper's Figure 7.
+//! Every figure of document 01, two of request T-02, one of request T-04, and every row of the paper's
+//! Figure 7.
 
 mod common;
 
@@ -31,9 +32,9 @@ fn case_a() {
     let tape = built(3, 2, 1, 1);
     assert_eq!(tape, CASE_A);
     assert_eq!(check(&tape), Ok(()));
-    let registers = load(&tape, 2).unwrap();
-    assert_eq!(registers, [1, 2, 1, 1]);
-    assert_eq!(run(&tape, registers, 0, 11), Ok([1, 2, 1, 1]));
+    let start = load(&tape, 2).unwrap();
+    assert_eq!(start, Record::at(0, [1, 2, 1, 1]));
+    assert_eq!(run(&tape, start, 11), Ok(Record::at(11, [1, 2, 1, 1])));
     let lines =
         "basic p=3 r=2 k=1 steps=11\n1 mul 0 1\n2 swp 0 1\n3 mul 2 1\n4 swp 0 1\n5 div 0 1\n\
         6 swp 1 2\n7 mul 0 1\n8 swp 0 1\n9 div 2 1\n10 swp 0 1\n11 div 0 1\n";
@@ -57,8 +58,8 @@ fn buffers_of_15_and_16_words_for_case_a() {
 fn bench_p_7() {
     let tape = built(7, 3, 2, 1);
     assert_eq!(tape.len() - 5, 19);
-    let registers = load(&tape, 2).unwrap();
-    assert_eq!(run(&tape, registers, 0, 19), Ok([1, 4, 1, 1]));
+    let start = load(&tape, 2).unwrap();
+    assert_eq!(run(&tape, start, 19), Ok(Record::at(19, [1, 4, 1, 1])));
 }
 
 #[test]
@@ -88,6 +89,27 @@ fn tables_at_the_end() {
     assert_eq!(table(&built(359, 179, 76, 3), 76), Ok(hybrid));
 }
 
+/// A chain as request T-04 has it: one program backward, twice forward, a turn before each; and two
+/// refused runs, behind a turn to no position and without one. E is 3 × 2 × 2 modulo 5.
+#[test]
+fn a_chain_with_turns() {
+    let tape = built(11, 5, 2, 1);
+    assert_eq!(tape.len(), 28);
+    assert_eq!(inverse(2, 5), Ok(3));
+    let requests = [
+        [0, 28, 24, 0],
+        [0, 28, 1, 23],
+        [0, 28, 25, 0],
+        [0, 28, 1, 23],
+        [0, 28, 0, 24],
+    ];
+    let start = load(&tape, 4).unwrap();
+    let (end, numbers) = play(&tape, &requests.concat(), start);
+    assert_eq!(end, Record::at(23, [1, 5, 1, 1]));
+    assert_eq!(numbers, [0, 0, 10, 0, 10]);
+    assert_eq!(power(4, 3 * 2 * 2 % 5, 11), 5);
+}
+
 #[test]
 fn bench_refusals() {
     let mut row = [0; 512];
@@ -103,11 +125,12 @@ fn bench_refusals() {
 fn a_free_tape_with_no_steps() {
     let tape = free(7, &[]);
     assert_eq!(check(&tape), Ok(()));
-    assert_eq!(run(&tape, [1, 2, 3, 6], 0, 0), Ok([1, 2, 3, 6]));
+    let record = Record::at(0, [1, 2, 3, 6]);
+    assert_eq!(run(&tape, record, 0), Ok(record));
     assert_eq!(trace(&tape, 0), Ok([0, 1, 0, 0]));
     let identity = [[1, 0, 0, 0], [0, 1, 0, 0], [0, 0, 1, 0], [0, 0, 0, 1]];
     assert_eq!(table(&tape, 0), Ok(identity));
-    assert_eq!(load(&tape, 3), Ok([1, 3, 1, 1]));
+    assert_eq!(load(&tape, 3), Ok(Record::at(0, [1, 3, 1, 1])));
     assert_eq!(cut(&tape, 0, 0), Ok(&[][..]));
     assert_eq!(listing(&bytes(&tape)), b"free p=7 r=0 k=0 steps=0\n");
 }

@@ -131,9 +131,9 @@ fn lengths() {
     for words in [0, 1, 4, 513, 600] {
         assert_eq!(check(&vec![0; words]), Err(6));
     }
-    let full = free(7, &vec![step(MUL, 0, 1); 507]);
+    let full = free(7, &vec![step_word(MUL, 0, 1); 507]);
     assert_eq!((full.len(), check(&full)), (512, Ok(())));
-    assert_eq!(check(&free(7, &vec![step(MUL, 0, 1); 508])), Err(6));
+    assert_eq!(check(&free(7, &vec![step_word(MUL, 0, 1); 508])), Err(6));
     assert_eq!(check(&[0; 5]), Err(7));
 }
 
@@ -146,7 +146,14 @@ fn with(tape: &[u32], place: usize, word: u32) -> Vec<u32> {
 
 #[test]
 fn words() {
-    let tape = free(7, &[step(MUL, 0, 1), step(SWP, 2, 3), step(DIV, 3, 0)]);
+    let tape = free(
+        7,
+        &[
+            step_word(MUL, 0, 1),
+            step_word(SWP, 2, 3),
+            step_word(DIV, 3, 0),
+        ],
+    );
     assert_eq!(check(&tape), Ok(()));
     let headings = [
         0x10000000, 0x10000002, 0x10001001, 0x18000001, 0x00000001, 0x20000001,
@@ -163,7 +170,7 @@ fn words() {
     }
     for kind in [0, 1, 2, 3, 4, 8, 9, 10, 11, 12, 13, 14, 15] {
         assert_eq!(
-            check(&with(&tape, 5, step(kind, 0, 1))),
+            check(&with(&tape, 5, step_word(kind, 0, 1))),
             Err(7),
             "kind {kind}"
         );
@@ -179,7 +186,10 @@ fn words() {
             target != source
         };
         let expected = if sound { Ok(()) } else { Err(7) };
-        assert_eq!(check(&with(&tape, 5, step(kind, target, source))), expected);
+        assert_eq!(
+            check(&with(&tape, 5, step_word(kind, target, source))),
+            expected
+        );
     }
     for bit in 4..28 {
         assert_eq!(check(&with(&tape, 4, tape[4] | 1 << bit)), Err(7));
@@ -245,16 +255,16 @@ fn strangers() {
         assert_eq!(check(&swapped), Err(8));
     }
     // Padding basic's forms to h gives a stranger: case A with one chain step more each way.
-    let up = [step(MUL, 0, 1), step(SWP, 0, 1)];
-    let down = [step(SWP, 0, 1), step(DIV, 0, 1)];
-    let [first, second] = [step(MUL, 2, 1), step(DIV, 2, 1)];
+    let up = [step_word(MUL, 0, 1), step_word(SWP, 0, 1)];
+    let down = [step_word(SWP, 0, 1), step_word(DIV, 0, 1)];
+    let [first, second] = [step_word(MUL, 2, 1), step_word(DIV, 2, 1)];
     let steps = [
         &up[..],
         &[first],
         &up,
         &down,
         &down,
-        &[step(SWP, 1, 2)],
+        &[step_word(SWP, 1, 2)],
         &up,
         &up,
         &down,
@@ -275,15 +285,21 @@ fn registers_and_bases() {
         for place in 0..4 {
             let mut registers = [1; 4];
             registers[place] = base;
-            assert_eq!(run(&tape, registers, 0, 19), Err(9));
+            assert_eq!(run(&tape, Record::at(0, registers), 19), Err(9));
+            assert_eq!(step(&tape, Record::at(0, registers), false), Err(9));
+            assert_eq!(step(&tape, Record::at(19, registers), true), Err(9));
             // 9 comes before 10.
-            assert_eq!(run(&tape, registers, 0, 20), Err(9));
+            assert_eq!(run(&tape, Record::at(0, registers), 20), Err(9));
+            assert_eq!(run(&tape, Record::at(20, registers), 0), Err(9));
+            assert_eq!(step(&tape, Record::at(20, registers), true), Err(9));
+            assert_eq!(step(&tape, Record::at(19, registers), false), Err(9));
+            assert_eq!(step(&tape, Record::at(0, registers), true), Err(9));
         }
     }
     // 3 has order 6 modulo 7.
     assert_eq!(load(&tape, 3), Err(11));
-    assert_eq!(load(&tape, 4), Ok([1, 4, 1, 1]));
-    assert_eq!(load(&free(7, &[]), 3), Ok([1, 3, 1, 1]));
+    assert_eq!(load(&tape, 4), Ok(Record::at(0, [1, 4, 1, 1])));
+    assert_eq!(load(&free(7, &[]), 3), Ok(Record::at(0, [1, 3, 1, 1])));
     assert_eq!(load(&tape[..4], 3), Err(6));
     assert_eq!(load(&with(&tape, 4, 0), 0), Err(7));
 }
@@ -310,9 +326,9 @@ fn raise_order() {
         (stepless(2, 7, 4, 0), 2),
         (stepless(3, 7, 6, 4), 3),
         (stepless(1, 7, 3, 2), 8),
-        (with(&named, 4, step(DIV, 0, 1)), 8),
+        (with(&named, 4, step_word(DIV, 0, 1)), 8),
         (free(7, &[]), 4),
-        (free(7, &[step(MUL, 0, 1)]), 4),
+        (free(7, &[step_word(MUL, 0, 1)]), 4),
         (named.clone(), 14),
     ];
     // 0 is out of range, 3 has order 6 modulo 7; 65 of them are too many, too.
@@ -367,10 +383,25 @@ fn rows_of_bases() {
 #[test]
 fn positions() {
     let tape = built(7, 3, 2, 1);
-    assert_eq!(run(&tape, [1; 4], 20, 0), Err(10));
-    assert_eq!(run(&tape, [1; 4], 0, 20), Err(10));
-    assert_eq!(run(&tape, [1; 4], u32::MAX, u32::MAX), Err(10));
-    assert_eq!(run(&tape, [1; 4], 19, 19), Ok([1; 4]));
+    let ones = |position| Record::at(position, [1; 4]);
+    for past in [20, 21, 512, u32::MAX - 1, u32::MAX] {
+        assert_eq!(run(&tape, ones(past), 0), Err(10));
+        assert_eq!(run(&tape, ones(0), past), Err(10));
+        assert_eq!(run(&tape, ones(past), past), Err(10));
+        assert_eq!(step(&tape, ones(past), false), Err(10));
+        assert_eq!(step(&tape, ones(past), true), Err(10));
+    }
+    assert_eq!(run(&tape, ones(19), 19), Ok(ones(19)));
+    assert_eq!(run(&tape, ones(0), 0), Ok(ones(0)));
+    // Past either end, and away from it.
+    assert_eq!(step(&tape, ones(0), true), Err(10));
+    assert_eq!(step(&tape, ones(0), false), Ok(ones(1)));
+    assert_eq!(step(&tape, ones(19), false), Err(10));
+    assert_eq!(step(&tape, ones(19), true), Ok(ones(18)));
+    // A tape of no steps has none either way.
+    for backward in [false, true] {
+        assert_eq!(step(&free(7, &[]), ones(0), backward), Err(10));
+    }
     assert_eq!(trace(&tape, 20), Err(10));
     assert!(trace(&tape, 19).is_ok());
     assert_eq!(table(&tape, 20), Err(10));
@@ -386,6 +417,36 @@ fn positions() {
     assert_eq!(trace(&with(&tape, 4, 0), 99), Err(7));
 }
 
+/// Each of check's refusals comes before those of the record: 9 for its registers, then 10 for its
+/// position, the goal, or a step past an end.
+#[test]
+fn record_order() {
+    let named = built(7, 3, 2, 1);
+    let broken = [
+        (named[..4].to_vec(), 6),
+        (vec![0; 513], 6),
+        (with(&named, 4, 0), 7),
+        (stepless(4, 9, 0, 0), 4),
+        (stepless(0, 9, 0, 0), 1),
+        (stepless(1, 9, 0, 0), 1),
+        (stepless(2, 7, 4, 0), 2),
+        (stepless(3, 7, 6, 4), 3),
+        (stepless(1, 7, 3, 2), 8),
+        (with(&named, 4, step_word(DIV, 0, 1)), 8),
+    ];
+    for (tape, refusal) in &broken {
+        for (registers, position) in [([1; 4], 0), ([0; 4], 0), ([1; 4], 99), ([0; 4], u32::MAX)] {
+            let record = Record::at(position, registers);
+            assert_eq!(load(tape, registers[1]), Err(*refusal));
+            assert_eq!(run(tape, record, position), Err(*refusal));
+            assert_eq!(run(tape, record, 0), Err(*refusal));
+            for backward in [false, true] {
+                assert_eq!(step(tape, record, backward), Err(*refusal));
+            }
+        }
+    }
+}
+
 /// Steps that bring registers 0 and 1 from exponents (0, 1) to (high, low): Euclid's subtractions
 /// taken back. The two share no factor.
 fn climb(high: i64, low: i64) -> Vec<u32> {
@@ -394,14 +455,14 @@ fn climb(high: i64, low: i64) -> Vec<u32> {
     while a != 0 && b != 0 {
         if a >= b {
             a -= b;
-            steps.push(step(MUL, 0, 1));
+            steps.push(step_word(MUL, 0, 1));
         } else {
             b -= a;
-            steps.push(step(MUL, 1, 0));
+            steps.push(step_word(MUL, 1, 0));
         }
     }
     if b == 0 {
-        steps.push(step(SWP, 0, 1));
+        steps.push(step_word(SWP, 0, 1));
     }
     assert_eq!(a + b, 1);
     steps.reverse();
@@ -434,16 +495,16 @@ fn range() {
     // 2^62 and −2^62 are within.
     let tape = free(
         7,
-        &[&steps[..], &[step(DIV, 2, 0), step(MUL, 3, 0)]].concat(),
+        &[&steps[..], &[step_word(DIV, 2, 0), step_word(MUL, 3, 0)]].concat(),
     );
     let ended = trace(&tape, at + 2).unwrap();
     assert_eq!((ended[0], ended[2], ended[3]), (limit, -limit, limit));
     // Twice that, either way, is outside, and stays refused after the return.
     for (target, there, back) in [(2, DIV, MUL), (3, MUL, DIV)] {
         let more = [
-            step(there, target, 0),
-            step(there, target, 0),
-            step(back, target, 0),
+            step_word(there, target, 0),
+            step_word(there, target, 0),
+            step_word(back, target, 0),
         ];
         let tape = free(7, &[&steps[..], &more].concat());
         assert!(trace(&tape, at + 1).is_ok());
@@ -458,9 +519,12 @@ fn range() {
     assert!(trace(&tape, steps.len() as u32 - 1).is_ok());
     // The same below zero: register 3 reaches −2^62, then one less by a register that holds 1.
     let steps = short_climb(limit);
-    let down = [step(DIV, 3, 0)];
-    let one = [step(MUL, 2, 1)];
-    let tape = free(7, &[&one[..], &steps, &down, &[step(DIV, 3, 2)]].concat());
+    let down = [step_word(DIV, 3, 0)];
+    let one = [step_word(MUL, 2, 1)];
+    let tape = free(
+        7,
+        &[&one[..], &steps, &down, &[step_word(DIV, 3, 2)]].concat(),
+    );
     let at = steps.len() as u32 + 2;
     assert_eq!(
         trace(&tape, at).map(|ended| (ended[2], ended[3])),
@@ -473,11 +537,13 @@ fn range() {
 #[test]
 fn table_order() {
     let named = built(7, 3, 2, 1);
-    let growing: Vec<u32> = (0..200).map(|i| step(MUL, 2 + i % 2, 3 - i % 2)).collect();
+    let growing: Vec<u32> = (0..200)
+        .map(|i| step_word(MUL, 2 + i % 2, 3 - i % 2))
+        .collect();
     let tape = free(7, &growing);
     let broken = [
         (named[..4].to_vec(), 6),
-        (free(7, &[step(MUL, 2, 3); 508]), 6),
+        (free(7, &[step_word(MUL, 2, 3); 508]), 6),
         (with(&named, 4, 0), 7),
         (with(&tape, 4, 0), 7),
         (stepless(4, 9, 0, 0), 4),
@@ -487,7 +553,7 @@ fn table_order() {
         (stepless(2, 7, 4, 0), 2),
         (stepless(3, 7, 6, 4), 3),
         (stepless(1, 7, 3, 2), 8),
-        (with(&named, 4, step(DIV, 0, 1)), 8),
+        (with(&named, 4, step_word(DIV, 0, 1)), 8),
     ];
     for (tape, refusal) in &broken {
         // Each comes before 10, and before 12, of the long ones at position 200.
@@ -512,8 +578,8 @@ fn on_registers(steps: &[u32], target: u32, source: u32) -> Vec<u32> {
     let moved = |&word: &u32| {
         let [first, second] = [word & 3, word >> 2 & 3].map(|at| registers[at as usize]);
         match word >> 28 {
-            SWP => step(SWP, first.min(second), first.max(second)),
-            kind => step(kind, first, second),
+            SWP => step_word(SWP, first.min(second), first.max(second)),
+            kind => step_word(kind, first, second),
         }
     };
     steps.iter().map(moved).collect()
@@ -536,11 +602,14 @@ fn reaches_the_ends(target: u32, source: u32) {
     let others: Vec<u32> = (0..4).filter(|x| ![target, source].contains(x)).collect();
     let [low, one] = [others[0], others[1]];
     let climb = on_registers(&short_climb(limit), target, source);
-    let (first, last) = (step(MUL, one, source), step(DIV, low, target));
+    let (first, last) = (step_word(MUL, one, source), step_word(DIV, low, target));
     let begin = [&[first][..], &climb, &[last]].concat();
     let at = begin.len() as u32;
     for (there, back, register) in [(MUL, DIV, target), (DIV, MUL, low)] {
-        let more = [step(there, register, one), step(back, register, one)];
+        let more = [
+            step_word(there, register, one),
+            step_word(back, register, one),
+        ];
         let tape = free(7, &[&begin[..], &more].concat());
         let rows = table(&tape, at).unwrap();
         assert_eq!(rows[target as usize][source as usize], limit);
@@ -555,7 +624,7 @@ fn reaches_the_ends(target: u32, source: u32) {
         assert_eq!(trace(&tape, at + 2).err(), traced);
     }
     // 2^63 and −2^63 are outside.
-    for past in [step(DIV, target, low), step(DIV, low, target)] {
+    for past in [step_word(DIV, target, low), step_word(DIV, low, target)] {
         let tape = free(7, &[&begin[..], &[past]].concat());
         assert_eq!(table(&tape, at + 1), Err(12));
     }
@@ -573,10 +642,10 @@ fn listings() {
         b"refused 1\n"
     );
     assert_eq!(
-        listing(&bytes(&with(&CASE_A, 4, step(MUL, 0, 2)))),
+        listing(&bytes(&with(&CASE_A, 4, step_word(MUL, 0, 2)))),
         b"refused 8\n"
     );
-    let full = listing(&bytes(&free(268435399, &vec![step(DIV, 3, 2); 507])));
+    let full = listing(&bytes(&free(268435399, &vec![step_word(DIV, 3, 2); 507])));
     let lines: Vec<&str> = std::str::from_utf8(&full).unwrap().split('\n').collect();
     assert_eq!(lines.len(), 509);
     assert_eq!(lines[0], "free p=268435399 r=0 k=0 steps=507");

@@ -61,8 +61,8 @@ fn numbers() {
         ("mulmod 3 5 0", "0"),
         ("powmod 0 0 7", "1"),
         ("powmod 2 10 1", "0"),
-        ("version", "fibexp 1.0.0"),
-        ("--version", "fibexp 1.0.0"),
+        ("version", "fibexp 2.0.0"),
+        ("--version", "fibexp 2.0.0"),
     ];
     for (line, text) in cases {
         answers(&[], line, text);
@@ -100,9 +100,14 @@ fn decoded_words() {
 fn tapes() {
     let tape = CASE_A;
     answers(&tape, "check", "0");
-    answers(&tape, "load 2", "1 2 1 1");
-    answers(&tape, "run 1 2 1 1 0 11", "1 2 1 1");
-    answers(&tape, "power 2", "2\n1 2 1 1");
+    answers(&tape, "load 2", "1 2 1 1 0");
+    answers(&tape, "run 1 2 1 1 0 11", "1 2 1 1 11");
+    answers(&tape, "run 1 2 1 1 11 0", "1 2 1 1 0");
+    answers(&tape, "step 1 2 1 1 0 0", "2 2 1 1 1");
+    for backward in ["1", "2", "0xFFFFFFFF"] {
+        answers(&tape, &format!("step 2 2 1 1 1 {backward}"), "1 2 1 1 0");
+    }
+    answers(&tape, "power 2", "2\n1 2 1 1 11");
     answers(&tape, "raise 2 1 2", "2 1 2");
     answers(&tape, "raise", "");
     answers(&built(359, 179, 76, 3), "raise 4 0x10 064", "266 33 162");
@@ -113,14 +118,24 @@ fn tapes() {
     answers(&tape, "cut 5 5", "");
     // An empty list, a request, one with numbers left over, tapes that aren't inside.
     let far = built(359, 179, 76, 1);
-    answers(&far, "play 1 4 1 1", "1 4 1 1");
-    answers(&far, "play 1 4 1 1 0 88 0 83", "1 266 1 1 0");
-    answers(&far, "play 1 4 1 1 0 88 0 83 0 88 0", "1 266 1 1 0");
-    answers(&far, "play 0 4 1 1 0 88 0 83", "0 4 1 1 9");
+    answers(&far, "play 1 4 1 1 7", "1 4 1 1 7");
+    answers(&far, "play 1 4 1 1 0 0 88 0 83", "1 266 1 1 83 0");
+    answers(&far, "play 1 4 1 1 0 0 88 0 83 0 88 0", "1 266 1 1 83 0");
+    answers(&far, "play 0 4 1 1 0 0 88 0 83", "0 4 1 1 0 9");
     answers(
         &far,
-        "play 1 4 1 1 0 89 0 83 88 0 0 83 0 88 0 84",
-        "1 4 1 1 6 6 10",
+        "play 1 4 1 1 0 0 89 0 83 88 0 0 83 0 88 0 84",
+        "1 4 1 1 0 6 6 10",
+    );
+    // Turns: to 0 and to the end, none, and to a position that the tape doesn't have, which stays.
+    answers(&far, "play 1 4 1 1 9 0 88 1 83", "1 266 1 1 83 0");
+    answers(&far, "play 1 266 1 1 0 0 88 84 0", "1 4 1 1 0 0");
+    answers(&far, "play 1 4 1 1 84 0 88 0 83", "1 4 1 1 84 10");
+    answers(&far, "play 1 4 1 1 0 0 88 85 0", "1 4 1 1 84 10");
+    answers(
+        &far,
+        "play 1 4 1 1 0 0 88 4294967295 0 0 88 0 0",
+        "1 4 1 1 4294967294 10 10",
     );
     let build = on(&[], "build 3 2 1 basic");
     assert_eq!((build.status, build.text), (Status::Answered, bytes(&tape)));
@@ -160,10 +175,11 @@ fn complaints() {
     complains("table", "table takes 1 parameter, 0 given");
     complains("table 1 2", "table takes 1 parameter, 2 given");
     complains("--help me", "--help takes 0 parameters, 1 given");
-    complains("play 1 2 3", "play takes 4 to 64 parameters, 3 given");
+    complains("step 1 2 3 4 0", "step takes 6 parameters, 5 given");
+    complains("play 1 2 3 4", "play takes 5 to 64 parameters, 4 given");
     for (verb, count, takes) in [
         ("number", 65, "0 to 64"),
-        ("play", 65, "4 to 64"),
+        ("play", 65, "5 to 64"),
         ("raise", 67, "0 to 66"),
     ] {
         let many = verb.to_string() + &" 1".repeat(count);
@@ -267,6 +283,8 @@ fn reasons_of_tapes() {
         "check",
         "load 0",
         "run 0 0 0 0 9 9",
+        "step 0 0 0 0 9 0",
+        "step 1 1 1 1 0 0",
         "power 0",
         "raise 0",
         "raise",
@@ -276,7 +294,7 @@ fn reasons_of_tapes() {
     ] {
         refuses(&[], line, length);
     }
-    refuses(&free(7, &[step(MUL, 0, 1); 508]), "check", length);
+    refuses(&free(7, &[step_word(MUL, 0, 1); 508]), "check", length);
     answers(&[], "list", "refused 6");
     let with = |at: usize, word: u32| {
         let mut tape = CASE_A;
@@ -310,18 +328,25 @@ fn reasons_of_tapes() {
     answers(&with(4, 0x60000004), "list", "refused 8");
     refuses(&CASE_A, "load 0", "9: the base must be from 1 to p-1");
     refuses(&CASE_A, "power 3", "9: the base must be from 1 to p-1");
-    refuses(
-        &CASE_A,
-        "run 1 3 1 1 0 11",
-        "9: each register must be from 1 to p-1",
-    );
-    refuses(
-        &CASE_A,
+    for line in ["run 1 3 1 1 0 11", "step 1 3 1 1 0 0", "step 1 3 1 1 99 1"] {
+        refuses(&CASE_A, line, "9: each register must be from 1 to p-1");
+    }
+    for line in [
         "run 1 2 1 1 0 12",
-        "10: a position is above the step count",
-    );
-    for line in ["trace 12", "table 12", "table 4294967295"] {
-        refuses(&CASE_A, line, "10: a position is above the step count");
+        "run 1 2 1 1 12 0",
+        "run 1 2 1 1 4294967295 4294967295",
+        "step 1 2 1 1 11 0",
+        "step 1 2 1 1 0 1",
+        "step 1 2 1 1 12 0",
+        "step 1 2 1 1 12 1",
+        "step 1 2 1 1 4294967295 0",
+        "step 1 2 1 1 4294967295 1",
+        "trace 12",
+        "table 12",
+        "table 4294967295",
+    ] {
+        let position = "10: a position is outside 0 to the step count";
+        refuses(&CASE_A, line, position);
     }
     let cut = "10: first and last must be positions up to the step count, first at most last";
     refuses(&CASE_A, "cut 3 2", cut);
@@ -343,12 +368,14 @@ fn reasons_of_tapes() {
         "raise 2 3 0",
         "11: the base's power r isn't 1",
     );
-    let growing: Vec<u32> = (0..100).map(|i| step(MUL, i % 2, 1 - i % 2)).collect();
+    let growing: Vec<u32> = (0..100).map(|i| step_word(MUL, i % 2, 1 - i % 2)).collect();
     let range = "12: an exponent leaves -2^62 to 2^62";
     refuses(&free(3, &growing), "trace 100", range);
     refuses(&free(3, &growing), "table 100", range);
     // Of start value 1 alone they don't.
-    let aside: Vec<u32> = (0..100).map(|i| step(MUL, 2 + i % 2, 3 - i % 2)).collect();
+    let aside: Vec<u32> = (0..100)
+        .map(|i| step_word(MUL, 2 + i % 2, 3 - i % 2))
+        .collect();
     refuses(&free(3, &aside), "table 100", range);
     answers(&free(3, &aside), "trace 100", "0 1 0 0");
 }
@@ -356,7 +383,14 @@ fn reasons_of_tapes() {
 #[test]
 fn bytes_that_are_no_whole_words() {
     let part = "fibexp: refused 6: standard input isn't whole words of 4 bytes\n";
-    for line in ["check", "load 2", "raise 2 0", "trace 0", "table 0"] {
+    for line in [
+        "check",
+        "load 2",
+        "step 1 1 1 1 0 0",
+        "raise 2 0",
+        "trace 0",
+        "table 0",
+    ] {
         let words: Vec<&[u8]> = line.split(' ').map(str::as_bytes).collect();
         for count in [1, 5, 21, 2047, 2049] {
             let reply = reply(&words, &vec![0; count]);
@@ -370,21 +404,21 @@ fn bytes_that_are_no_whole_words() {
     let long = reply(&[b"check"], &[0; 2052]);
     assert_eq!(long.text, b"fibexp: refused 6: a tape has 5 to 512 words\n");
     assert_eq!(reply(&[b"list"], b"12345").text, b"refused 6\n");
-    let play: Vec<&[u8]> = "play 1 2 3 4 0 1 0 0"
+    let play: Vec<&[u8]> = "play 1 2 3 4 5 0 1 0 0"
         .split(' ')
         .map(str::as_bytes)
         .collect();
-    assert_eq!(reply(&play, b"12345").text, b"1 2 3 4 6\n");
+    assert_eq!(reply(&play, b"12345").text, b"1 2 3 4 5 6\n");
     // A tape with words behind it, which play finds unless standard input is too long.
-    let play: Vec<&[u8]> = "play 2 3 1 1 0 6 0 1"
+    let play: Vec<&[u8]> = "play 2 3 1 1 0 0 6 0 1"
         .split(' ')
         .map(str::as_bytes)
         .collect();
-    let mut row = free(7, &[step(MUL, 0, 1)]);
+    let mut row = free(7, &[step_word(MUL, 0, 1)]);
     row.resize(512, 0);
-    assert_eq!(reply(&play, &bytes(&row)).text, b"6 3 1 1 0\n");
+    assert_eq!(reply(&play, &bytes(&row)).text, b"6 3 1 1 1 0\n");
     row.push(0);
-    assert_eq!(reply(&play, &bytes(&row)).text, b"2 3 1 1 6\n");
+    assert_eq!(reply(&play, &bytes(&row)).text, b"2 3 1 1 0 6\n");
     // A call that takes no tape is refused for its own reason, whatever the bytes.
     let alone = reply(&[b"fibonacci", b"94"], b"12345");
     assert_eq!(

@@ -70,7 +70,7 @@ fn tape_at_hand() {
         "16\nfibexp: refused 1: p must be a prime from 3 to 268435455\n\
          basic p=3 r=2 k=1 steps=11\n1 mul 0 1\n2 swp 0 1\n3 mul 2 1\n4 swp 0 1\n5 div 0 1\n\
          6 swp 1 2\n7 mul 0 1\n8 swp 0 1\n9 div 2 1\n10 swp 0 1\n11 div 0 1\n\
-         = refused 6: no\n2\n1 2 1 1\n",
+         = refused 6: no\n2\n1 2 1 1 11\n",
     );
     prints(
         "tape 1 2 3\nappend 4 0xF\nappend\ndrop 2\ndrop 9\ntape\n",
@@ -112,8 +112,24 @@ fn a_table() {
          table 0 = 1 0 0 0\nroom 1\ntable 0\ntable 1\ntable 1 = 0\n",
         &format!(
             "5\n{rows}{rows}= 1 0 0 0: no\n1\n{rows}\
-             fibexp: refused 10: a position is above the step count\n\
-             fibexp: refused 10: a position is above the step count\n= 0: no\n"
+             fibexp: refused 10: a position is outside 0 to the step count\n\
+             fibexp: refused 10: a position is outside 0 to the step count\n= 0: no\n"
+        ),
+    );
+}
+
+#[test]
+fn a_record_and_its_steps() {
+    let step = "tape 0x10000001 0x20000007 0x30000000 0x40000000 0x50000004 0xF0000001\n";
+    let past = "fibexp: refused 10: a position is outside 0 to the step count\n";
+    // It takes no notice of a room, and leaves the tape at hand.
+    prints(
+        &format!(
+            "{step}room 1\nload 3\nstep 1 3 1 1 0 0\nstep 3 3 1 1 1 0\nrun 3 3 1 1 1 0\n\
+             step 3 3 1 1 1 1 = 1 3 1 1 0\n"
+        ),
+        &format!(
+            "6\n1\n1 3 1 1 0\n3 3 1 1 1\n{past}1 3 1 1 0\n1 3 1 1 0\n= 1 3 1 1 0: yes\n"
         ),
     );
 }
@@ -136,8 +152,10 @@ fn a_row_of_tapes() {
     let free = "tape 0x10000001 0x20000007 0x30000000 0x40000000 0xF0000000\n";
     let step = "tape 0x10000001 0x20000007 0x30000000 0x40000000 0x50000004 0xF0000001\n";
     prints(
-        &format!("{free}behind\n{step}list\nplay 2 3 1 1 0 5 0 0 5 11 0 1\nplay 2 3 1 1 0 6 0 1\n"),
-        "5\n0\n6\nfree p=7 r=0 k=0 steps=1\n1 mul 0 1\n6 3 1 1 0 0\n2 3 1 1 7\n",
+        &format!(
+            "{free}behind\n{step}list\nplay 2 3 1 1 0 0 5 0 0 5 11 0 1\nplay 2 3 1 1 0 0 6 0 1\n"
+        ),
+        "5\n0\n6\nfree p=7 r=0 k=0 steps=1\n1 mul 0 1\n6 3 1 1 1 0 0\n2 3 1 1 0 7\n",
     );
     prints(
         "behind\nbehind\ncheck\n",

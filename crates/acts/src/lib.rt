@@ -76,6 +76,7 @@ fn on_tape(verb: TapeVerb, act: Act) -> Act
         TapeVerb::Check => Act::Reply,
         TapeVerb::Load => Act::Reply,
         TapeVerb::Run => Act::Reply,
+        TapeVerb::SingleStep => Act::Reply,
         TapeVerb::Power => Act::Reply,
         TapeVerb::Raise => Act::Reply,
         TapeVerb::Trace => Act::Reply,

@@ -12,8 +12,10 @@ ghost use Rattle.fibonacci.specs.Height.{height};
 ghost use Rattle.fibonacci.specs.Services.{fibonacciOutcome, placesOutcome, placesBuffer, numberOutcome, bit};
 ghost use Rattle.tables.specs.Tables.{listOutcome};
 ghost use Rattle.program.specs.Services.{roomOutcome, buildOutcome, buildBuffer, checkOutcome};
+ghost use Rattle.sequencer.specs.Records.{rowOutcome, recordIn};
 ghost use Rattle.sequencer.specs.Services.{loadOutcome, runOutcome, traceOutcome, cutOutcome, cutPart, cutStart, cutCount};
 ghost use Rattle.sequencer.specs.Bases.{raiseOutcome, raisedBases};
+ghost use Rattle.sequencer.specs.Sessions.{stepOutcome, isBackward};
 ghost use Rattle.sequencer.specs.Tables.{tableOutcome};
 ghost use Rattle.listing.specs.Listing.{listingOf, listingAnswer, listingBuffer};
 ghost use Rattle.text.specs.Reading.{splitWords};
@@ -22,9 +24,9 @@ ghost use Rattle.tool.specs.Replies.{reply, readsTape};
 ghost use Rattle.tool.specs.Rows.{maxText};
 use memory::bit;
 use memory::number_of;
-use memory::registers_in;
+use memory::record_in;
 use memory::store_exponents;
-use memory::store_registers;
+use memory::store_record;
 use memory::store_table;
 use memory::store_u64;
 use refusal::NumberAnswer;
@@ -107,23 +109,33 @@ pub extern "C" fn fibexp_check(tape: &[u32]) -> u32
     number_of(accepting::check(tape))
 }
 
-// Load: check's refusals, 9, 11.
+// Load, a record of the four registers and the position: check's refusals, 9, 11.
 #[no_mangle]
-pub extern "C" fn fibexp_load(tape: &[u32], base: u32, registers: &mut [u32; 4]) -> u32
+pub extern "C" fn fibexp_load(tape: &[u32], base: u32, row: &mut [u32; 5]) -> u32
     ensures { λ number. ⌜ number ≡ refusalNumber (loadOutcome (now (tape .entry)) base) ⌝ }
-    ensures { λ _. ⌜ now (registers .exit) ≡ after (loadOutcome (now (tape .entry)) base) (now (registers .entry)) ⌝ }
+    ensures { λ _. ⌜ now (row .exit) ≡ after (rowOutcome (loadOutcome (now (tape .entry)) base)) (now (row .entry)) ⌝ }
 {
-    store_registers(running::load(tape, base), registers)
+    store_record(running::load(tape, base), row)
 }
 
 // Run, in place: check's refusals, 9, 10.
 #[no_mangle]
-pub extern "C" fn fibexp_run(tape: &[u32], registers: &mut [u32; 4], from: u32, to: u32) -> u32
-    ensures { λ number. ⌜ number ≡ refusalNumber (runOutcome (now (tape .entry)) (now (registers .entry)) from to) ⌝ }
-    ensures { λ _. ⌜ now (registers .exit) ≡ after (runOutcome (now (tape .entry)) (now (registers .entry)) from to) (now (registers .entry)) ⌝ }
+pub extern "C" fn fibexp_run(tape: &[u32], row: &mut [u32; 5], to: u32) -> u32
+    ensures { λ number. ⌜ number ≡ refusalNumber (runOutcome (now (tape .entry)) (recordIn (now (row .entry))) to) ⌝ }
+    ensures { λ _. ⌜ now (row .exit) ≡ after (rowOutcome (runOutcome (now (tape .entry)) (recordIn (now (row .entry))) to)) (now (row .entry)) ⌝ }
 {
-    let held = registers_in(*registers);
-    store_registers(running::run(tape, held, from, to), registers)
+    let held = record_in(*row);
+    store_record(running::run(tape, held, to), row)
+}
+
+// A single step, in place, forward where `backward` is 0: check's refusals, 9, 10.
+#[no_mangle]
+pub extern "C" fn fibexp_step(tape: &[u32], row: &mut [u32; 5], backward: u32) -> u32
+    ensures { λ number. ⌜ number ≡ refusalNumber (stepOutcome (now (tape .entry)) (recordIn (now (row .entry))) (isBackward backward)) ⌝ }
+    ensures { λ _. ⌜ now (row .exit) ≡ after (rowOutcome (stepOutcome (now (tape .entry)) (recordIn (now (row .entry))) (isBackward backward))) (now (row .entry)) ⌝ }
+{
+    let held = record_in(*row);
+    store_record(running::step(tape, held, backward != 0), row)
 }
 
 // Many bases in one pass, in place: check's refusals, 4, 14, then 9 and 11 of each base.

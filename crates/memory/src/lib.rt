@@ -3,14 +3,14 @@
 ghost use mathlib.Core.Path.{_≡_};
 ghost use Rattle.refusal.specs.Outcomes.{numberOutcomeOf, refusalNumber, after};
 ghost use Rattle.fibonacci.specs.Services.{bit};
-ghost use Rattle.machine.specs.Machine.{valuesOf};
 ghost use Rattle.machine.specs.Exponents.{exponentsOutcomeOf};
 ghost use Rattle.tables.specs.Tables.{tableOutcomeOf, listOutcome};
-ghost use Rattle.sequencer.specs.Services.{registersOutcomeOf};
+ghost use Rattle.sequencer.specs.Records.{rowOutcome, recordIn, recordOf, stateOutcomeOf};
 use machine::ExponentsAnswer;
 use machine::Registers;
 use refusal::NumberAnswer;
-use sequencer::RegistersAnswer;
+use sequencer::State;
+use sequencer::StateAnswer;
 use tables::TableAnswer;
 
 // The number of a service whose answer is stored nowhere.
@@ -46,16 +46,17 @@ pub fn store_u64(answer: NumberAnswer, place: &mut u64) -> u32
     }
 }
 
-pub fn store_registers(answer: RegistersAnswer, row: &mut [u32; 4]) -> u32
-    ensures { λ n. ⌜ n ≡ refusalNumber (registersOutcomeOf answer) ⌝ }
-    ensures { λ _. ⌜ now (row .exit) ≡ after (registersOutcomeOf answer) (now (row .entry)) ⌝ }
+pub fn store_record(answer: StateAnswer, row: &mut [u32; 5]) -> u32
+    ensures { λ n. ⌜ n ≡ refusalNumber (stateOutcomeOf answer) ⌝ }
+    ensures { λ _. ⌜ now (row .exit) ≡ after (rowOutcome (stateOutcomeOf answer)) (now (row .entry)) ⌝ }
 {
     match answer {
-        RegistersAnswer::Answered(r) => {
-            *row = [r.c, r.d, r.e, r.f];
+        StateAnswer::Answered(state) => {
+            let r = state.registers;
+            *row = [r.c, r.d, r.e, r.f, state.position];
             0
         }
-        RegistersAnswer::Refused(e) => refusal::number(e),
+        StateAnswer::Refused(e) => refusal::number(e),
     }
 }
 
@@ -102,14 +103,17 @@ pub fn store_table(answer: TableAnswer, row: &mut [i64; 16]) -> u32
     }
 }
 
-// The registers that a row of four holds. It comes by value, because the length of an array behind a reference isn't known to a proof.
-pub fn registers_in(row: [u32; 4]) -> Registers
-    ensures { λ r. ⌜ valuesOf r ≡ row ⌝ }
+// The record that a row of five holds. It comes by value, because the length of an array behind a reference isn't known to a proof.
+pub fn record_in(row: [u32; 5]) -> State
+    ensures { λ s. ⌜ recordOf s ≡ recordIn row ⌝ }
 {
-    Registers {
-        c: row[0],
-        d: row[1],
-        e: row[2],
-        f: row[3],
+    State {
+        registers: Registers {
+            c: row[0],
+            d: row[1],
+            e: row[2],
+            f: row[3],
+        },
+        position: row[4],
     }
 }

@@ -2,14 +2,15 @@
 mod results;
 
 pub use results::number;
+pub use results::record;
 ghost use mathlib.Core.List.{[], _∷_, _++_};
 ghost use Rattle.refusal.specs.Outcomes.{numberOutcomeOf};
-ghost use Rattle.text.specs.Text.{newline, numberLine, numbersLine};
+ghost use Rattle.text.specs.Text.{newline, numberLine};
 ghost use Rattle.text.specs.Rows.{Put};
 ghost use Rattle.machine.specs.Exponents.{exponentsOutcomeOf};
 ghost use Rattle.tables.specs.Tables.{tableOutcomeOf};
-ghost use Rattle.sequencer.specs.Services.{registersOutcomeOf};
-ghost use Rattle.tool.specs.Texts.{exponentsLine, tableLines, powerLines, reasonFor};
+ghost use Rattle.sequencer.specs.Records.{stateOutcomeOf};
+ghost use Rattle.tool.specs.Texts.{exponentsLine, tableLines, recordLine, powerLines, reasonFor};
 ghost use Rattle.tool.specs.Replies.{refuses, printed};
 ghost use Rattle.tool.specs.Rows.{Told};
 use machine::ExponentsAnswer;
@@ -22,9 +23,8 @@ use refusal::OWN_REASONS;
 use refusal::REASONS;
 use results::exponents;
 use results::power;
-use results::registers;
 use results::rows;
-use sequencer::RegistersAnswer;
+use sequencer::StateAnswer;
 use tables::TableAnswer;
 use text::NEWLINE;
 use tool::REFUSED;
@@ -66,23 +66,23 @@ pub fn answer(buffer: &mut [u8], own: u32, answer: NumberAnswer) -> Reply
     }
 }
 
-// Four registers, or the refusal.
-pub fn print_registers(buffer: &mut [u8], own: u32, answer: RegistersAnswer) -> Reply
-    ensures { λ r. ⌜ Told (now (buffer .entry)) (printed own (registersOutcomeOf answer) numbersLine) r (now (buffer .exit)) ⌝ }
+// A record, or the refusal.
+pub fn print_record(buffer: &mut [u8], own: u32, answer: StateAnswer) -> Reply
+    ensures { λ r. ⌜ Told (now (buffer .entry)) (printed own (stateOutcomeOf answer) recordLine) r (now (buffer .exit)) ⌝ }
 {
     match answer {
-        RegistersAnswer::Answered(values) => registers(buffer, values),
-        RegistersAnswer::Refused(e) => refuse(buffer, own, refusal::number(e)),
+        StateAnswer::Answered(state) => record(buffer, state),
+        StateAnswer::Refused(e) => refuse(buffer, own, refusal::number(e)),
     }
 }
 
-// The same, with register 1 on a line of its own before them.
-pub fn print_power(buffer: &mut [u8], own: u32, answer: RegistersAnswer) -> Reply
-    ensures { λ r. ⌜ Told (now (buffer .entry)) (printed own (registersOutcomeOf answer) powerLines) r (now (buffer .exit)) ⌝ }
+// The same, with register 1 on a line of its own before it.
+pub fn print_power(buffer: &mut [u8], own: u32, answer: StateAnswer) -> Reply
+    ensures { λ r. ⌜ Told (now (buffer .entry)) (printed own (stateOutcomeOf answer) powerLines) r (now (buffer .exit)) ⌝ }
 {
     match answer {
-        RegistersAnswer::Answered(values) => power(buffer, values),
-        RegistersAnswer::Refused(e) => refuse(buffer, own, refusal::number(e)),
+        StateAnswer::Answered(state) => power(buffer, state),
+        StateAnswer::Refused(e) => refuse(buffer, own, refusal::number(e)),
     }
 }
 

@@ -2,20 +2,20 @@
 ghost use mathlib.Core.List.{[], _∷_, _++_};
 ghost use Prim.Native.Nat.{_≤_};
 ghost use lib.ListN.{length};
-ghost use Rattle.text.specs.Text.{whole, numberLine, numbersLine};
+ghost use Rattle.text.specs.Text.{whole, numberLine};
 ghost use Rattle.text.specs.Rows.{Put};
-ghost use Rattle.machine.specs.Machine.{valuesOf};
 ghost use Rattle.machine.specs.Exponents.{exponentsOf};
 ghost use Rattle.tables.specs.Tables.{matrixOf};
-ghost use Rattle.tool.specs.Texts.{exponentsLine, tableLines, powerLines};
+ghost use Rattle.sequencer.specs.Records.{recordOf};
+ghost use Rattle.tool.specs.Texts.{exponentsLine, tableLines, recordLine, powerLines};
 ghost use Rattle.tool.specs.Replies.{answers};
 ghost use Rattle.tool.specs.Rows.{Told};
 use lines::number_line;
 use lines::numbers_line;
 use machine::Exponents;
-use machine::Registers;
 use putting::put_byte;
 use putting::put_whole;
+use sequencer::State;
 use tables::Table;
 use text::BLANK;
 use text::NEWLINE;
@@ -32,27 +32,42 @@ pub fn number(buffer: &mut [u8], n: u64) -> Reply
     }
 }
 
-// The four registers on one line.
-pub(crate) fn registers(buffer: &mut [u8], registers: Registers) -> Reply
-    ensures { λ r. ⌜ Told (now (buffer .entry)) (answers (numbersLine (valuesOf registers))) r (now (buffer .exit)) ⌝ }
+// A record on a line of its own.
+pub fn record(buffer: &mut [u8], state: State) -> Reply
+    ensures { λ r. ⌜ Told (now (buffer .entry)) (answers (recordLine (recordOf state))) r (now (buffer .exit)) ⌝ }
 {
-    let values = [registers.c, registers.d, registers.e, registers.f];
     Reply {
         status: ANSWERED,
-        length: numbers_line(buffer, 0, &values),
+        length: put_record(buffer, 0, state),
     }
 }
 
-// Register 1, and the four registers.
-pub(crate) fn power(buffer: &mut [u8], registers: Registers) -> Reply
-    ensures { λ r. ⌜ Told (now (buffer .entry)) (answers (powerLines (valuesOf registers))) r (now (buffer .exit)) ⌝ }
+// Register 1, and the record.
+pub(crate) fn power(buffer: &mut [u8], state: State) -> Reply
+    ensures { λ r. ⌜ Told (now (buffer .entry)) (answers (powerLines (recordOf state))) r (now (buffer .exit)) ⌝ }
 {
+    let registers = state.registers;
     let next = number_line(buffer, 0, registers.d as u64);
-    let values = [registers.c, registers.d, registers.e, registers.f];
     Reply {
         status: ANSWERED,
-        length: numbers_line(buffer, next, &values),
+        length: put_record(buffer, next, state),
     }
+}
+
+// The four registers and the position, and the end of the line.
+fn put_record(buffer: &mut [u8], at: usize, state: State) -> usize
+    ensures { λ next. ⌜ Put (now (buffer .entry)) at (recordLine (recordOf state)) next (now (buffer .exit)) ⌝ }
+    ensures { λ _. ⌜ length (recordLine (recordOf state)) ≤ 56 ⌝ }
+{
+    let registers = state.registers;
+    let values = [
+        registers.c,
+        registers.d,
+        registers.e,
+        registers.f,
+        state.position,
+    ];
+    numbers_line(buffer, at, &values)
 }
 
 // Four exponents on one line.

@@ -14,7 +14,7 @@ reasons =
     ∷ "a word, its place or the end's count breaks the layout"
     ∷ "the steps aren't those built for the tape's p, r, k and variant"
     ∷ "the base must be from 1 to p-1"
-    ∷ "a position is above the step count"
+    ∷ "a position is outside 0 to the step count"
     ∷ "the base's power r isn't 1"
     ∷ "an exponent leaves -2^62 to 2^62"
     ∷ "not the places of a Zeckendorf form, from 92 down to 1"
@@ -22,7 +22,7 @@ reasons =
     ∷ []
 
 -- Where a service gives a refusal for a cause of its own: the inverse service 2, build and raise 4, bytes that aren't whole words 6,
--- run 9, cut 10, list to number 12, a Fibonacci number 13.
+-- run and step 9, cut 10, list to number 12, a Fibonacci number 13.
 unfoldable pub ownReasons : List String
 ownReasons =
     ""

@@ -1,10 +1,11 @@
--- Load, run, trace, table and cut by cases, what their answers say, forward, rows of bases, and demand 3.
+-- Load, run, trace, table and cut by cases, what their answers say, forward, rows of bases, sessions, and demand 3.
 pub mod Cases
 pub mod Positions
 pub mod Requests
 pub mod Answers
 pub mod Forward
 pub mod Bases
+pub mod Sessions
 pub mod Chains
 pub mod Rewinds
 pub mod Tracing

@@ -1,4 +1,4 @@
--- Load, run, trace and cut: check's refusals, then their own, else the four registers, their exponents, or a part of the tape.
+-- Load, run, trace and cut: check's refusals, then their own, else the register record, exponents, or a part of the tape.
 use mathlib.Core.Bool.{Bool, false, not, _&&_, _||_}
 use mathlib.Core.List.{List, [], _∷_, _++_}
 use Prim.Native.Nat.{ℕ, _%_, _^_}
@@ -6,17 +6,15 @@ use lib.Dec.{leb, ltb, eqb}
 use lib.IntN.{ℤ}
 use lib.ListN.{length, take}
 use Rattle.refusal.specs.declared.Refusal.the-variants.{Register, Position, Base, Range}
-use Rattle.refusal.specs.Refusals.{numberOf}
 use Rattle.refusal.specs.Outcomes.{Outcome, Rule, refused, answered, andThen, _given-if_}
 use Rattle.tape.specs.declared.Header.{Header}
 use Rattle.tape.specs.declared.Step.{Step}
 use Rattle.tape.specs.Layout.{headerOf, stepIndex, stepWords, stepsOf}
-use Rattle.machine.specs.Machine.{valuesOf, run, start}
+use Rattle.machine.specs.Machine.{run, start}
 use Rattle.machine.specs.Exponents.{startExponents, exponentsAt, staysInRange}
 use Rattle.program.specs.Services.{isNamed, checkRules}
 use Rattle.program.specs.Door.{onTape}
-use Rattle.sequencer.specs.declared.RegistersAnswer.{RegistersAnswer}
-use Rattle.sequencer.specs.declared.RegistersAnswer.the-variants.{Answered, Refused}
+use Rattle.sequencer.specs.Records.{Record}
 
 -- refusal 9: a register or base is 0 or at least p
 unfoldable pub badRegister : ℕ → ℕ → Bool
@@ -42,30 +40,40 @@ baseRules h a =
     ∷ (Base given-if badBase h a)
     ∷ []
 
--- load: (1, a, 1, 1)
-unfoldable pub loadOutcome : List ℕ → ℕ → Outcome (List ℕ)
-loadOutcome tape a = onTape tape (baseRules (headerOf tape) a) (start a)
+-- (1, a, 1, 1) at position 0
+abbrev pub startRecord : ℕ → Record
+startRecord a = record { registers = start a; position = 0 }
 
--- run's own refusals: 9, 10
-unfoldable pub positionRules : Header → List ℕ → ℕ → ℕ → List Rule
-positionRules h v from goal =
-    (Register given-if badRegisters (h .modulus) v)
-    ∷ (Position given-if (ltb (h .steps) from || ltb (h .steps) goal))
+-- load: the record to start from
+unfoldable pub loadOutcome : List ℕ → ℕ → Outcome Record
+loadOutcome tape a = onTape tape (baseRules (headerOf tape) a) (startRecord a)
+
+-- a record's own refusals: 9; 10 where its position is above the step count
+unfoldable pub recordRules : Header → Record → List Rule
+recordRules h s =
+    (Register given-if badRegisters (h .modulus) (s .registers))
+    ∷ (Position given-if ltb (h .steps) (s .position))
     ∷ []
 
+-- run's own refusals: the record's; 10 where its goal is above the step count
+unfoldable pub goalRules : Header → Record → ℕ → List Rule
+goalRules h s goal = recordRules h s ++ (Position given-if ltb (h .steps) goal) ∷ []
+
 -- the refusals listed for run
-unfoldable pub runRules : List ℕ → List ℕ → ℕ → ℕ → List Rule
-runRules tape v from goal = checkRules tape ++ positionRules (headerOf tape) v from goal
+unfoldable pub runRules : List ℕ → Record → ℕ → List Rule
+runRules tape s goal = checkRules tape ++ goalRules (headerOf tape) s goal
 
--- run: the registers at its goal
-unfoldable pub runOutcome : List ℕ → List ℕ → ℕ → ℕ → Outcome (List ℕ)
-runOutcome tape v from goal =
-    let h = headerOf tape in
-    onTape tape (positionRules h v from goal) (run (h .modulus) (stepsOf tape) from goal v)
+-- the record at a goal: what the steps between its position and the goal make of its registers
+abbrev pub recordAt : Header → List Step → Record → ℕ → Record
+recordAt h xs s goal = record { registers = run (h .modulus) xs (s .position) goal (s .registers); position = goal }
 
--- forward: load, then run from 0 to the step count
-unfoldable pub forwardOutcome : List ℕ → ℕ → Outcome (List ℕ)
-forwardOutcome tape a = andThen (loadOutcome tape a) (λ (v : List ℕ). runOutcome tape v 0 (headerOf tape .steps))
+-- run: the record at its goal
+unfoldable pub runOutcome : List ℕ → Record → ℕ → Outcome Record
+runOutcome tape s goal = let h = headerOf tape in onTape tape (goalRules h s goal) (recordAt h (stepsOf tape) s goal)
+
+-- forward: load, then run to the step count
+unfoldable pub forwardOutcome : List ℕ → ℕ → Outcome Record
+forwardOutcome tape a = andThen (loadOutcome tape a) (λ s. runOutcome tape s (headerOf tape .steps))
 
 -- trace's own refusals: 10, and 12 where any position up to the given one leaves the range
 unfoldable pub traceRules : Header → List Step → ℕ → List Rule
@@ -101,8 +109,3 @@ cutStart tape first last = onTape tape (cutRules (headerOf tape) first last) (st
 
 unfoldable pub cutCount : List ℕ → ℕ → ℕ → Outcome ℕ
 cutCount tape first last = onTape tape (cutRules (headerOf tape) first last) (length (stepWords tape first last))
-
--- the outcome that a `RegistersAnswer` of the code stands for
-abbrev pub registersOutcomeOf : RegistersAnswer → Outcome (List ℕ)
-registersOutcomeOf (Answered registers) = answered (valuesOf registers)
-registersOutcomeOf (Refused e) = refused (numberOf e)

@@ -1,11 +1,17 @@
-// REQUIREMENTS 8 and 16: load, run, trace, table, cut, rows of bases, and lists of runs. The definitions and laws of this layer, demand 3
-// among them, and the type and the limit that they name; it has no functions.
+// REQUIREMENTS 8 and 16: load, run, trace, table, cut, rows of bases, sessions, and lists of runs. The definitions and laws of this layer,
+// demand 3 among them, and the types and the limit that they name; it has no functions.
 use machine::Registers;
 use refusal::Refusal;
 
-// What load and run answer: the four registers, or a refusal.
-pub enum RegistersAnswer {
-    Answered(Registers),
+// Document 02's register record: the four registers and the position.
+pub struct State {
+    pub registers: Registers,
+    pub position: u32,
+}
+
+// What load, run and step answer: the register record, or a refusal.
+pub enum StateAnswer {
+    Answered(State),
     Refused(Refusal),
 }
 

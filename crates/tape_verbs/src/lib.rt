@@ -8,36 +8,37 @@ ghost use lib.Seq.{sets};
 ghost use Rattle.refusal.specs.Rows.{Wrote};
 ghost use Rattle.text.specs.Text.{numbersLine};
 ghost use Rattle.tape.specs.Layout.{stepsOf};
-ghost use Rattle.machine.specs.Machine.{valuesOf};
 ghost use Rattle.program.specs.Services.{acceptOutcome};
+ghost use Rattle.sequencer.specs.Records.{rowOf, recordIn, recordOf};
 ghost use Rattle.sequencer.specs.Services.{runOutcome, cutOutcome};
+ghost use Rattle.sequencer.specs.Sessions.{stepOutcome, isBackward};
 ghost use Rattle.sequencer.specs.Lists.{requestsOf};
 ghost use Rattle.listing.specs.Listing.{linesFor};
 ghost use Rattle.tool.specs.Verbs.{maxParameters};
-ghost use Rattle.tool.specs.Replies.{answers, printed, registersIn, raisedAll, runsTold, played, tapeReply};
+ghost use Rattle.tool.specs.Texts.{recordLine};
+ghost use Rattle.tool.specs.Replies.{answers, printed, raisedAll, runsTold, played, tapeReply};
 ghost use Rattle.tool.specs.Rows.{Told};
 use lines::numbers_line;
 use lister::list_tape;
-use machine::Registers;
 use printing::answer;
 use printing::print_exponents;
 use printing::print_power;
-use printing::print_registers;
+use printing::print_record;
 use printing::print_table;
 use printing::refuse;
 use putting::put_words;
 use refusal::NumberAnswer;
+use sequencer::State;
+use sessions::step_once;
 use tool::ANSWERED;
 use tool::MAX_PARAMETERS;
 use tool::Reply;
 use tool::TapeVerb;
+use values::RECORD_NUMBERS;
 use values::first;
 use values::parameter;
-use values::past_registers;
-use values::registers;
-
-// The registers of the machine, which a list of runs begins with.
-const REGISTERS: usize = 4;
+use values::past_record;
+use values::record;
 
 // The words of a request in a list of runs.
 const REQUEST_WORDS: usize = 4;
@@ -58,8 +59,9 @@ pub fn on_tape(
     match verb {
         TapeVerb::Check => answer(text, own, accepting::check(tape)),
         TapeVerb::Listing => list(tape, text),
-        TapeVerb::Load => print_registers(text, own, running::load(tape, parameter(given, 0))),
+        TapeVerb::Load => print_record(text, own, running::load(tape, parameter(given, 0))),
         TapeVerb::Run => run(own, given, tape, text),
+        TapeVerb::SingleStep => step(own, given, tape, text),
         TapeVerb::Power => print_power(text, own, running::forward(tape, parameter(given, 0))),
         TapeVerb::Raise => raise(own, given, tape, text),
         TapeVerb::Trace => print_exponents(text, own, inspecting::trace(tape, parameter(given, 0))),
@@ -80,13 +82,27 @@ fn list(tape: &[u32], text: &mut [u8]) -> Reply
     }
 }
 
-// Run, its registers the first four parameters.
+// Run, its record the first five parameters.
 fn run(own: u32, values: &[u32], tape: &[u32], text: &mut [u8]) -> Reply
-    ensures { λ r. ⌜ Told (now (text .entry)) (printed own (runOutcome (now (tape .entry)) (registersIn (now (values .entry))) (getD (now (values .entry)) 4 0) (getD (now (values .entry)) 5 0)) numbersLine) r (now (text .exit)) ⌝ }
+    ensures { λ r. ⌜ Told (now (text .entry)) (printed own (runOutcome (now (tape .entry)) (recordIn (now (values .entry))) (getD (now (values .entry)) 5 0)) recordLine) r (now (text .exit)) ⌝ }
 {
-    let at = registers(values);
-    let answer = running::run(tape, at, parameter(values, 4), parameter(values, 5));
-    print_registers(text, own, answer)
+    let answer = running::run(tape, record(values), parameter(values, 5));
+    print_record(text, own, answer)
+}
+
+// A single step, of a session that is opened for it: so a program uses sessions, for the price of checking the tape twice.
+fn step(own: u32, values: &[u32], tape: &[u32], text: &mut [u8]) -> Reply
+    ensures { λ r. ⌜ Told (now (text .entry)) (printed own (stepOutcome (now (tape .entry)) (recordIn (now (values .entry))) (isBackward (getD (now (values .entry)) 5 0))) recordLine) r (now (text .exit)) ⌝ }
+{
+    let gone = step_once(tape, record(values), parameter(values, 5) != 0);
+    if gone.opened != 0 {
+        return refuse(text, own, gone.opened);
+    }
+    if gone.stepped != 0 {
+        return refuse(text, own, gone.stepped);
+    }
+    let state = gone.state;
+    printing::record(text, state)
 }
 
 // Raise, its bases the parameters, which are copied since they are replaced.
@@ -128,38 +144,40 @@ fn cut(own: u32, tape: &[u32], first: u32, last: u32, text: &mut [u8]) -> Reply
     }
 }
 
-// A list of runs: four registers, then the requests. Told are the registers at its end, then each run's number.
+// A list of runs: a record, then the requests. Told are the record at its end, then each run's number.
 fn play(values: &[u32], tapes: &[u32], text: &mut [u8]) -> Reply
     requires { ⌜ length (now values) ≤ maxParameters ⌝ }
     ensures { λ r. ⌜ Told (now (text .entry)) (played (now (values .entry)) (now (tapes .entry))) r (now (text .exit)) ⌝ }
 {
-    let requests = past_registers(values);
+    let requests = past_record(values);
     let mut told = [0u32; MAX_PARAMETERS];
-    let length = runs(tapes, requests, registers(values), &mut told);
+    let length = runs(tapes, requests, record(values), &mut told);
     Reply {
         status: ANSWERED,
         length: numbers_line(text, 0, &told[..length]),
     }
 }
 
-// The registers after a list of runs, then each run's number, and how many these are.
-fn runs(tapes: &[u32], requests: &[u32], registers: Registers, told: &mut [u32]) -> usize
-    requires { ⌜ 4 + length (now requests) / 4 ≤ length (now told) ⌝ }
-    ensures { λ count. ⌜ Wrote (now (told .entry)) 0 (runsTold (requestsOf (now (tapes .entry)) (now (requests .entry))) (valuesOf registers)) count (now (told .exit)) ⌝ }
-    ensures { λ count. ⌜ count ≡ 4 + length (now (requests .entry)) / 4 ⌝ }
+// The record after a list of runs, then each run's number, and how many these are.
+fn runs(tapes: &[u32], requests: &[u32], state: State, told: &mut [u32]) -> usize
+    requires { ⌜ 5 + length (now requests) / 4 ≤ length (now told) ⌝ }
+    ensures { λ count. ⌜ Wrote (now (told .entry)) 0 (runsTold (requestsOf (now (tapes .entry)) (now (requests .entry))) (recordOf state)) count (now (told .exit)) ⌝ }
+    ensures { λ count. ⌜ count ≡ 5 + length (now (requests .entry)) / 4 ⌝ }
 {
-    let after = playing::play(tapes, requests, registers, &mut told[REGISTERS..]);
-    put_registers(after, told);
-    REGISTERS + requests.len() / REQUEST_WORDS
+    let after = playing::play(tapes, requests, state, &mut told[RECORD_NUMBERS..]);
+    put_record(after, told);
+    RECORD_NUMBERS + requests.len() / REQUEST_WORDS
 }
 
-// The registers in the first four places.
-fn put_registers(registers: Registers, told: &mut [u32])
-    requires { ⌜ 4 ≤ length (now told) ⌝ }
-    ensures { λ _. ⌜ now (told .exit) ≡ sets (now (told .entry)) 0 (valuesOf registers) ⌝ }
+// The record in the first five places.
+fn put_record(state: State, told: &mut [u32])
+    requires { ⌜ 5 ≤ length (now told) ⌝ }
+    ensures { λ _. ⌜ now (told .exit) ≡ sets (now (told .entry)) 0 (rowOf (recordOf state)) ⌝ }
 {
+    let registers = state.registers;
     told[0] = registers.c;
     told[1] = registers.d;
     told[2] = registers.e;
     told[3] = registers.f;
+    told[4] = state.position;
 }

@@ -1,11 +1,14 @@
 // The parameters of a verb on a tape.
 ghost use mathlib.Core.Path.{_≡_};
 ghost use lib.ListN.{getD, take, drop};
-ghost use Rattle.machine.specs.Machine.{valuesOf};
+ghost use Rattle.sequencer.specs.Records.{recordNumbers, recordIn, recordOf};
 ghost use Rattle.tool.specs.Verbs.{maxParameters};
-ghost use Rattle.tool.specs.Replies.{registersIn};
 use machine::Registers;
+use sequencer::State;
 use tool::MAX_PARAMETERS;
+
+// The numbers of a record: four registers and the position.
+pub(crate) const RECORD_NUMBERS: usize = 5;
 
 // As many as a verb has at most.
 pub(crate) fn first(values: &[u32]) -> &[u32]
@@ -27,24 +30,27 @@ pub(crate) fn parameter(values: &[u32], place: usize) -> u32
     values[place]
 }
 
-// The first four, which are registers.
-pub(crate) fn registers(values: &[u32]) -> Registers
-    ensures { λ r. ⌜ valuesOf r ≡ registersIn (now (values .entry)) ⌝ }
+// The first five, which are a record.
+pub(crate) fn record(values: &[u32]) -> State
+    ensures { λ s. ⌜ recordOf s ≡ recordIn (now (values .entry)) ⌝ }
 {
-    Registers {
-        c: parameter(values, 0),
-        d: parameter(values, 1),
-        e: parameter(values, 2),
-        f: parameter(values, 3),
+    State {
+        registers: Registers {
+            c: parameter(values, 0),
+            d: parameter(values, 1),
+            e: parameter(values, 2),
+            f: parameter(values, 3),
+        },
+        position: parameter(values, 4),
     }
 }
 
-// Those behind the first four.
-pub(crate) fn past_registers(values: &[u32]) -> &[u32]
-    ensures { λ r. ⌜ now r ≡ drop 4 (now (values .entry)) ⌝ }
+// Those behind the record.
+pub(crate) fn past_record(values: &[u32]) -> &[u32]
+    ensures { λ r. ⌜ now r ≡ drop recordNumbers (now (values .entry)) ⌝ }
 {
-    if values.len() < 4 {
+    if values.len() < RECORD_NUMBERS {
         return &values[..0];
     }
-    &values[4..]
+    &values[RECORD_NUMBERS..]
 }

@@ -1,7 +1,7 @@
 -- The reply to a command line: a status and a text, which goes to standard output where the call is answered, else to standard error.
 use mathlib.Core.Path.{_≡_}
 use mathlib.Core.Bool.{Bool, false, not, _&&_, cond}
-use mathlib.Core.List.{List, [], _∷_, _++_}
+use mathlib.Core.List.{List, [], _++_}
 use Prim.Native.Nat.{ℕ, _*_, _^_, _%_, _<_}
 use lib.Dec.{eqb}
 use lib.ListN.{length, getD, drop}
@@ -18,13 +18,15 @@ use Rattle.tape.specs.Layout.{maxWords, stepsOf}
 use Rattle.encoding.specs.Encoding.{bytesOf, tapeIn, wordBytes}
 use Rattle.named.specs.Named.{namedWords}
 use Rattle.program.specs.Services.{buildOutcome, checkOutcome, acceptOutcome}
+use Rattle.sequencer.specs.Records.{Record, recordNumbers, rowOf, recordIn}
 use Rattle.sequencer.specs.Services.{loadOutcome, runOutcome, forwardOutcome, traceOutcome, cutOutcome}
 use Rattle.sequencer.specs.Bases.{raiseOutcome, raisedBases}
 use Rattle.sequencer.specs.Tables.{tableOutcome}
+use Rattle.sequencer.specs.Sessions.{stepOutcome, isBackward}
 use Rattle.sequencer.specs.Lists.{Request, afterAll, numbersAll, requestsOf}
 use Rattle.listing.specs.Listing.{linesFor}
 use Rattle.tool.specs.declared.TapeVerb.{TapeVerb}
-use Rattle.tool.specs.declared.TapeVerb.the-variants.{Check, Listing, Load, Run, Power, Raise, Trace, Table, Cut, Play}
+use Rattle.tool.specs.declared.TapeVerb.the-variants.{Check, Listing, Load, Run, SingleStep, Power, Raise, Trace, Table, Cut, Play}
 use Rattle.tool.specs.declared.NumberVerb.{NumberVerb}
 use Rattle.tool.specs.declared.NumberVerb.the-variants.{Decode, Fibonacci, Places, NumberOf, Hofstadter, Inverse, Height, Prime, MulMod, PowMod}
 use Rattle.tool.specs.declared.Verb.{Verb}
@@ -32,7 +34,7 @@ use Rattle.tool.specs.declared.Verb.the-variants.{Unknown, Build, Script
 use Rattle.tool.specs.declared.Row.{Row}
 use Rattle.tool.specs.Verbs.{takesTape, takesLines, givesTape}
 use Rattle.tool.specs.Calls.{Asked, noWord, noVerb, wrongCount, unread, known, askedBy}
-use Rattle.tool.specs.Texts.{exponentsLine, tableLines, powerLines, meaning, versionLine, refusalLine, noVerbLine, wrongCountLine, unreadLine, scriptLine, usage}
+use Rattle.tool.specs.Texts.{exponentsLine, tableLines, recordLine, powerLines, meaning, versionLine, refusalLine, noVerbLine, wrongCountLine, unreadLine, scriptLine, usage}
 
 pub record Replied : Type 0 where
   -- 0 answered, 1 refused, 2 not understood
@@ -76,10 +78,6 @@ pub record Streams (r : Replied) : Type 0 where
 abbrev pub at : List ℕ → ℕ → ℕ
 at values place = getD values place 0
 
--- the first four parameters, which are registers
-abbrev pub registersIn : List ℕ → List ℕ
-registersIn v = at v 0 ∷ at v 1 ∷ at v 2 ∷ at v 3 ∷ []
-
 -- the tape's bytes
 unfoldable pub built : ℕ → List ℕ → Replied
 built own v =
@@ -101,19 +99,21 @@ numberReply PowMod own v = answers (numberLine (remainder (at v 0 ^ at v 1) (at 
 abbrev pub raisedAll : ℕ → List ℕ → List ℕ → Replied
 raisedAll own bases tape = printed own (raiseOutcome tape bases) (λ (n : ℕ). numbersLine (raisedBases tape bases))
 
--- a list of runs: the registers at its end, then each run's number
-abbrev pub runsTold : List Request → List ℕ → List ℕ
-runsTold requests registers = afterAll requests registers ++ numbersAll requests registers
+-- a list of runs: the record at its end, then each run's number
+abbrev pub runsTold : List Request → Record → List ℕ
+runsTold requests s = rowOf (afterAll requests s) ++ numbersAll requests s
 
+-- the first parameters are the record, and those behind it the requests
 abbrev pub played : List ℕ → List ℕ → Replied
-played v tapes = answers (numbersLine (runsTold (requestsOf tapes (drop 4 v)) (registersIn v)))
+played v tapes = answers (numbersLine (runsTold (requestsOf tapes (drop recordNumbers v)) (recordIn v)))
 
 -- on a tape; a list of runs is on a row of tapes
 unfoldable pub tapeReply : TapeVerb → ℕ → List ℕ → List ℕ → List ℕ → Replied
 tapeReply Check own v tape tapes = printed own (checkOutcome tape) numberLine
 tapeReply Listing own v tape tapes = answers (linesFor (acceptOutcome tape) (stepsOf tape))
-tapeReply Load own v tape tapes = printed own (loadOutcome tape (at v 0)) numbersLine
-tapeReply Run own v tape tapes = printed own (runOutcome tape (registersIn v) (at v 4) (at v 5)) numbersLine
+tapeReply Load own v tape tapes = printed own (loadOutcome tape (at v 0)) recordLine
+tapeReply Run own v tape tapes = printed own (runOutcome tape (recordIn v) (at v 5)) recordLine
+tapeReply SingleStep own v tape tapes = printed own (stepOutcome tape (recordIn v) (isBackward (at v 5))) recordLine
 tapeReply Power own v tape tapes = printed own (forwardOutcome tape (at v 0)) powerLines
 tapeReply Raise own v tape tapes = raisedAll own v tape
 tapeReply Trace own v tape tapes = printed own (traceOutcome tape (at v 0)) exponentsLine

@@ -13,7 +13,9 @@ use Rattle.tape.specs.declared.Step.{Step}
 use Rattle.tape.specs.declared.Step.the-variants.{Mul, Div, Swp}
 use Rattle.tape.specs.declared.Decoded.{Decoded}
 use Rattle.tape.specs.declared.Decoded.the-variants.{Heading, P, R, K, Action, End, Bad}
+use Rattle.machine.specs.Machine.{reg}
 use Rattle.named.specs.Named.{lastVariant, variantNames}
+use Rattle.sequencer.specs.Records.{Record, rowOf}
 use Rattle.tool.specs.declared.Row.{Row}
 use Rattle.tool.specs.Verbs.{isVariant}
 
@@ -31,9 +33,13 @@ rowLine m i = exponentsLine (getD m i [])
 abbrev pub tableLines : Matrix → List ℕ
 tableLines m = rowLine m 0 ++ rowLine m 1 ++ rowLine m 2 ++ rowLine m 3
 
--- register 1 on a line of its own, and the four registers
-abbrev pub powerLines : List ℕ → List ℕ
-powerLines v = numberLine (getD v 1 0) ++ numbersLine v
+-- a record: the four registers, then the position
+abbrev pub recordLine : Record → List ℕ
+recordLine s = numbersLine (rowOf s)
+
+-- register 1 on a line of its own, and the record
+abbrev pub powerLines : Record → List ℕ
+powerLines s = numberLine (reg (s .registers) 1) ++ recordLine s
 
 -- a word's meaning: its name and its numbers
 abbrev pub stepMeaning : Step → List ℕ
@@ -51,7 +57,7 @@ meaning (End count) = line (ascii "end" ∷ decimal count ∷ [])
 meaning Bad = line (ascii "none" ∷ [])
 
 abbrev pub versionLine : List ℕ
-versionLine = ascii "fibexp 1.0.0" ++ newline ∷ []
+versionLine = ascii "fibexp 2.0.0" ++ newline ∷ []
 
 -- ---- refusals
 
@@ -110,17 +116,18 @@ usage =
     (ascii "usage: fibexp VERB PARAMETER.."
     ∷ (ascii "  build P R K VARIANT    write a tape; VARIANT is " ++ variantsText)
     ∷ ascii "  script                 commands from standard input, one on a line"
-    ∷ ascii "on the tape from standard input:"
+    ∷ ascii "on the tape from standard input; a RECORD is C D E F POSITION, the registers and the position:"
     ∷ ascii "  check                  0 where the tape is accepted"
     ∷ ascii "  list                   the tape's listing"
-    ∷ ascii "  load BASE              the four registers to start from"
-    ∷ ascii "  run C D E F FROM TO    the four registers at position TO"
-    ∷ ascii "  power BASE             load and run: register 1 (a named program's power), the registers"
+    ∷ ascii "  load BASE              the record to start from"
+    ∷ ascii "  run RECORD TO          the record at position TO"
+    ∷ ascii "  step RECORD BACKWARD   the record one step on, or one step back where BACKWARD isn't 0"
+    ∷ ascii "  power BASE             load and run: register 1 (a named program's power), the record"
     ∷ ascii "  raise BASE..           each of up to 64 bases to the power k, by a named program"
     ∷ ascii "  trace POSITION         the four whole exponents"
     ∷ ascii "  table POSITION         the exponent of each start value in each register, a line for each register"
     ∷ ascii "  cut FIRST LAST         the words of the steps FIRST + 1 to LAST"
-    ∷ ascii "  play C D E F REQUEST.. a list of runs, each BEGIN END FROM TO: the registers at its end, each run's number"
+    ∷ ascii "  play RECORD REQUEST..  a list of runs, each BEGIN END TURN TO: the record at its end, each run's number"
     ∷ ascii "on numbers:"
     ∷ ascii "  decode WORD            what a tape's word means"
     ∷ ascii "  fibonacci I            the Fibonacci number of index I"

@@ -19,14 +19,9 @@ mod c {
             count: *mut u32,
         ) -> u32;
         pub fn fibexp_check(tape: *const u32, words: usize) -> u32;
-        pub fn fibexp_load(tape: *const u32, words: usize, base: u32, registers: *mut u32) -> u32;
-        pub fn fibexp_run(
-            tape: *const u32,
-            words: usize,
-            registers: *mut u32,
-            from: u32,
-            to: u32,
-        ) -> u32;
+        pub fn fibexp_load(tape: *const u32, words: usize, base: u32, record: *mut u32) -> u32;
+        pub fn fibexp_run(tape: *const u32, words: usize, record: *mut u32, to: u32) -> u32;
+        pub fn fibexp_step(tape: *const u32, words: usize, record: *mut u32, backward: u32) -> u32;
         pub fn fibexp_raise(tape: *const u32, words: usize, bases: *mut u32, count: usize) -> u32;
         pub fn fibexp_trace(
             tape: *const u32,
@@ -95,12 +90,17 @@ pub fn check(tape: &[u32]) -> u32 {
     unsafe { c::fibexp_check(tape.as_ptr(), tape.len()) }
 }
 
-pub fn load(tape: &[u32], base: u32, registers: &mut [u32; 4]) -> u32 {
-    unsafe { c::fibexp_load(tape.as_ptr(), tape.len(), base, registers.as_mut_ptr()) }
+pub fn load(tape: &[u32], base: u32, record: &mut [u32; 5]) -> u32 {
+    unsafe { c::fibexp_load(tape.as_ptr(), tape.len(), base, record.as_mut_ptr()) }
 }
 
-pub fn run(tape: &[u32], registers: &mut [u32; 4], from: u32, to: u32) -> u32 {
-    unsafe { c::fibexp_run(tape.as_ptr(), tape.len(), registers.as_mut_ptr(), from, to) }
+pub fn run(tape: &[u32], record: &mut [u32; 5], to: u32) -> u32 {
+    unsafe { c::fibexp_run(tape.as_ptr(), tape.len(), record.as_mut_ptr(), to) }
+}
+
+/// Forward where `backward` is 0.
+pub fn step(tape: &[u32], record: &mut [u32; 5], backward: u32) -> u32 {
+    unsafe { c::fibexp_step(tape.as_ptr(), tape.len(), record.as_mut_ptr(), backward) }
 }
 
 pub fn raise(tape: &[u32], bases: &mut [u32]) -> u32 {

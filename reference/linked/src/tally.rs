@@ -12,6 +12,7 @@ pub enum Service {
     Check,
     Load,
     Run,
+    Step,
     Raise,
     Trace,
     Table,
@@ -20,7 +21,7 @@ pub enum Service {
     Reply,
 }
 
-const SERVICES: [Service; 16] = [
+const SERVICES: [Service; 17] = [
     Service::Fibonacci,
     Service::Places,
     Service::Number,
@@ -31,6 +32,7 @@ const SERVICES: [Service; 16] = [
     Service::Check,
     Service::Load,
     Service::Run,
+    Service::Step,
     Service::Raise,
     Service::Trace,
     Service::Table,
@@ -55,6 +57,7 @@ impl Service {
             Service::Check => "check",
             Service::Load => "load",
             Service::Run => "run",
+            Service::Step => "step",
             Service::Raise => "raise",
             Service::Trace => "trace",
             Service::Table => "table",
@@ -75,7 +78,7 @@ impl Service {
             Service::Build => &[1, 2, 3, 4, 5],
             Service::Check => &[6, 7, 4, 1, 2, 3, 8],
             Service::Load => &[6, 7, 4, 1, 2, 3, 8, 9, 11],
-            Service::Run => &[6, 7, 4, 1, 2, 3, 8, 9, 10],
+            Service::Run | Service::Step => &[6, 7, 4, 1, 2, 3, 8, 9, 10],
             Service::Raise => &[6, 7, 4, 1, 2, 3, 8, 14, 9, 11],
             Service::Trace | Service::Table => &[6, 7, 4, 1, 2, 3, 8, 10, 12],
             Service::Cut => &[6, 7, 4, 1, 2, 3, 8, 10],

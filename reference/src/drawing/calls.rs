@@ -10,7 +10,7 @@ use crate::drawing::values::{self, MOST_PLACES};
 use crate::{listing, places};
 
 const SEED: u64 = 359_179_076;
-const ROUNDS: usize = 440;
+const ROUNDS: usize = 500;
 /// No drawn tape has more words.
 const MOST_WORDS: usize = 640;
 /// No room is larger.
@@ -60,12 +60,12 @@ pub(super) fn asks(lines: &mut Lines, fields: &Fields) {
 /// Besides the ways of `tapes::tape`, more often at the edge of the exponents' range and with a header or
 /// a step that isn't the program's own, or too short, so that each refusal of a tape is met often.
 pub(super) fn tape(fields: &Fields, noise: &mut Noise) -> Vec<u32> {
-    match noise.below(18) {
-        0..=3 => tapes::edge(fields, noise),
-        4..=8 => tapes::header_of(fields, noise),
-        9 => tapes::changed_step(fields, noise),
-        10 => tapes::too_short(noise),
-        11..=13 => named(fields.lawful(noise)),
+    match noise.below(26) {
+        0..=6 => tapes::edge(fields, noise),
+        7..=13 => tapes::header_of(fields, noise),
+        14 | 15 => tapes::changed_step(fields, noise),
+        16 | 17 => tapes::too_short(noise),
+        18..=22 => named(fields.lawful(noise)),
         _ => tapes::tape(fields, noise),
     }
 }
@@ -103,6 +103,12 @@ fn powers(lines: &mut Lines) {
         let [c, d, e, f] = values::registers(&mut lines.noise, p, r);
         let (from, to) = values::positions(&mut lines.noise, count);
         lines.small_call("run", &[c, d, e, f, from, to]);
+    }
+    for _ in 0..3 {
+        let [c, d, e, f] = values::registers(&mut lines.noise, p, r);
+        let position = values::step_position(&mut lines.noise, count);
+        let direction = values::direction(&mut lines.noise);
+        lines.small_call("step", &[c, d, e, f, position, direction]);
     }
 }
 
@@ -157,19 +163,19 @@ fn list(lines: &mut Lines) {
     lines.line(b"room");
 }
 
-/// Lists of up to four runs on the tape at hand, which in a round is all of the row.
+/// Lists of up to five runs on the tape at hand, which in a round is all of the row.
 fn plays(lines: &mut Lines) {
     let (p, r) = modulus_and_order(&lines.tape);
     let (length, count) = (lines.tape.len() as u32, steps(&lines.tape));
-    let mut numbers = values::registers(&mut lines.noise, p, r).to_vec();
-    for _ in 0..lines.noise.below(5) {
-        let (from, to) = values::positions(&mut lines.noise, count);
+    let mut numbers = values::record(&mut lines.noise, p, r, count).to_vec();
+    for _ in 0..lines.noise.below(6) {
+        let (turn, goal) = values::turn_and_goal(&mut lines.noise, count);
         let (begin, end) = match lines.noise.below(8) {
             0 => (lines.noise.below(4), length),
             1 => (0, lines.noise.below(length + 3)),
             _ => (0, length),
         };
-        numbers.extend([begin, end, from, to]);
+        numbers.extend([begin, end, turn, goal]);
     }
     for _ in 0..lines.noise.below(4) {
         numbers.push(lines.noise.below(MOST_WORDS as u32));

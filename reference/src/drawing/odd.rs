@@ -4,18 +4,19 @@ use crate::drawing::lines::Lines;
 use crate::drawing::noise::Noise;
 
 /// Verbs, each with a count of parameters that it takes.
-const VERBS: [(&str, usize); 27] = [
+const VERBS: [(&str, usize); 28] = [
     ("build", 4),
     ("check", 0),
     ("list", 0),
     ("load", 1),
     ("run", 6),
+    ("step", 6),
     ("power", 1),
     ("raise", 3),
     ("trace", 1),
     ("table", 1),
     ("cut", 2),
-    ("play", 4),
+    ("play", 5),
     ("decode", 1),
     ("fibonacci", 1),
     ("places", 1),

@@ -12,6 +12,8 @@ const TAPES: usize = 24;
 const LISTS: usize = 300;
 /// The row holds so many words.
 const MOST_ROW_WORDS: u32 = 4096;
+/// The record of a list stands where that of a tape of so many steps would.
+const MOST_STEPS: u32 = 40;
 /// So many are left free before the row is full.
 const LEFT: u32 = 10;
 
@@ -64,15 +66,15 @@ fn stood(noise: &mut Noise, p: u32, r: u32) -> Vec<u32> {
     tape
 }
 
-/// Four registers and up to 15 requests: most on programs of one p, end to end in either direction.
+/// A record and up to 14 requests: most on programs of one p, end to end in either direction.
 fn list(noise: &mut Noise, row: &[Standing], size: u32) -> Vec<u32> {
     let (p, r) = noise.pick(&FIELDS);
     let mut numbers = if noise.once_in(2) {
-        vec![1, power(noise.between(1, p - 1), (p - 1) / r, p), 1, 1]
+        vec![1, power(noise.between(1, p - 1), (p - 1) / r, p), 1, 1, 0]
     } else {
-        values::registers(noise, p, r).to_vec()
+        values::record(noise, p, r, MOST_STEPS).to_vec()
     };
-    for _ in 0..noise.below(16) {
+    for _ in 0..noise.below(15) {
         let mut tape = &row[noise.index(row.len())];
         while tape.p != p && !noise.once_in(8) {
             tape = &row[noise.index(row.len())];
@@ -86,13 +88,13 @@ fn list(noise: &mut Noise, row: &[Standing], size: u32) -> Vec<u32> {
 
 fn request(noise: &mut Noise, tape: &Standing, size: u32) -> [u32; 4] {
     let &Standing { begin, end, .. } = tape;
-    let (from, to) = values::positions(noise, end - begin - 5);
+    let (turn, goal) = values::turn_and_goal(noise, end - begin - 5);
     match noise.below(16) {
-        0 => [begin, size + noise.below(3), from, to],
-        1 => [end, begin, from, to],
-        2 => [begin + 1, end, from, to],
-        3 => [begin, noise.word(), from, to],
-        _ => [begin, end, from, to],
+        0 => [begin, size + noise.below(3), turn, goal],
+        1 => [end, begin, turn, goal],
+        2 => [begin + 1, end, turn, goal],
+        3 => [begin, noise.word(), turn, goal],
+        _ => [begin, end, turn, goal],
     }
 }
 
@@ -121,7 +123,7 @@ pub(super) fn full_row(lines: &mut Lines, fields: &Fields) {
             3 => lines.line(b"check"),
             _ => lines.small_call(
                 "play",
-                &[1, 2, 3, 4, lines.before, lines.before + held, 0, 0],
+                &[1, 2, 3, 4, 0, lines.before, lines.before + held, 0, 0],
             ),
         }
     }

@@ -1,4 +1,4 @@
-//! Numbers, orders, lists of places, positions, registers, bases, rows of bases and rooms.
+//! Numbers, orders, lists of places, positions, turns, registers, records, bases, rows of bases and rooms.
 
 use crate::drawing::noise::Noise;
 use crate::drawing::parameters::power;
@@ -142,15 +142,48 @@ pub fn room(noise: &mut Noise, exact: usize, most: usize) -> usize {
     }
 }
 
-/// A position: in range, the ends, or above the step count.
+/// A position: in range, the ends and beside the last, or above the step count.
 pub fn position(noise: &mut Noise, count: u32) -> u32 {
     match noise.below(16) {
-        0 => count.wrapping_add(1),
+        0 => count + 1,
         1 => noise.word(),
         2 => u32::MAX - noise.below(4),
         3 => count,
         4 => 0,
+        5 => count.saturating_sub(1),
         _ => noise.below(count + 1),
+    }
+}
+
+/// Where a single step begins: beside an end in half of the draws, where it is refused one way.
+pub fn step_position(noise: &mut Noise, count: u32) -> u32 {
+    match noise.below(4) {
+        0 => noise.below(2),
+        1 => count.saturating_sub(1) + noise.below(3),
+        _ => position(noise, count),
+    }
+}
+
+/// The number that tells a step's direction: 0 is forward, any other backward.
+pub fn direction(noise: &mut Noise) -> u32 {
+    match noise.below(8) {
+        0..=3 => 0,
+        4 | 5 => 1,
+        6 => noise.pick(&[2, u32::MAX]),
+        _ => noise.word(),
+    }
+}
+
+/// A request's turn and goal: end to end behind a turn, from where the record stands, or any.
+pub fn turn_and_goal(noise: &mut Noise, count: u32) -> (u32, u32) {
+    match noise.below(8) {
+        0 | 1 => (1, count),
+        2 => (count + 1, 0),
+        3..=5 => (0, position(noise, count)),
+        _ => {
+            let (from, to) = positions(noise, count);
+            (from.saturating_add(1), to)
+        }
     }
 }
 
@@ -184,6 +217,17 @@ pub fn registers(noise: &mut Noise, p: u32, r: u32) -> [u32; 4] {
         four[noise.index(4)] = faulty_register(noise, p);
     }
     four
+}
+
+/// A record: registers as above, at the first position or any.
+pub fn record(noise: &mut Noise, p: u32, r: u32, count: u32) -> [u32; 5] {
+    let [c, d, e, f] = registers(noise, p, r);
+    let position = if noise.once_in(2) {
+        0
+    } else {
+        position(noise, count)
+    };
+    [c, d, e, f, position]
 }
 
 /// A base: most with a^r = 1, some without, some out of range.

@@ -5,7 +5,7 @@ use super::texts::{USAGE, VERSION};
 use super::verbs::Verb;
 use super::Tapes;
 use crate as services;
-use crate::Meaning;
+use crate::{Meaning, Record};
 use std::fmt::Display;
 
 /// No form has more places.
@@ -37,19 +37,17 @@ fn on_tape(call: &Call, tapes: Tapes) -> Answer {
     match call.verb {
         Verb::Check => services::check(tape).map(|()| line_of(&[0])),
         Verb::List => Ok(services::listing(&bytes(tape))),
-        Verb::Load => services::load(tape, n[0]).map(|four| line_of(&four)),
-        Verb::Run => {
-            services::run(tape, [n[0], n[1], n[2], n[3]], n[4], n[5]).map(|four| line_of(&four))
-        }
+        Verb::Load => services::load(tape, n[0]).map(record_line),
+        Verb::Run => services::run(tape, record(&n), n[5]).map(record_line),
+        Verb::Step => services::step(tape, record(&n), n[5] != 0).map(record_line),
         Verb::Power => power(tape, n[0]),
         Verb::Raise => raise(tape, n),
         Verb::Trace => services::trace(tape, n[0]).map(|four| line_of(&four)),
         Verb::Table => table(tape, n[0]),
         Verb::Cut => services::cut(tape, n[0], n[1]).map(line_of),
         _ => {
-            let registers = [n[0], n[1], n[2], n[3]];
-            let (after, numbers) = services::play(tapes.all, &n[4..], registers);
-            Ok(line_of(&[&after[..], &numbers].concat()))
+            let (after, numbers) = services::play(tapes.all, &n[5..], record(&n));
+            Ok(line_of(&[&after.numbers()[..], &numbers].concat()))
         }
     }
 }
@@ -91,12 +89,21 @@ fn build(p: u32, r: u32, k: u32, variant: u32) -> Answer {
     Ok(bytes(&row[..count]))
 }
 
-/// Load, and a run to the end: register 1, then all four.
+/// The record that a verb's first five parameters give.
+fn record(n: &[u32]) -> Record {
+    Record::of([n[0], n[1], n[2], n[3], n[4]])
+}
+
+fn record_line(record: Record) -> Vec<u8> {
+    line_of(&record.numbers())
+}
+
+/// Load, and a run to the end: register 1, then the record.
 fn power(tape: &[u32], base: u32) -> Answer {
     let start = services::load(tape, base)?;
     // An accepted tape has a head of four words and an end beside its steps.
-    let end = services::run(tape, start, 0, tape.len() as u32 - 5)?;
-    Ok([line_of(&end[1..2]), line_of(&end)].concat())
+    let end = services::run(tape, start, tape.len() as u32 - 5)?;
+    Ok([line_of(&end.registers[1..2]), record_line(end)].concat())
 }
 
 fn raise(tape: &[u32], mut bases: Vec<u32>) -> Answer {

@@ -6,23 +6,24 @@ use crate::refusal;
 /// Each complaint and each refusal begins with the tool's name.
 pub(super) const NAME: &str = "fibexp: ";
 
-pub(super) const VERSION: &str = "fibexp 1.0.0\n";
+pub(super) const VERSION: &str = "fibexp 2.0.0\n";
 
 pub(super) const USAGE: &str = "\
 usage: fibexp VERB PARAMETER..
   build P R K VARIANT    write a tape; VARIANT is basic, dual, hybrid or 1 to 3
   script                 commands from standard input, one on a line
-on the tape from standard input:
+on the tape from standard input; a RECORD is C D E F POSITION, the registers and the position:
   check                  0 where the tape is accepted
   list                   the tape's listing
-  load BASE              the four registers to start from
-  run C D E F FROM TO    the four registers at position TO
-  power BASE             load and run: register 1 (a named program's power), the registers
+  load BASE              the record to start from
+  run RECORD TO          the record at position TO
+  step RECORD BACKWARD   the record one step on, or one step back where BACKWARD isn't 0
+  power BASE             load and run: register 1 (a named program's power), the record
   raise BASE..           each of up to 64 bases to the power k, by a named program
   trace POSITION         the four whole exponents
   table POSITION         the exponent of each start value in each register, a line for each register
   cut FIRST LAST         the words of the steps FIRST + 1 to LAST
-  play C D E F REQUEST.. a list of runs, each BEGIN END FROM TO: the registers at its end, each run's number
+  play RECORD REQUEST..  a list of runs, each BEGIN END TURN TO: the record at its end, each run's number
 on numbers:
   decode WORD            what a tape's word means
   fibonacci I            the Fibonacci number of index I
@@ -47,7 +48,7 @@ pub(super) fn reason(verb: Verb, number: u32) -> &'static str {
         (refusal::VARIANT, Verb::Build | Verb::Raise) => {
             "the variant must be that of a named program"
         }
-        (refusal::REGISTER, Verb::Run) => "each register must be from 1 to p-1",
+        (refusal::REGISTER, Verb::Run | Verb::Step) => "each register must be from 1 to p-1",
         (refusal::POSITION, Verb::Cut) => {
             "first and last must be positions up to the step count, first at most last"
         }
@@ -68,7 +69,7 @@ fn common_reason(number: u32) -> &'static str {
         refusal::WORD => "a word, its place or the end's count breaks the layout",
         refusal::STRANGER => "the steps aren't those built for the tape's p, r, k and variant",
         refusal::REGISTER => "the base must be from 1 to p-1",
-        refusal::POSITION => "a position is above the step count",
+        refusal::POSITION => "a position is outside 0 to the step count",
         refusal::BASE => "the base's power r isn't 1",
         refusal::RANGE => "an exponent leaves -2^62 to 2^62",
         refusal::INDEX => "not the places of a Zeckendorf form, from 92 down to 1",

@@ -7,6 +7,7 @@ pub(crate) enum Verb {
     List,
     Load,
     Run,
+    Step,
     Power,
     Raise,
     Trace,
@@ -69,18 +70,19 @@ const fn exactly(name: &'static str, verb: Verb, count: usize) -> Entry {
 }
 
 /// What a command line may begin with.
-pub(crate) const VERBS: [Entry; 27] = [
+pub(crate) const VERBS: [Entry; 28] = [
     exactly("build", Verb::Build, 4),
     exactly("check", Verb::Check, 0),
     exactly("list", Verb::List, 0),
     exactly("load", Verb::Load, 1),
     exactly("run", Verb::Run, 6),
+    exactly("step", Verb::Step, 6),
     exactly("power", Verb::Power, 1),
     takes("raise", Verb::Raise, 0, MOST, WORD),
     exactly("trace", Verb::Trace, 1),
     exactly("table", Verb::Table, 1),
     exactly("cut", Verb::Cut, 2),
-    takes("play", Verb::Play, 4, MANY, WORD),
+    takes("play", Verb::Play, 5, MANY, WORD),
     exactly("decode", Verb::Decode, 1),
     exactly("fibonacci", Verb::Fibonacci, 1),
     takes("places", Verb::Places, 1, 1, u64::MAX),
@@ -118,6 +120,7 @@ impl Verb {
                 | Verb::List
                 | Verb::Load
                 | Verb::Run
+                | Verb::Step
                 | Verb::Power
                 | Verb::Raise
                 | Verb::Trace

@@ -20,7 +20,7 @@ pub fn built(p: u32, r: u32, k: u32, variant: u32) -> Vec<u32> {
     row
 }
 
-pub fn step(kind: u32, target: u32, source: u32) -> u32 {
+pub fn step_word(kind: u32, target: u32, source: u32) -> u32 {
     kind << 28 | source << 2 | target
 }
 
@@ -33,6 +33,11 @@ pub fn free(p: u32, steps: &[u32]) -> Vec<u32> {
 
 pub fn bytes(tape: &[u32]) -> Vec<u8> {
     tape.iter().flat_map(|word| word.to_le_bytes()).collect()
+}
+
+/// The step words of a tape that has a head and an end.
+pub fn steps_of(tape: &[u32]) -> &[u32] {
+    &tape[4..tape.len() - 1]
 }
 
 /// One step word done, or undone, by remainders and a search for the inverse.
@@ -89,4 +94,20 @@ impl Noise {
     pub fn below(&mut self, bound: u64) -> u64 {
         self.next() % bound
     }
+}
+
+/// A lawful step word.
+pub fn random_step(noise: &mut Noise) -> u32 {
+    let target = noise.below(4) as u32;
+    let source = (target + 1 + noise.below(3) as u32) % 4;
+    match noise.below(3) {
+        0 => step_word(MUL, target, source),
+        1 => step_word(DIV, target, source),
+        _ => step_word(SWP, target.min(source), target.max(source)),
+    }
+}
+
+/// Four registers from 1 to p − 1.
+pub fn drawn_start(noise: &mut Noise, p: u32) -> [u32; 4] {
+    [(); 4].map(|_| 1 + noise.below(p as u64 - 1) as u32)
 }

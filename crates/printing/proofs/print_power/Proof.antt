@@ -1,4 +1,4 @@
--- `print_power` meets its contract: register 1 and the registers, or the refusal.
+-- `print_power` meets its contract: register 1 and the record, or the refusal.
 use borrow.Author.Needs.{needs}
 use Rattle.printing.proofs.print_power.Statement.{statement}
 use Rattle.printing.proofs.print_power.Tie as tie

@@ -18,14 +18,14 @@ use Rattle.program.specs.Services.{acceptOutcome}
 use Rattle.program.proofs.Laws.Checking.{header-is}
 use Rattle.lanes.specs.Inner.Lanes.{maxLanes, through, throughLanes}
 use Rattle.lanes.proofs.Laws.Bases.{through-done}
-use Rattle.sequencer.specs.Services.{loadOutcome}
+use Rattle.sequencer.specs.Services.{startRecord, loadOutcome}
 use Rattle.sequencer.specs.Bases.{rowRules, raised}
 use Rattle.sequencer.proofs.Laws.Cases.{modulus-prime, modulus-odd, words-steps}
 use Rattle.sequencer.proofs.Laws.Answers.{steps-sound, load-answered}
 use Rattle.sequencer.proofs.Laws.Bases.{raised-done, row-map}
 
 module _ (tape : List ℕ) (h : Header) (e : acceptOutcome tape ≡ answered h) (m : Modulus) (fits : h .modulus ≤ word) (is : IsModulus (h .modulus) m) where
-  lane-alone : (a : ℕ) → loadOutcome tape a ≡ answered (start a) → through m (rawSteps (stepWordsOf tape)) a ≡ raised tape a
+  lane-alone : (a : ℕ) → loadOutcome tape a ≡ answered (startRecord a) → through m (rawSteps (stepWordsOf tape)) a ≡ raised tape a
   lane-alone a load =
       ap (λ (xs : List Step). through m xs a) (raw-steps (stepWordsOf tape) (words-steps tape h e))
       ∙ through-done (h .modulus) m (modulus-prime tape h e) (modulus-odd tape h e) fits is a (rw (header-is tape h e) (load-answered tape a _ load .base)) (stepsOf tape) (steps-sound tape)

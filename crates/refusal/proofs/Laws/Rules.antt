@@ -32,7 +32,7 @@ module _ {A B : Type 0} (x : A) (y : B) where
   alone ((e given-if false) ∷ rules) = alone rules
 
   -- rules behind others
-  behind : (front more : List Rule) → outcome (front ++ more) y ≡ andThen (outcome front x) (λ z. outcome more y)
+  pub behind : (front more : List Rule) → outcome (front ++ more) y ≡ andThen (outcome front x) (λ z. outcome more y)
   unfolding outcome
   behind [] more = refl
   behind ((e given-if true) ∷ front) more = refl

@@ -2,15 +2,15 @@
 use mathlib.Core.Path.{sym, ap, _∙_}
 use borrow.Author.Needs.{needs}
 use Rattle.tape.specs.declared.Header.{Header}
-use Rattle.machine.specs.Machine.{valuesOf}
 use Rattle.program.proofs.Laws.Checking.{header-is}
-use Rattle.sequencer.specs.Services.{registersOutcomeOf, runOutcome}
+use Rattle.sequencer.specs.Records.{recordOf, stateOutcomeOf}
+use Rattle.sequencer.specs.Services.{runOutcome}
 use Rattle.sequencer.proofs.Laws.Forward.{forward-refused, forward-loaded}
 use Rattle.running.proofs.forward_accepted.Statement.{statement}
 use Rattle.running.proofs.forward_accepted.Tie as tie
 
 returns : tie.Need-returns
-returns c = sym (forward-refused _ _ (sym (c .before .before .before .load-accepted .ensures) ∙ ap registersOutcomeOf (c .before .e .given .1)))
+returns c = sym (forward-refused _ _ (sym (c .before .before .before .load-accepted .ensures) ∙ ap stateOutcomeOf (c .before .e .given .1)))
 
 returns-2 : tie.Need-returns-2
 returns-2 c =
@@ -18,8 +18,8 @@ returns-2 c =
     let start = load .before .before in
     let tape = start .args .tape .now in
     c .run-accepted .ensures
-    ∙ ap (λ (h : Header). runOutcome tape (valuesOf (c .before .before .registers .given .0 .0)) 0 (h .steps)) (header-is tape (start .args .header) (start .pre))
-    ∙ sym (forward-loaded tape (start .args .base) (sym (load .load-accepted .ensures) ∙ ap registersOutcomeOf (c .before .before .registers .given .1)))
+    ∙ ap (λ (h : Header). runOutcome tape (recordOf (c .before .before .state .given .0 .0)) (h .steps)) (header-is tape (start .args .header) (start .pre))
+    ∙ sym (forward-loaded tape (start .args .base) (sym (load .load-accepted .ensures) ∙ ap stateOutcomeOf (c .before .before .state .given .1)))
 
 pub forward-accepted-spec : {M : Type 1} → statement M
 forward-accepted-spec =

@@ -1,4 +1,4 @@
--- What an answer of a service says: its tape is accepted, each of its own rules is passed, and the registers or words are those of the
+-- What an answer of a service says: its tape is accepted, each of its own rules is passed, and the record or the words are those of the
 -- definition.
 use mathlib.Core.Path.{_≡_, refl, sym, subst}
 use mathlib.Core.Bool.{false}
@@ -19,15 +19,16 @@ use Rattle.tape.specs.Steps.{AllSound}
 use Rattle.tape.proofs.Laws.Rows.{all-steps-sound, slice-from}
 use Rattle.tape.proofs.Laws.Reading.{length-most}
 use Rattle.tape.proofs.Laws.Layout.{laid-out-long}
-use Rattle.machine.specs.Machine.{run, Residues, start}
+use Rattle.machine.specs.Machine.{Residues}
 use Rattle.machine.proofs.Laws.Steps.{residues-four}
 use Rattle.program.specs.Services.{checkRules, checkOutcome, acceptOutcome}
 use Rattle.program.specs.Door.{onTape}
 use Rattle.program.proofs.Laws.Checking.{accepted}
 use Rattle.program.proofs.Laws.Accepting.{accepted-prime}
 use Rattle.program.proofs.Laws.Door.{answered-tape, answered-own, answered-with}
-use Rattle.sequencer.specs.Services.{badRegister, badRegisters, badBase, baseRules, loadOutcome, runRules, runOutcome, cutRules, cutOutcome, cutStart, cutCount}
-use Rattle.sequencer.specs.Lists.{Request, answerTo, numbersAll}
+use Rattle.sequencer.specs.Records.{Record}
+use Rattle.sequencer.specs.Services.{badRegister, badRegisters, badBase, baseRules, startRecord, loadOutcome, runRules, recordAt, runOutcome, cutRules, cutOutcome, cutStart, cutCount}
+use Rattle.sequencer.specs.Lists.{Request, given, answerTo, recordAfter, numbersAll}
 use Rattle.sequencer.specs.Demand.{AsSaid, EachAsSaid}
 use Rattle.sequencer.proofs.Laws.Cases.{good-cut}
 
@@ -58,27 +59,27 @@ steps-sound tape = all-steps-sound (stepWordsOf tape)
 pub prime-of : (tape : List ℕ) → checkOutcome tape ≡ answered 0 → Prime (headerOf tape .modulus)
 prime-of tape e = accepted-prime tape (accepted 0 tape e)
 
-pub record Loaded (tape : List ℕ) (a : ℕ) (v : List ℕ) : Type 0 where
+pub record Loaded (tape : List ℕ) (a : ℕ) (s : Record) : Type 0 where
   pub accepted : acceptOutcome tape ≡ answered (headerOf tape)
   pub base : Residue (headerOf tape .modulus) a
   pub power : badBase (headerOf tape) a ≡ false
-  pub registers : v ≡ start a
+  pub record-is : s ≡ startRecord a
 
-pub load-answered : (tape : List ℕ) (a : ℕ) (v : List ℕ) → loadOutcome tape a ≡ answered v → Loaded tape a v
+pub load-answered : (tape : List ℕ) (a : ℕ) (s : Record) → loadOutcome tape a ≡ answered s → Loaded tape a s
 unfolding loadOutcome baseRules
-load-answered tape a v e =
-    let register = passed _ _ _ _ _ (answered-own tape _ (start a) e) in
+load-answered tape a s e =
+    let register = passed _ _ _ _ _ (answered-own tape _ (startRecord a) e) in
     record {
-      accepted = answered-tape tape _ (start a) e;
+      accepted = answered-tape tape _ (startRecord a) e;
       base = good-register _ a (register .0);
       power = passed _ _ _ _ _ (register .1) .0;
-      registers = answered-with tape _ (start a) e;
+      record-is = answered-with tape _ (startRecord a) e;
     }
 
-pub run-answered : (tape v : List ℕ) (from goal : ℕ) (w : List ℕ) → runOutcome tape v from goal ≡ answered w
-    → w ≡ run (headerOf tape .modulus) (stepsOf tape) from goal v
+pub run-answered : (tape : List ℕ) (s : Record) (goal : ℕ) {t : Record} → runOutcome tape s goal ≡ answered t
+    → t ≡ recordAt (headerOf tape) (stepsOf tape) s goal
 unfolding runOutcome
-run-answered tape v from goal w e = answered-with tape _ _ e
+run-answered tape s goal e = answered-with tape _ _ e
 
 -- what 0 beside a cut says: its words are those of the definition, and stand where `cutStart` and `cutCount` say, inside a tape of at
 -- most so many words as a tape has
@@ -125,9 +126,9 @@ module _ (tape : List ℕ) (first last : ℕ) where
   cut-not some held = (other-refused words (stepIndex tape first) held rules some, other-refused words (length words) held rules some)
 
 -- every run of every list is refused or answers as said
-as-said : (q : Request) (v : List ℕ) → AsSaid q v
+as-said : (q : Request) (s : Record) → AsSaid q s
 unfolding runOutcome onTape runRules
-as-said q v = refused-where (runRules (q .tape) v (q .from) (q .goal)) _
+as-said q s = refused-where (runRules (q .tape) (given q s) (q .goal)) _
 
 -- a row written from its first entry on, entry by entry
 sets-none : (i : ℕ) (numbers : List ℕ) → sets [] i numbers ≡ []
@@ -139,12 +140,12 @@ sets-past x row i [] = refl
 sets-past x row i (n ∷ numbers) = sets-past x (set row i n) (suc i) numbers
 
 -- with its number in its place of a row
-pub each-as-said : (qs : List Request) (v row : List ℕ) → EachAsSaid qs v (sets row 0 (numbersAll qs v))
+pub each-as-said : (qs : List Request) (s : Record) (row : List ℕ) → EachAsSaid qs s (sets row 0 (numbersAll qs s))
 unfolding EachAsSaid numbersAll
-each-as-said [] v row = tt
-each-as-said (q ∷ qs) v [] =
-    let rest = each-as-said qs (after (answerTo q v) v) [] in
-    rw (sets-none 1 (numbersAll qs (after (answerTo q v) v))) (as-said q v, rw (sets-none 0 (numbersAll qs (after (answerTo q v) v))) at rest)
-each-as-said (q ∷ qs) v (n ∷ row) =
-    rw (sets-past (refusalNumber (answerTo q v)) row 0 (numbersAll qs (after (answerTo q v) v)))
-    (as-said q v, refl, each-as-said qs (after (answerTo q v) v) row)
+each-as-said [] s row = tt
+each-as-said (q ∷ qs) s [] =
+    let rest = each-as-said qs (recordAfter q s) [] in
+    rw (sets-none 1 (numbersAll qs (recordAfter q s))) (as-said q s, rw (sets-none 0 (numbersAll qs (recordAfter q s))) at rest)
+each-as-said (q ∷ qs) s (n ∷ row) =
+    rw (sets-past (refusalNumber (answerTo q s)) row 0 (numbersAll qs (recordAfter q s)))
+    (as-said q s, refl, each-as-said qs (recordAfter q s) row)

@@ -17,10 +17,10 @@ use Rattle.machine.proofs.Laws.Lists.{getD-map}
 use Rattle.program.specs.Services.{isNamed, checkRules, checkOutcome, acceptOutcome}
 use Rattle.program.specs.Door.{onTape}
 use Rattle.program.proofs.Laws.Door.{tape-refused, tape-accepted, answered-tape, answered-own}
-use Rattle.sequencer.specs.Services.{baseRules, loadOutcome, forwardOutcome}
+use Rattle.sequencer.specs.Services.{startRecord, baseRules, loadOutcome, forwardOutcome}
 use Rattle.sequencer.specs.Bases.{maxBases, rowRules, raiseRules, raised, onRow, raiseOutcome, raisedBases}
 use Rattle.sequencer.proofs.Laws.Cases.{load-rules}
-use Rattle.sequencer.proofs.Laws.Forward.{forward-done, forward-power}
+use Rattle.sequencer.proofs.Laws.Forward.{endRecord, forward-done, forward-power}
 
 -- ---- its own rules by cases
 
@@ -85,30 +85,30 @@ row-none h x = answers x
 
 -- ---- a base that load answers
 
-pub raised-done : (tape : List ℕ) (a : ℕ) → loadOutcome tape a ≡ answered (start a) → raised tape a ≡ reg (doAll (headerOf tape .modulus) (stepsOf tape) (start a)) 1
+pub raised-done : (tape : List ℕ) (a : ℕ) → loadOutcome tape a ≡ answered (startRecord a) → raised tape a ≡ reg (doAll (headerOf tape .modulus) (stepsOf tape) (start a)) 1
 unfolding raised
-raised-done tape a load = ap (λ o. reg (after o (start a)) 1) (forward-done tape a load)
+raised-done tape a load = ap (λ o. reg (after o (startRecord a) .registers) 1) (forward-done tape a load)
 
 -- ---- a row whose bases all pass
 
 module _ (tape : List ℕ) (h : Header) (e : acceptOutcome tape ≡ answered h) where
   -- its first base is one that load answers, and the others pass
   row-first : (a : ℕ) (bases : List ℕ) {x : ℕ} → outcome (rowRules h (a ∷ bases)) 0 ≡ answered x
-      → (loadOutcome tape a ≡ answered (start a)) × (outcome (rowRules h bases) 0 ≡ answered x)
+      → (loadOutcome tape a ≡ answered (startRecord a)) × (outcome (rowRules h bases) 0 ≡ answered x)
   unfolding rowRules
   row-first a bases all =
       let parts = answered-before (baseRules h a) (rowRules h bases) 0 all in
-      (load-rules tape h e a ∙ still-answered 0 (start a) (baseRules h a) (parts .0), parts .1)
+      (load-rules tape h e a ∙ still-answered 0 (startRecord a) (baseRules h a) (parts .0), parts .1)
 
   -- so each base is one that load answers
   row-loaded : (bases : List ℕ) {x : ℕ} → outcome (rowRules h bases) 0 ≡ answered x → (j : ℕ) → j < length bases
-      → loadOutcome tape (getD bases j 0) ≡ answered (start (getD bases j 0))
+      → loadOutcome tape (getD bases j 0) ≡ answered (startRecord (getD bases j 0))
   row-loaded [] all j less = absurd (not-suc-le-zero less)
   row-loaded (a ∷ bases) all zero less = row-first a bases all .0
   row-loaded (a ∷ bases) all (suc j) less = row-loaded bases (row-first a bases all .1) j (le-of-suc-le-suc less)
 
   -- and two functions that agree on every base that load answers agree on the row
-  pub row-map : (f g : ℕ → ℕ) → ((a : ℕ) → loadOutcome tape a ≡ answered (start a) → f a ≡ g a)
+  pub row-map : (f g : ℕ → ℕ) → ((a : ℕ) → loadOutcome tape a ≡ answered (startRecord a) → f a ≡ g a)
       → (bases : List ℕ) {x : ℕ} → outcome (rowRules h bases) 0 ≡ answered x → map f bases ≡ map g bases
   row-map f g same [] all = refl
   row-map f g same (a ∷ bases) all =
@@ -135,9 +135,9 @@ module _ (tape bases : List ℕ) (e : raiseOutcome tape bases ≡ answered 0) wh
   abbrev p : ℕ
   p = headerOf tape .modulus
 
-  power-of : (a : ℕ) → loadOutcome tape a ≡ answered (start a) → raised tape a ≡ a ^ k % p
+  power-of : (a : ℕ) → loadOutcome tape a ≡ answered (startRecord a) → raised tape a ≡ a ^ k % p
   unfolding raised
-  power-of a load = ap (λ o. reg (after o (start a)) 1) (forward-power tape a load (raise-answered tape bases e .named))
+  power-of a load = ap (λ o. reg (after o (startRecord a) .registers) 1) (forward-power tape a load (raise-answered tape bases e .named))
 
   -- DOCUMENT 02, T-01. Each base is replaced by its a^k modulo p.
   pub raise-powers : raisedBases tape bases ≡ map (λ (a : ℕ). a ^ k % p) bases
@@ -146,12 +146,12 @@ module _ (tape bases : List ℕ) (e : raiseOutcome tape bases ≡ answered 0) wh
       raise-replaced tape bases e ∙ row-map tape (headerOf tape) (all .accepted) (raised tape) (λ (a : ℕ). a ^ k % p) power-of bases (all .row)
 
   -- Each base alone is loaded and run forward from end to end without a refusal, and register 1 holds then what is in its place.
-  pub raise-alone : (j : ℕ) → j < length bases → forwardOutcome tape (getD bases j 0) ≡ answered (start (getD (raisedBases tape bases) j 0))
+  pub raise-alone : (j : ℕ) → j < length bases → forwardOutcome tape (getD bases j 0) ≡ answered (endRecord tape (start (getD (raisedBases tape bases) j 0)))
   raise-alone j less =
       let all = raise-answered tape bases e in
       let a : ℕ = getD bases j 0 in
       forward-power tape a (row-loaded tape (headerOf tape) (all .accepted) bases (all .row) j less) (all .named)
-      ∙ ap (λ (x : ℕ). answered (start x)) (sym (ap (λ (l : List ℕ). getD l j 0) raise-powers ∙ getD-map _ bases j 0 0 less))
+      ∙ ap (λ (x : ℕ). answered (endRecord tape (start x))) (sym (ap (λ (l : List ℕ). getD l j 0) raise-powers ∙ getD-map _ bases j 0 0 less))
 
 -- An empty row succeeds, and remains empty.
 pub raise-empty : (tape : List ℕ) → checkOutcome tape ≡ answered 0 → isNamed (headerOf tape) ≡ true

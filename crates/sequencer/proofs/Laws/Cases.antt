@@ -1,6 +1,6 @@
 -- The tests of load, run, trace, table and cut by cases, and what is left of the five on an accepted tape: their own rules.
 use mathlib.Core.Path.{_≡_, refl, sym, ap, _∙_}
-use mathlib.Core.Bool.{true, false, not, _||_, or-true, or-false}
+use mathlib.Core.Bool.{true, false, not, _||_, or-false}
 use mathlib.Core.List.{List, [], _∷_}
 use Prim.Native.Nat.{ℕ, _≤_, _<_, _%_, _^_}
 use native.Mathlib.Omega.{arith}
@@ -18,7 +18,6 @@ use Rattle.tape.specs.Layout.{headerOf, stepIndex, stepWords, stepWordsOf, part
 use Rattle.tape.specs.Inner.Operations.{rawSteps}
 use Rattle.tape.proofs.Laws.Rows.{words-count, part-inside}
 use Rattle.tape.proofs.Laws.Layout.{laid-out-long, laid-out-rules}
-use Rattle.machine.specs.Machine.{run, start}
 use Rattle.machine.specs.Exponents.{exponentsAt}
 use Rattle.tables.specs.Tables.{tableOf}
 use Rattle.tables.specs.Inner.Columns.{columnOutcome, columnsOutcome}
@@ -26,7 +25,8 @@ use Rattle.program.specs.Services.{acceptOutcome}
 use Rattle.program.proofs.Laws.Checking.{accepted, header-is, steps-are}
 use Rattle.program.proofs.Laws.Accepting.{accepted-prime, accepted-odd}
 use Rattle.program.proofs.Laws.Door.{tape-accepted}
-use Rattle.sequencer.specs.Services.{badRegister, badRegisters, allowed, badBase, badCut, baseRules, positionRules, traceRules, cutRules, loadOutcome, runOutcome, traceOutcome, cutOutcome, cutPart}
+use Rattle.sequencer.specs.Records.{Record}
+use Rattle.sequencer.specs.Services.{badRegister, badRegisters, allowed, badBase, badCut, baseRules, startRecord, goalRules, recordAt, traceRules, cutRules, loadOutcome, runOutcome, traceOutcome, cutOutcome, cutPart}
 use Rattle.sequencer.specs.Tables.{tableRules, tableOutcome}
 use Rattle.sequencer.proofs.Laws.Positions.{part-steps, part-raw}
 
@@ -84,17 +84,6 @@ module _ (steps first last : ℕ) where
       let high = neither (ltb steps first) (ltb steps last) (low .0) in
       (ltb-false last first (low .1), ltb-false steps last (high .1))
 
--- two positions
-module _ (steps from goal : ℕ) where
-  pub past-from : steps < from → (ltb steps from || ltb steps goal) ≡ true
-  past-from h = rw (lt-ltb steps from h)
-
-  pub past-goal : steps < goal → (ltb steps from || ltb steps goal) ≡ true
-  past-goal h = rw (lt-ltb steps goal h, or-true (ltb steps from))
-
-  pub both-inside : from ≤ steps → goal ≤ steps → (ltb steps from || ltb steps goal) ≡ false
-  both-inside low high = rw (le-ltb steps from low, le-ltb steps goal high)
-
 -- what is beside a cut's part
 pub cut-refused : {o : Outcome (List ℕ)} {m n : ℕ} → o ≡ refused n → m ≡ n → ([] ≡ cutPart o) × (m ≡ refusalNumber o)
 cut-refused e f = rw e (refl, f)
@@ -126,15 +115,13 @@ module _ (tape : List ℕ) (h : Header) (e : acceptOutcome tape ≡ answered h) 
       part-raw words words-steps 0 position (omega arith) within ∙ part-steps words 0 position (omega arith) within
 
   -- their own rules are left
-  pub load-rules : (a : ℕ) → loadOutcome tape a ≡ outcome (baseRules h a) (start a)
+  pub load-rules : (a : ℕ) → loadOutcome tape a ≡ outcome (baseRules h a) (startRecord a)
   unfolding loadOutcome
-  load-rules a = tape-accepted tape h e (λ (g : Header). baseRules g a) (λ (g : Header). start a)
+  load-rules a = tape-accepted tape h e (λ (g : Header). baseRules g a) (λ (g : Header). startRecord a)
 
-  pub run-rules : (v : List ℕ) (from goal : ℕ)
-      → runOutcome tape v from goal ≡ outcome (positionRules h v from goal) (run (h .modulus) (stepsOf tape) from goal v)
+  pub run-rules : (s : Record) (goal : ℕ) → runOutcome tape s goal ≡ outcome (goalRules h s goal) (recordAt h (stepsOf tape) s goal)
   unfolding runOutcome
-  run-rules v from goal =
-      tape-accepted tape h e (λ (g : Header). positionRules g v from goal) (λ (g : Header). run (g .modulus) (stepsOf tape) from goal v)
+  run-rules s goal = tape-accepted tape h e (λ (g : Header). goalRules g s goal) (λ (g : Header). recordAt g (stepsOf tape) s goal)
 
   pub trace-rules : (position : ℕ) → traceOutcome tape position ≡ outcome (traceRules h (stepsOf tape) position) (exponentsAt (stepsOf tape) position)
   unfolding traceOutcome

@@ -1,7 +1,7 @@
 -- Demand 3, chain: the registers stay (1, a^E, 1, 1). A run end to end of a named program raises b = a^E to b^k, or undone to b^K, and
 -- b^r = 1 too, so its exponent may be reduced modulo r; a refused run changes neither registers nor E.
 use mathlib.Core.Path.{_≡_, refl, sym, ap, ap₂, subst, _∙_}
-use mathlib.Core.Logic.{⊎-elim}
+use mathlib.Core.Logic.{_⊎_, inl, inr, ⊎-elim}
 use mathlib.Core.Bool.{true, false}
 use mathlib.Core.List.{List, [], _∷_}
 use Prim.Native.Nat.{ℕ, _*_, _%_, _^_}
@@ -22,11 +22,19 @@ use Rattle.machine.specs.Machine.{run, start}
 use Rattle.machine.proofs.Laws.Steps.{residues-start}
 use Rattle.machine.proofs.Laws.Runs.{run-forward, run-backward}
 use Rattle.named.specs.Promises.{IsProgram}
+use Rattle.program.specs.Services.{checkOutcome}
 use Rattle.program.proofs.Laws.Checking.{accepted-named}
 use Rattle.program.proofs.Laws.Accepting.{accepted-program}
-use Rattle.sequencer.specs.Lists.{Request, answerTo, afterAll, numbersAll, unlessRefused, performed}
-use Rattle.sequencer.specs.Demand.{EndToEnd, AllEndToEnd, factor, exponentAfter, ChainEnds}
+use Rattle.sequencer.specs.Records.{Record}
+use Rattle.sequencer.specs.Services.{startRecord, loadOutcome}
+use Rattle.sequencer.specs.Lists.{Turn, none, to, turned, Request, given, answerTo, recordAfter, afterAll, numbersAll, CompletedRun, unlessRefused, performed}
+use Rattle.sequencer.specs.Demand.{EndToEnd, AllEndToEnd, Chain, TurnedEndToEnd, TurnedOrRefused, factor, exponentAfter, ChainEnds}
 use Rattle.sequencer.proofs.Laws.Answers.{steps-sound, prime-of, load-answered, run-answered, each-as-said}
+
+-- a turn leaves the registers
+turned-registers : (t : Turn) (s : Record) → turned t s .registers ≡ s .registers
+turned-registers none s = refl
+turned-registers (to n) s = refl
 
 module _ (p : ℕ) (pr : Prime p) (r a : ℕ) (ra : Residue p a) (ord : a ^ r % p ≡ 1) where
   -- (1, a^n, 1, 1) by n modulo r, from a power of the power of a before
@@ -34,7 +42,7 @@ module _ (p : ℕ) (pr : Prime p) (r a : ℕ) (ra : Residue p a) (ord : a ^ r % 
   reduced E n = ap start (pow-pow p a E n ∙ sym (pow-order p a r (E * n) ord))
 
   -- one run end to end, at (1, a^E, 1, 1)
-  module _ (q : Request) (end : EndToEnd p r q) (E : ℕ) where
+  module _ (q : CompletedRun) (end : EndToEnd p r q) (E : ℕ) where
     abbrev xs : List Step
     xs = stepsOf (q .tape)
 
@@ -76,30 +84,70 @@ module _ (p : ℕ) (pr : Prime p) (r a : ℕ) (ra : Residue p a) (ord : a ^ r % 
         ap (λ (n : ℕ). run n xs (q .from) (q .goal) (start b)) (end .modulus)
         ∙ ⊎-elim (λ e. forward (e .0) (e .1 ∙ goal-is)) (λ e. backward (e .0 ∙ goal-is) (e .1)) (end .ends)
 
-  from-there : (qs : List Request) (E : ℕ) (v : List ℕ) → v ≡ start (a ^ E % p) → AllEndToEnd p r (performed qs v)
-      → afterAll qs v ≡ start (a ^ exponentAfter r (performed qs v) E % p)
+  from-there : (qs : List Request) (E : ℕ) (s : Record) → s .registers ≡ start (a ^ E % p) → AllEndToEnd p r (performed qs s)
+      → afterAll qs s .registers ≡ start (a ^ exponentAfter r (performed qs s) E % p)
   unfolding afterAll performed AllEndToEnd exponentAfter
-  from-there [] E v e h = e
-  from-there (q ∷ qs) E v e h = go (answerTo q v) refl (from-there qs) h
+  from-there [] E s e h = e
+  from-there (q ∷ qs) E s e h = go (answerTo q s) refl (from-there qs) h
     where
-      go : (answer : Outcome (List ℕ)) → answerTo q v ≡ answer
-          → ((E′ : ℕ) (v′ : List ℕ) → v′ ≡ start (a ^ E′ % p) → AllEndToEnd p r (performed qs v′)
-          → afterAll qs v′ ≡ start (a ^ exponentAfter r (performed qs v′) E′ % p))
-          → AllEndToEnd p r (unlessRefused answer q (performed qs (after answer v)))
-          → afterAll qs (after answer v) ≡ start (a ^ exponentAfter r (unlessRefused answer q (performed qs (after answer v))) E % p)
-      go (refused n) was rest links = rest E v e links
-      go (answered w) was rest links =
-          rest (E * factor r q % r) w
-          (run-answered (q .tape) v (q .from) (q .goal) w was
-          ∙ ap (run (headerOf (q .tape) .modulus) (stepsOf (q .tape)) (q .from) (q .goal)) e
-          ∙ linked q (links .0) E)
+      began : given q s .registers ≡ start (a ^ E % p)
+      began = turned-registers (q .turn) s ∙ e
+
+      done : CompletedRun
+      done = record { tape = q .tape; from = given q s .position; goal = q .goal }
+
+      go : (answer : Outcome Record) → answerTo q s ≡ answer
+          → ((E′ : ℕ) (s′ : Record) → s′ .registers ≡ start (a ^ E′ % p) → AllEndToEnd p r (performed qs s′)
+          → afterAll qs s′ .registers ≡ start (a ^ exponentAfter r (performed qs s′) E′ % p))
+          → AllEndToEnd p r (unlessRefused answer done (performed qs (after answer (given q s))))
+          → afterAll qs (after answer (given q s)) .registers
+          ≡ start (a ^ exponentAfter r (unlessRefused answer done (performed qs (after answer (given q s)))) E % p)
+      go (refused n) was rest links = rest E (given q s) began links
+      go (answered t) was rest links =
+          rest (E * factor r done % r) t
+          (ap (λ (u : Record). u .registers) (run-answered (q .tape) (given q s) (q .goal) was)
+          ∙ ap (run (headerOf (q .tape) .modulus) (stepsOf (q .tape)) (given q s .position) (q .goal)) began
+          ∙ linked done (links .0) E)
           (links .1)
 
-pub chain-ends : (qs : List Request) (v row : List ℕ) → ChainEnds qs v (sets row 0 (numbersAll qs v)) (afterAll qs v)
-chain-ends qs v row p r a c =
+pub chain-ends : (qs : List Request) (s : Record) (row : List ℕ) → ChainEnds qs s (sets row 0 (numbersAll qs s)) (afterAll qs s)
+chain-ends qs s row p r a c =
     let pr : Prime p = subst Prime (c .modulus) (prime-of (c .tape) (c .accepted)) in
-    let load = load-answered (c .tape) a v (c .loaded) in
+    let load = load-answered (c .tape) a (startRecord a) (c .loaded) in
     let ra : Residue p a = subst (λ (n : ℕ). Residue n a) (c .modulus) (load .base) in (
-      each-as-said qs v row,
-      from-there p pr r a ra (c .power) qs 1 v (load .registers ∙ ap start (sym (power-one p pr a ra))) (c .links),
+      each-as-said qs s row,
+      from-there p pr r a ra (c .power) qs 1 s (c .registers ∙ ap start (sym (power-one p pr a ra))) (c .links),
     )
+
+-- ---- document 02's own words
+
+-- runs that are refused or have a turn before them, to 0 for a forward run and to the step count for a backward one, are links of a chain
+turned-links : (p r : ℕ) (qs : List Request) (s : Record) → TurnedOrRefused p r qs s → AllEndToEnd p r (performed qs s)
+unfolding performed TurnedOrRefused AllEndToEnd
+turned-links p r [] s all = tt
+turned-links p r (q ∷ qs) s all = go (answerTo q s) refl (turned-links p r qs (recordAfter q s) (all .1)) (all .0)
+  where
+    begun : ℕ → CompletedRun
+    begun i = record { tape = q .tape; from = i; goal = q .goal }
+
+    go : (answer : Outcome Record) → answerTo q s ≡ answer → AllEndToEnd p r (performed qs (after answer (given q s)))
+        → ((n : ℕ) × (answer ≡ refused n)) ⊎ TurnedEndToEnd p r q
+        → AllEndToEnd p r (unlessRefused answer (begun (given q s .position)) (performed qs (after answer (given q s))))
+    go (refused n) e rest either = rest
+    go (answered t) e rest (inl refusal) = let z : _≡_ {A = ℕ} 0 1 = cc in absurd (omega arith)
+    go (answered t) e rest (inr turn) =
+        (subst (λ (i : ℕ). EndToEnd p r (begun i)) (sym (ap (λ (u : Turn). turned u s .position) (turn .1 .0))) (turn .1 .1), rest)
+
+-- so a list of such runs, from what load answered on an accepted program of that p, with a^r = 1 modulo p, is a chain
+pub turned-chain : (p r a : ℕ) (qs : List Request) (tape : List ℕ) → checkOutcome tape ≡ answered 0 → headerOf tape .modulus ≡ p
+    → loadOutcome tape a ≡ answered (startRecord a) → a ^ r % p ≡ 1 → TurnedOrRefused p r qs (startRecord a) → Chain p r a qs (startRecord a)
+turned-chain p r a qs tape accepted modulus loaded power turned =
+    record {
+      tape = tape;
+      accepted = accepted;
+      modulus = modulus;
+      loaded = loaded;
+      registers = refl;
+      power = power;
+      links = turned-links p r qs (startRecord a) turned;
+    }

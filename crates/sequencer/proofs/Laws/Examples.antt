@@ -1,7 +1,8 @@
--- Chains and rewinds exist: for each a list of runs, forward, backward and refused, computed from the definitions. And rows of bases, what
--- is answered and what they are afterwards.
+-- Chains and rewinds exist: for each a list of runs, forward, backward and refused, computed from the definitions. Steps and sessions, what
+-- they come to. And rows of bases, what is answered and what they are afterwards.
 use mathlib.Core.Path.{_≡_, refl}
 use mathlib.Core.Logic.{inl, inr}
+use mathlib.Core.Bool.{true, false}
 use mathlib.Core.List.{List, [], _∷_, _++_}
 use Prim.Native.Nat.{ℕ, _≤_, _<_}
 use native.Mathlib.Omega.{arith}
@@ -16,19 +17,22 @@ use Rattle.fibonacci.specs.Forms.{pad, greedy, zeckendorf}
 use Rattle.fibonacci.specs.Height.{reaches, firstFrom, height, oddHeight}
 use Rattle.tape.specs.declared.Step.the-variants.{Mul, Div, Swp}
 use Rattle.tape.specs.Words.{headingIn, actionIn, swapIn, decoded, stepWord, encoded}
-use Rattle.tape.specs.Layout.{headerOf, part, isLength, isHeader, isFreeOrNamed, allSteps, isEnd, laidOut, programWords}
-use Rattle.machine.specs.Machine.{apply, inverseStep, doAll, undoAll, run, inverted, start}
+use Rattle.tape.specs.Layout.{part, isLength, isHeader, isFreeOrNamed, allSteps, isEnd, laidOut, programWords}
+use Rattle.machine.specs.Machine.{apply, inverseStep, doAll, undoAll, run, inverted}
 use Rattle.machine.proofs.Laws.Steps.{residues-four}
 use Rattle.named.specs.Generators.{ascend, descend, basic, dual, hybrid, drawn}
 use Rattle.named.specs.Named.{basicForms, dualForms, hybridForms, formsIn, namedSteps, namedWords}
 use Rattle.named.specs.Members.{sameStep, sameSteps, isOneOf}
 use Rattle.named.specs.Parameters.{badModulus, badOrder}
-use Rattle.program.specs.Services.{checkRules, checkOutcome}
+use Rattle.program.specs.Services.{checkRules}
 use Rattle.program.specs.Door.{onTape}
-use Rattle.sequencer.specs.Services.{badRegister, badRegisters, allowed, badBase, baseRules, positionRules, loadOutcome, runOutcome, forwardOutcome}
+use Rattle.sequencer.specs.Records.{Record}
+use Rattle.sequencer.specs.Services.{badRegister, badRegisters, allowed, badBase, baseRules, startRecord, recordRules, goalRules, loadOutcome, runOutcome, forwardOutcome}
+use Rattle.sequencer.specs.Sessions.{neighbour, pastEnd, stepRules, stepOutcome, openOutcome, sessionOutcome}
 use Rattle.sequencer.specs.Bases.{rowRules, raiseRules, raised, onRow, raiseOutcome, raisedBases}
-use Rattle.sequencer.specs.Lists.{Request, afterAll, numbersAll, performed, requestsOf}
-use Rattle.sequencer.specs.Demand.{AllEndToEnd, Chain, Returns, Rewind}
+use Rattle.sequencer.specs.Lists.{none, to, Request, afterAll, numbersAll, performed, requestsOf}
+use Rattle.sequencer.specs.Demand.{AllEndToEnd, TurnedOrRefused, Chain, NoTurns, Returns, Rewind}
+use Rattle.sequencer.proofs.Laws.Chains.{turned-chain}
 
 -- ---- a chain: p = 11, r = 5, k = 2, a = 4; the inverse of k is 3
 
@@ -45,46 +49,57 @@ figure-6 = namedWords 11 5 2 3
 abbrev pub another-p : List ℕ
 another-p = namedWords 3 2 1 1
 
--- forward by Figure 2; refused, an empty tape; backward by Figure 4; refused, a position above the 23 steps; backward by Figure 2;
--- refused, another p; backward by Figure 6
+-- backward by Figure 2, the first run after loading; forward by Figure 2, twice; refused without a turn, an empty tape; backward by
+-- Figure 4; refused behind a turn, a goal above the 23 steps; refused, another p; backward by Figure 6
 abbrev pub chained : List Request
 chained =
-    record { tape = figure-2; from = 0; goal = 23 }
-    ∷ record { tape = []; from = 0; goal = 0 }
-    ∷ record { tape = figure-4; from = 21; goal = 0 }
-    ∷ record { tape = figure-2; from = 0; goal = 24 }
-    ∷ record { tape = figure-2; from = 23; goal = 0 }
-    ∷ record { tape = another-p; from = 0; goal = 11 }
-    ∷ record { tape = figure-6; from = 28; goal = 0 }
+    record { tape = figure-2; turn = to 23; goal = 0 }
+    ∷ record { tape = figure-2; turn = to 0; goal = 23 }
+    ∷ record { tape = figure-2; turn = to 0; goal = 23 }
+    ∷ record { tape = []; turn = none; goal = 0 }
+    ∷ record { tape = figure-4; turn = to 21; goal = 0 }
+    ∷ record { tape = figure-2; turn = to 5; goal = 24 }
+    ∷ record { tape = another-p; turn = none; goal = 11 }
+    ∷ record { tape = figure-6; turn = to 28; goal = 0 }
     ∷ []
 
 -- as words: the four tapes stand one behind another
 pub chain-words : requestsOf (figure-2 ++ figure-4 ++ another-p ++ figure-6)
-    (0 ∷ 28 ∷ 0 ∷ 23
+    (0 ∷ 28 ∷ 24 ∷ 0
+    ∷ 0 ∷ 28 ∷ 1 ∷ 23
+    ∷ 0 ∷ 28 ∷ 1 ∷ 23
     ∷ 0 ∷ 0 ∷ 0 ∷ 0
-    ∷ 28 ∷ 54 ∷ 21 ∷ 0
-    ∷ 0 ∷ 28 ∷ 0 ∷ 24
-    ∷ 0 ∷ 28 ∷ 23 ∷ 0
+    ∷ 28 ∷ 54 ∷ 22 ∷ 0
+    ∷ 0 ∷ 28 ∷ 6 ∷ 24
     ∷ 54 ∷ 70 ∷ 0 ∷ 11
-    ∷ 70 ∷ 103 ∷ 28 ∷ 0 ∷ []) ≡ chained
+    ∷ 70 ∷ 103 ∷ 29 ∷ 0 ∷ []) ≡ chained
 unfolding requestsOf part programWords encoded stepWord namedSteps formsIn basicForms dualForms hybridForms drawn basic dual hybrid ascend descend inverted inverseStep pad zeckendorf greedy height oddHeight firstFrom reaches lucas fib inverse greatest
 chain-words = refl
 
--- E is 2 × 3 × 3 × 3 modulo 5, and 4^4 is 3 modulo 11
-pub chain-runs : AllEndToEnd 11 5 (performed chained (start 4))
-    × (afterAll chained (start 4) ≡ start 3)
-    × (numbersAll chained (start 4) ≡ 0 ∷ 6 ∷ 0 ∷ 10 ∷ 0 ∷ 9 ∷ 0 ∷ [])
-unfolding afterAll programWords encoded stepWord namedSteps formsIn basicForms dualForms hybridForms drawn basic dual hybrid ascend descend inverted inverseStep pad zeckendorf greedy height oddHeight firstFrom reaches lucas fib inverse greatest decoded headingIn actionIn swapIn outcome checkRules isLength isHeader isFreeOrNamed allSteps isEnd laidOut badModulus isPrime badOrder badExponent gcd isOneOf sameSteps sameStep badRegister badRegisters onTape positionRules runOutcome run doAll undoAll apply times remainder performed numbersAll AllEndToEnd
+-- E is 3 × 2 × 2 × 3 × 3 modulo 5, and 4^3 is 9 modulo 11
+pub chain-runs : TurnedOrRefused 11 5 chained (startRecord 4)
+    × (afterAll chained (startRecord 4) ≡ startRecord 9)
+    × (numbersAll chained (startRecord 4) ≡ 0 ∷ 0 ∷ 0 ∷ 6 ∷ 0 ∷ 10 ∷ 9 ∷ 0 ∷ [])
+unfolding afterAll programWords encoded stepWord namedSteps formsIn basicForms dualForms hybridForms drawn basic dual hybrid ascend descend inverted inverseStep pad zeckendorf greedy height oddHeight firstFrom reaches lucas fib inverse greatest decoded headingIn actionIn swapIn outcome checkRules isLength isHeader isFreeOrNamed allSteps isEnd laidOut badModulus isPrime badOrder badExponent gcd isOneOf sameSteps sameStep badRegister badRegisters onTape recordRules goalRules runOutcome run doAll undoAll apply times remainder numbersAll TurnedOrRefused
 chain-runs = (
   (
-    record { accepted = refl; named = refl; modulus = refl; order = refl; ends = inl (refl, refl) },
+    inr (23, (refl, record { accepted = refl; named = refl; modulus = refl; order = refl; ends = inr (refl, refl) })),
     (
-      record { accepted = refl; named = refl; modulus = refl; order = refl; ends = inr (refl, refl) },
+      inr (0, (refl, record { accepted = refl; named = refl; modulus = refl; order = refl; ends = inl (refl, refl) })),
       (
-        record { accepted = refl; named = refl; modulus = refl; order = refl; ends = inr (refl, refl) },
+        inr (0, (refl, record { accepted = refl; named = refl; modulus = refl; order = refl; ends = inl (refl, refl) })),
         (
-          record { accepted = refl; named = refl; modulus = refl; order = refl; ends = inr (refl, refl) },
-          tt,
+          inl (6, refl),
+          (
+            inr (21, (refl, record { accepted = refl; named = refl; modulus = refl; order = refl; ends = inr (refl, refl) })),
+            (
+              inl (10, refl),
+              (
+                inl (9, refl),
+                (inr (28, (refl, record { accepted = refl; named = refl; modulus = refl; order = refl; ends = inr (refl, refl) })), tt),
+              ),
+            ),
+          ),
         ),
       ),
     ),
@@ -100,22 +115,37 @@ another-r = namedWords 11 10 3 1
 abbrev pub by-hand-11 : List ℕ
 by-hand-11 = programWords (record { variant = 0; modulus = 11; order = 0; exponent = 0; steps = Mul 2 1 ∷ [] })
 
-chain-from : (tape : List ℕ) → checkOutcome tape ≡ answered 0 → headerOf tape .modulus ≡ 11 → loadOutcome tape 4 ≡ answered (start 4)
-    → Chain 11 5 4 chained (start 4)
-chain-from tape accepted modulus loaded =
-    record { tape = tape; accepted = accepted; modulus = modulus; loaded = loaded; power = refl; links = chain-runs .0 }
-
-pub chain-exists : Chain 11 5 4 chained (start 4)
+pub chain-exists : Chain 11 5 4 chained (startRecord 4)
 unfolding programWords encoded stepWord namedSteps formsIn basicForms dualForms drawn basic dual ascend inverted inverseStep pad zeckendorf greedy height firstFrom reaches lucas fib inverse greatest decoded headingIn actionIn swapIn outcome checkRules isLength isHeader isFreeOrNamed allSteps isEnd laidOut badModulus isPrime badOrder badExponent gcd isOneOf sameSteps sameStep badRegister allowed badBase onTape baseRules loadOutcome
-chain-exists = chain-from figure-4 refl refl refl
+chain-exists = turned-chain 11 5 4 chained figure-4 refl refl refl refl (chain-runs .0)
 
-pub chain-from-another-r : Chain 11 5 4 chained (start 4)
+pub chain-from-another-r : Chain 11 5 4 chained (startRecord 4)
 unfolding programWords encoded stepWord namedSteps formsIn basicForms dualForms drawn basic dual ascend inverted inverseStep pad zeckendorf greedy height firstFrom reaches lucas fib inverse greatest decoded headingIn actionIn swapIn outcome checkRules isLength isHeader isFreeOrNamed allSteps isEnd laidOut badModulus isPrime badOrder badExponent gcd isOneOf sameSteps sameStep badRegister allowed badBase onTape baseRules loadOutcome
-chain-from-another-r = chain-from another-r refl refl refl
+chain-from-another-r = turned-chain 11 5 4 chained another-r refl refl refl refl (chain-runs .0)
 
-pub chain-from-by-hand : Chain 11 5 4 chained (start 4)
+pub chain-from-by-hand : Chain 11 5 4 chained (startRecord 4)
 unfolding programWords encoded stepWord namedSteps formsIn basicForms dualForms drawn basic dual ascend inverted inverseStep pad zeckendorf greedy height firstFrom reaches lucas fib inverse greatest decoded headingIn actionIn swapIn outcome checkRules isLength isHeader isFreeOrNamed allSteps isEnd laidOut badModulus isPrime badOrder badExponent gcd isOneOf sameSteps sameStep badRegister allowed badBase onTape baseRules loadOutcome
-chain-from-by-hand = chain-from by-hand-11 refl refl refl
+chain-from-by-hand = turned-chain 11 5 4 chained by-hand-11 refl refl refl refl (chain-runs .0)
+
+-- a chain without turns: from position 0, where load put it, there and back; E is 2 × 3 modulo 5
+abbrev pub there-and-back : List Request
+there-and-back = record { tape = figure-2; turn = none; goal = 23 } ∷ record { tape = figure-2; turn = none; goal = 0 } ∷ []
+
+pub chain-without-turns : Chain 11 5 4 there-and-back (startRecord 4)
+unfolding programWords encoded stepWord namedSteps formsIn basicForms dualForms hybridForms drawn basic dual hybrid ascend descend inverted inverseStep pad zeckendorf greedy height oddHeight firstFrom reaches lucas fib inverse greatest decoded headingIn actionIn swapIn outcome checkRules isLength isHeader isFreeOrNamed allSteps isEnd laidOut badModulus isPrime badOrder badExponent gcd isOneOf sameSteps sameStep badRegister badRegisters onTape recordRules goalRules runOutcome run doAll undoAll apply times remainder performed AllEndToEnd badBase allowed baseRules loadOutcome
+chain-without-turns =
+    record {
+      tape = figure-2;
+      accepted = refl;
+      modulus = refl;
+      loaded = refl;
+      registers = refl;
+      power = refl;
+      links = (
+        record { accepted = refl; named = refl; modulus = refl; order = refl; ends = inl (refl, refl) },
+        (record { accepted = refl; named = refl; modulus = refl; order = refl; ends = inr (refl, refl) }, tt),
+      );
+    }
 
 -- ---- a rewind: a hand-made program of three steps, from position 1 and registers (2, 3, 4, 5)
 
@@ -125,24 +155,47 @@ by-hand = programWords (record { variant = 0; modulus = 7; order = 0; exponent =
 -- forward to the end; refused, another program whose p is below the registers; backward to the start; and to position 1 again
 abbrev pub rewound : List Request
 rewound =
-    record { tape = by-hand; from = 1; goal = 3 }
-    ∷ record { tape = another-p; from = 0; goal = 11 }
-    ∷ record { tape = by-hand; from = 3; goal = 0 }
-    ∷ record { tape = by-hand; from = 0; goal = 1 }
+    record { tape = by-hand; turn = none; goal = 3 }
+    ∷ record { tape = another-p; turn = none; goal = 11 }
+    ∷ record { tape = by-hand; turn = none; goal = 0 }
+    ∷ record { tape = by-hand; turn = none; goal = 1 }
     ∷ []
 
 below : (x : ℕ) → 1 ≤ x → x < 7 → Residue 7 x
 below x low high = record { low = low; high = high }
 
-pub rewind-exists : Rewind by-hand 1 rewound (2 ∷ 3 ∷ 4 ∷ 5 ∷ [])
-unfolding programWords encoded stepWord namedSteps formsIn basicForms drawn basic ascend inverted inverseStep pad zeckendorf greedy fib inverse greatest decoded headingIn actionIn swapIn outcome checkRules isLength isHeader isFreeOrNamed allSteps isEnd laidOut badModulus isPrime badOrder badExponent gcd isOneOf sameSteps sameStep badRegister badRegisters onTape positionRules runOutcome run doAll undoAll apply times remainder performed Returns
+pub rewind-exists : Rewind by-hand rewound (record { registers = 2 ∷ 3 ∷ 4 ∷ 5 ∷ []; position = 1 })
+unfolding programWords encoded stepWord namedSteps formsIn basicForms drawn basic ascend inverted inverseStep pad zeckendorf greedy fib inverse greatest decoded headingIn actionIn swapIn outcome checkRules isLength isHeader isFreeOrNamed allSteps isEnd laidOut badModulus isPrime badOrder badExponent gcd isOneOf sameSteps sameStep badRegister badRegisters onTape recordRules goalRules runOutcome run doAll undoAll apply times remainder performed NoTurns Returns
 rewind-exists =
     record {
       accepted = refl;
       position = omega arith;
       registers = residues-four 7 2 3 4 5 (below 2 (omega arith) (omega arith)) (below 3 (omega arith) (omega arith)) (below 4 (omega arith) (omega arith)) (below 5 (omega arith) (omega arith));
-      returns = (refl, refl, (refl, refl, (refl, refl, refl)));
+      no-turns = (refl, (refl, (refl, (refl, tt))));
+      returns = (refl, (refl, (refl, refl)));
     }
+
+-- ---- sessions on that program
+
+-- a record of p = 7: the first step changes register 2, the second exchanges 0 and 2, the third changes 3
+abbrev at : ℕ → ℕ → ℕ → ℕ → Record
+at c e f position = record { registers = c ∷ 3 ∷ e ∷ f ∷ []; position = position }
+
+-- In order: a step forward, and backward; past the start, and past the end; from above the step count, either way; a register that is 0
+-- comes before a position; a session that is opened at the step count, and one inside, go back; one that is refused, whose step gets 6.
+pub sessions-step : (stepOutcome by-hand (at 2 4 5 0) false ≡ answered (at 2 5 5 1))
+    × (stepOutcome by-hand (at 5 2 5 2) true ≡ answered (at 2 5 5 1))
+    × (stepOutcome by-hand (at 2 4 5 0) true ≡ refused 10)
+    × (stepOutcome by-hand (at 5 2 4 3) false ≡ refused 10)
+    × (stepOutcome by-hand (at 5 2 4 4) true ≡ refused 10)
+    × (stepOutcome by-hand (at 5 2 4 4) false ≡ refused 10)
+    × (stepOutcome by-hand (at 0 2 4 4) false ≡ refused 9)
+    × (sessionOutcome by-hand (at 5 2 4 3) true ≡ answered (at 5 2 5 2))
+    × (sessionOutcome by-hand (at 5 2 5 2) true ≡ answered (at 2 5 5 1))
+    × (openOutcome by-hand (at 5 2 4 4) ≡ refused 10)
+    × (sessionOutcome by-hand (at 5 2 4 4) true ≡ refused 6)
+unfolding programWords encoded stepWord decoded headingIn actionIn swapIn outcome checkRules isLength isHeader isFreeOrNamed allSteps isEnd laidOut badModulus isPrime greatest badRegister badRegisters onTape recordRules goalRules run doAll undoAll apply inverseStep times remainder inverse neighbour pastEnd stepRules stepOutcome openOutcome sessionOutcome
+sessions-step = (refl, refl, refl, refl, refl, refl, refl, refl, refl, refl, refl)
 
 -- ---- rows of bases
 
@@ -169,7 +222,7 @@ pub rows-raised : Raises figure-2 (4 ∷ 3 ∷ 5 ∷ 9 ∷ []) (answered 0) (5 �
     × Raises by-hand many (refused 4) many
     × Raises by-hand [] (refused 4) []
     × Raises [] many (refused 6) many
-unfolding programWords encoded stepWord namedSteps formsIn basicForms dualForms hybridForms drawn basic dual hybrid ascend descend inverted inverseStep pad zeckendorf greedy height oddHeight firstFrom reaches lucas fib inverse greatest decoded headingIn actionIn swapIn outcome checkRules isLength isHeader isFreeOrNamed allSteps isEnd laidOut badModulus isPrime badOrder badExponent gcd isOneOf sameSteps sameStep badRegister badRegisters allowed badBase onTape baseRules positionRules loadOutcome runOutcome forwardOutcome run doAll undoAll apply times remainder rowRules raiseRules raised onRow raiseOutcome raisedBases
+unfolding programWords encoded stepWord namedSteps formsIn basicForms dualForms hybridForms drawn basic dual hybrid ascend descend inverted inverseStep pad zeckendorf greedy height oddHeight firstFrom reaches lucas fib inverse greatest decoded headingIn actionIn swapIn outcome checkRules isLength isHeader isFreeOrNamed allSteps isEnd laidOut badModulus isPrime badOrder badExponent gcd isOneOf sameSteps sameStep badRegister badRegisters allowed badBase onTape baseRules recordRules goalRules loadOutcome runOutcome forwardOutcome run doAll undoAll apply times remainder rowRules raiseRules raised onRow raiseOutcome raisedBases
 rows-raised = (
   (refl, refl),
   (refl, refl),

@@ -5,7 +5,7 @@ use mathlib.Core.Bool.{true, false}
 use mathlib.Core.List.{List}
 use Prim.Native.Nat.{ℕ, _%_, _^_}
 use native.Mathlib.Omega.{arith}
-use borrow.Author.Tests.{lt-leb, ne-eqb, eqb-true, eqb-false, not-true, not-false}
+use borrow.Author.Tests.{le-ltb, lt-leb, ne-eqb, eqb-true, eqb-false, not-true, not-false}
 use Rattle.refusal.specs.Outcomes.{refused, answered, passes, answers}
 use Rattle.modular.specs.Primes.{Prime}
 use Rattle.modular.specs.Residues.{Residue}
@@ -18,8 +18,9 @@ use Rattle.machine.proofs.Laws.Runs.{run-forward}
 use Rattle.program.specs.Services.{isNamed}
 use Rattle.program.proofs.Laws.Checking.{accepted-named}
 use Rattle.program.proofs.Laws.Accepting.{accepted-program}
-use Rattle.sequencer.specs.Services.{badRegister, badRegisters, positionRules, loadOutcome, runOutcome, forwardOutcome}
-use Rattle.sequencer.proofs.Laws.Cases.{modulus-prime, base-named, registers-others, registers-last, both-inside, run-rules}
+use Rattle.sequencer.specs.Records.{Record}
+use Rattle.sequencer.specs.Services.{badRegister, badRegisters, startRecord, recordRules, goalRules, loadOutcome, runOutcome, forwardOutcome}
+use Rattle.sequencer.proofs.Laws.Cases.{modulus-prime, base-named, registers-others, registers-last, run-rules}
 use Rattle.sequencer.proofs.Laws.Answers.{steps-sound, load-answered}
 
 -- ---- the two outcomes of load
@@ -29,7 +30,7 @@ module _ (tape : List ℕ) (a : ℕ) where
   unfolding forwardOutcome
   forward-refused e = rw e
 
-  pub forward-loaded : {v : List ℕ} → loadOutcome tape a ≡ answered v → forwardOutcome tape a ≡ runOutcome tape v 0 (headerOf tape .steps)
+  pub forward-loaded : {s : Record} → loadOutcome tape a ≡ answered s → forwardOutcome tape a ≡ runOutcome tape s (headerOf tape .steps)
   unfolding forwardOutcome
   forward-loaded e = rw e
 
@@ -44,36 +45,43 @@ start-residues p pr a r =
     let one = residue-good p 1 (residue-one p pr) in
     registers-others p 1 _ one ∙ registers-others p a _ (residue-good p a r) ∙ registers-others p 1 _ one ∙ registers-last p 1 ∙ one
 
-module _ (tape : List ℕ) (a : ℕ) {v : List ℕ} (e : loadOutcome tape a ≡ answered v) where
-  pub forward-answered : forwardOutcome tape a ≡ answered (run (headerOf tape .modulus) (stepsOf tape) 0 (headerOf tape .steps) (start a))
-  unfolding positionRules
+-- the record at a program's end
+abbrev pub endRecord : List ℕ → List ℕ → Record
+endRecord tape v = record { registers = v; position = headerOf tape .steps }
+
+module _ (tape : List ℕ) (a : ℕ) {s : Record} (e : loadOutcome tape a ≡ answered s) where
+  pub forward-answered : forwardOutcome tape a ≡ answered (endRecord tape (run (headerOf tape .modulus) (stepsOf tape) 0 (headerOf tape .steps) (start a)))
+  unfolding recordRules goalRules
   forward-answered =
-      let load = load-answered tape a v e in
+      let load = load-answered tape a s e in
       let pr = modulus-prime tape (headerOf tape) (load .accepted) in
       forward-loaded tape a e
-      ∙ ap (λ (w : List ℕ). runOutcome tape w 0 (headerOf tape .steps)) (load .registers)
-      ∙ run-rules tape (headerOf tape) (load .accepted) (start a) 0 (headerOf tape .steps)
+      ∙ ap (λ (t : Record). runOutcome tape t (headerOf tape .steps)) (load .record-is)
+      ∙ run-rules tape (headerOf tape) (load .accepted) (startRecord a) (headerOf tape .steps)
       ∙ passes _ _ _ (start-residues _ pr a (load .base))
-      ∙ passes _ _ _ (both-inside (headerOf tape .steps) 0 _ (omega arith) (omega arith))
+      ∙ passes _ _ _ (le-ltb (headerOf tape .steps) 0 (omega arith))
+      ∙ passes _ _ _ (le-ltb (headerOf tape .steps) (headerOf tape .steps) (omega arith))
       ∙ answers _
 
   -- all its steps are done
-  pub forward-done : forwardOutcome tape a ≡ answered (doAll (headerOf tape .modulus) (stepsOf tape) (start a))
+  pub forward-done : forwardOutcome tape a ≡ answered (endRecord tape (doAll (headerOf tape .modulus) (stepsOf tape) (start a)))
   forward-done =
       let h = headerOf tape in
-      let load = load-answered tape a v e in
+      let load = load-answered tape a s e in
       let pr = modulus-prime tape h (load .accepted) in
       forward-answered
-      ∙ ap answered
+      ∙ ap (λ (v : List ℕ). answered (endRecord tape v))
       (ap (λ (n : ℕ). run (h .modulus) (stepsOf tape) 0 n (start a)) (sym (steps-count tape))
       ∙ run-forward (h .modulus) pr (stepsOf tape) (steps-sound tape) (start a) (residues-start (h .modulus) pr a (load .base)))
 
   -- of a named program, (1, a^k, 1, 1)
-  pub forward-power : isNamed (headerOf tape) ≡ true → forwardOutcome tape a ≡ answered (start (a ^ (headerOf tape .exponent) % headerOf tape .modulus))
+  pub forward-power : isNamed (headerOf tape) ≡ true
+      → forwardOutcome tape a ≡ answered (endRecord tape (start (a ^ (headerOf tape .exponent) % headerOf tape .modulus)))
   forward-power is =
       let h = headerOf tape in
-      let load = load-answered tape a v e in
+      let load = load-answered tape a s e in
       let some = eqb-false (h .variant) 0 (not-true _ is) in
       let power = eqb-true _ 1 (not-false _ (sym (base-named h a some) ∙ load .power)) in
       forward-done
-      ∙ ap answered (accepted-program tape (accepted-named h tape (load .accepted) some) .raises (h .modulus) (modulus-prime tape h (load .accepted)) a (load .base) power)
+      ∙ ap (λ (v : List ℕ). answered (endRecord tape v))
+      (accepted-program tape (accepted-named h tape (load .accepted) some) .raises (h .modulus) (modulus-prime tape h (load .accepted)) a (load .base) power)

@@ -6,11 +6,11 @@ use Prim.Native.Nat.{ℕ, suc, _+_, _-_, _^_, _≤_, _<_}
 use native.Mathlib.Omega.{arith}
 use lib.ListN.{length, getD, set, drop, length-drop, length-append}
 use lib.Seq.{sets, drop-cons, take-at, drop-at}
-use Rattle.refusal.specs.Outcomes.{Outcome, refusalNumber, after}
+use Rattle.refusal.specs.Outcomes.{refusalNumber}
 use Rattle.tape.specs.Layout.{part}
 use Rattle.tape.proofs.Laws.Rows.{part-inside}
-use Rattle.sequencer.specs.Services.{runOutcome}
-use Rattle.sequencer.specs.Lists.{Request, afterAll, numbersAll, requestsOf, AllBelow, EncodedRequests, tapesOf, PositionsFit}
+use Rattle.sequencer.specs.Records.{Record}
+use Rattle.sequencer.specs.Lists.{Turn, none, to, Request, answerTo, recordAfter, afterAll, numbersAll, turnOf, requestsOf, AllBelow, EncodedRequests, tapesOf, turnWord, PositionsFit}
 
 fewer : (row words : List ℕ) → length words < 4 → requestsOf row words ≡ []
 unfolding requestsOf
@@ -38,46 +38,43 @@ module _ (row words : List ℕ) (i : ℕ) where
       cc (a, b, c, d, two, three, four)
 
   -- what all runs leave, and their numbers, is what those past the next make of what that one leaves
-  module _ (v w : List ℕ) (tape : List ℕ) (h : i + 4 ≤ length words) (is : tape ≡ part row (getD words i 0) (getD words (i + 1) 0)) where
-    abbrev answer : Outcome (List ℕ)
-    answer = runOutcome tape v (getD words (i + 2) 0) (getD words (i + 3) 0)
+  module _ (s t : Record) (h : i + 4 ≤ length words) where
+    abbrev request : Request
+    request = record { tape = part row (getD words i 0) (getD words (i + 1) 0); turn = turnOf (getD words (i + 2) 0); goal = getD words (i + 3) 0 }
 
-    first : requestsOf row (drop i words)
-        ≡ record { tape = tape; from = getD words (i + 2) 0; goal = getD words (i + 3) 0 } ∷ requestsOf row (drop (i + 4) words)
+    first : requestsOf row (drop i words) ≡ request ∷ requestsOf row (drop (i + 4) words)
     unfolding requestsOf
-    first =
-        ap (requestsOf row) (four-words h)
-        ∙ ap (λ (t : List ℕ). record { tape = t; from = getD words (i + 2) 0; goal = getD words (i + 3) 0 } ∷ requestsOf row (drop (i + 4) words)) (sym is)
+    first = ap (requestsOf row) (four-words h)
 
-    pub after-next : w ≡ after answer v → afterAll (requestsOf row (drop (i + 4) words)) w ≡ afterAll (requestsOf row (drop i words)) v
+    pub after-next : t ≡ recordAfter request s → afterAll (requestsOf row (drop (i + 4) words)) t ≡ afterAll (requestsOf row (drop i words)) s
     unfolding afterAll
-    after-next this = ap (afterAll (requestsOf row (drop (i + 4) words))) this ∙ sym (ap (λ (qs : List Request). afterAll qs v) first)
+    after-next this = ap (afterAll (requestsOf row (drop (i + 4) words))) this ∙ sym (ap (λ (qs : List Request). afterAll qs s) first)
 
-    pub numbers-next : (numbers numbers′ : List ℕ) (n : ℕ) → w ≡ after answer v → numbers′ ≡ set numbers n (refusalNumber answer)
-        → sets numbers′ (n + 1) (numbersAll (requestsOf row (drop (i + 4) words)) w) ≡ sets numbers n (numbersAll (requestsOf row (drop i words)) v)
+    pub numbers-next : (numbers numbers′ : List ℕ) (n : ℕ) → t ≡ recordAfter request s → numbers′ ≡ set numbers n (refusalNumber (answerTo request s))
+        → sets numbers′ (n + 1) (numbersAll (requestsOf row (drop (i + 4) words)) t) ≡ sets numbers n (numbersAll (requestsOf row (drop i words)) s)
     unfolding numbersAll
     numbers-next numbers numbers′ n this noted =
         let next : n + 1 ≡ suc n = omega arith in
-        rw (this, noted, next) (sym (ap (λ (qs : List Request). sets numbers n (numbersAll qs v)) first))
+        rw (this, noted, next) (sym (ap (λ (qs : List Request). sets numbers n (numbersAll qs s)) first))
 
-  module _ (v : List ℕ) (h : length words - i < 4) where
-    none : requestsOf row (drop i words) ≡ []
-    none = fewer row (drop i words) (omega (arith, length-drop i words))
+  module _ (s : Record) (h : length words - i < 4) where
+    no-more : requestsOf row (drop i words) ≡ []
+    no-more = fewer row (drop i words) (omega (arith, length-drop i words))
 
-    pub after-last : afterAll (requestsOf row (drop i words)) v ≡ v
+    pub after-last : afterAll (requestsOf row (drop i words)) s ≡ s
     unfolding afterAll
-    after-last = ap (λ (qs : List Request). afterAll qs v) none
+    after-last = ap (λ (qs : List Request). afterAll qs s) no-more
 
-    pub numbers-last : (numbers : List ℕ) (n : ℕ) → sets numbers n (numbersAll (requestsOf row (drop i words)) v) ≡ numbers
+    pub numbers-last : (numbers : List ℕ) (n : ℕ) → sets numbers n (numbersAll (requestsOf row (drop i words)) s) ≡ numbers
     unfolding numbersAll
-    numbers-last numbers n = ap (λ (qs : List Request). sets numbers n (numbersAll qs v)) none
+    numbers-last numbers n = ap (λ (qs : List Request). sets numbers n (numbersAll qs s)) no-more
 
 -- ---- from requests to words
 
 -- the tapes stand one behind another, from an index on
 wordsFrom : ℕ → List Request → List ℕ
 wordsFrom at [] = []
-wordsFrom at (q ∷ qs) = at ∷ (at + length (q .tape)) ∷ q .from ∷ q .goal ∷ wordsFrom (at + length (q .tape)) qs
+wordsFrom at (q ∷ qs) = at ∷ (at + length (q .tape)) ∷ turnWord (q .turn) ∷ q .goal ∷ wordsFrom (at + length (q .tape)) qs
 
 middle : (front tape rest : List ℕ) → part (front ++ tape ++ rest) (length front) (length front + length tape) ≡ tape
 middle front tape rest =
@@ -86,12 +83,16 @@ middle front tape rest =
     ∙ ap (drop (length front)) (take-at (front ++ tape) rest _ (length-append front tape))
     ∙ drop-at front tape _ refl
 
+turn-word : (t : Turn) → turnOf (turnWord t) ≡ t
+turn-word none = refl
+turn-word (to n) = refl
+
 words-requests : (front : List ℕ) (qs : List Request) → requestsOf (front ++ tapesOf qs) (wordsFrom (length front) qs) ≡ qs
 unfolding requestsOf tapesOf wordsFrom
 words-requests front [] = refl
 words-requests front (q ∷ qs) =
     let again : front ++ (q .tape ++ tapesOf qs) ≡ front ++ q .tape ++ tapesOf qs = sym (append-assoc front (q .tape) (tapesOf qs)) in
-    rw (again, middle front (q .tape) (tapesOf qs), ← (length-append front (q .tape)), words-requests (front ++ q .tape) qs)
+    rw (again, middle front (q .tape) (tapesOf qs), turn-word (q .turn), ← (length-append front (q .tape)), words-requests (front ++ q .tape) qs)
 
 below-words : (at : ℕ) (qs : List Request) → at + length (tapesOf qs) < 2 ^ 32 → PositionsFit qs → AllBelow (2 ^ 32) (wordsFrom at qs)
 unfolding AllBelow tapesOf wordsFrom PositionsFit

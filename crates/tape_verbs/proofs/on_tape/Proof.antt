@@ -28,7 +28,7 @@ returns-2 c = rw (c .before .before .before .before .enum-told2 .given .1) (c .b
 
 returns-3 : tie.Need-returns-3
 unfolding tapeReply
-returns-3 c = rw (c .before .before .before .before .before .before .enum-told3 .given .1) (rw (c .before .before .before .load .ensures, c .before .before .before .before .parameter .ensures, c .before .before .before .before .before .before .before .before .first .ensures) at (c .before .before .print-registers .ensures))
+returns-3 c = rw (c .before .before .before .before .before .before .enum-told3 .given .1) (rw (c .before .before .before .load .ensures, c .before .before .before .before .parameter .ensures, c .before .before .before .before .before .before .before .before .first .ensures) at (c .before .before .print-record .ensures))
 
 returns-4 : tie.Need-returns-4
 unfolding tapeReply
@@ -36,27 +36,31 @@ returns-4 c = rw (c .before .before .before .before .enum-told4 .given .1) (rw (
 
 returns-5 : tie.Need-returns-5
 unfolding tapeReply
-returns-5 c = rw (c .before .before .before .before .before .before .enum-told5 .given .1) (rw (c .before .before .before .forward .ensures, c .before .before .before .before .parameter2 .ensures, c .before .before .before .before .before .before .before .before .first .ensures) at (c .before .before .print-power .ensures))
+returns-5 c = rw (c .before .before .before .before .enum-told5 .given .1) (rw (c .before .before .before .before .before .before .first .ensures) at (c .before .before .step .ensures))
 
 returns-6 : tie.Need-returns-6
 unfolding tapeReply
-returns-6 c = rw (c .before .before .before .before .enum-told6 .given .1) (rw (c .before .before .before .before .before .before .first .ensures) at (c .before .before .raise .ensures))
+returns-6 c = rw (c .before .before .before .before .before .before .enum-told6 .given .1) (rw (c .before .before .before .forward .ensures, c .before .before .before .before .parameter2 .ensures, c .before .before .before .before .before .before .before .before .first .ensures) at (c .before .before .print-power .ensures))
 
 returns-7 : tie.Need-returns-7
 unfolding tapeReply
-returns-7 c = rw (c .before .before .before .before .before .before .enum-told7 .given .1) (rw (c .before .before .before .trace .ensures .0, c .before .before .before .before .parameter3 .ensures, c .before .before .before .before .before .before .before .before .first .ensures) at (c .before .before .print-exponents .ensures))
+returns-7 c = rw (c .before .before .before .before .enum-told7 .given .1) (rw (c .before .before .before .before .before .before .first .ensures) at (c .before .before .raise .ensures))
 
 returns-8 : tie.Need-returns-8
 unfolding tapeReply
-returns-8 c = rw (c .before .before .before .before .before .before .enum-told8 .given .1) (rw (c .before .before .before .table .ensures .0, c .before .before .before .before .parameter4 .ensures, c .before .before .before .before .before .before .before .before .first .ensures) at (c .before .before .print-table .ensures))
+returns-8 c = rw (c .before .before .before .before .before .before .enum-told8 .given .1) (rw (c .before .before .before .trace .ensures .0, c .before .before .before .before .parameter3 .ensures, c .before .before .before .before .before .before .before .before .first .ensures) at (c .before .before .print-exponents .ensures))
 
 returns-9 : tie.Need-returns-9
 unfolding tapeReply
-returns-9 c = rw (c .before .before .before .before .before .before .enum-told9 .given .1) (rw (c .before .before .before .before .before .parameter5 .ensures, c .before .before .before .before .parameter6 .ensures, c .before .before .before .before .before .before .before .before .first .ensures) at (c .before .before .cut .ensures))
+returns-9 c = rw (c .before .before .before .before .before .before .enum-told9 .given .1) (rw (c .before .before .before .table .ensures .0, c .before .before .before .before .parameter4 .ensures, c .before .before .before .before .before .before .before .before .first .ensures) at (c .before .before .print-table .ensures))
 
 returns-10 : tie.Need-returns-10
 unfolding tapeReply
-returns-10 c = rw (c .before .before .before .before .enum-told10 .given .1) (rw (c .before .before .before .before .before .before .first .ensures) at (c .before .before .play .ensures))
+returns-10 c = rw (c .before .before .before .before .before .before .enum-told10 .given .1) (rw (c .before .before .before .before .before .parameter5 .ensures, c .before .before .before .before .parameter6 .ensures, c .before .before .before .before .before .before .before .before .first .ensures) at (c .before .before .cut .ensures))
+
+returns-11 : tie.Need-returns-11
+unfolding tapeReply
+returns-11 c = rw (c .before .before .before .before .enum-told11 .given .1) (rw (c .before .before .before .before .before .before .first .ensures) at (c .before .before .play .ensures))
 
 pub on-tape-spec : {M : Type 1} → statement M
 on-tape-spec =
@@ -71,6 +75,8 @@ on-tape-spec =
     (λ c. search needs)
     (λ c κs. search needs)
     (λ c κs. search needs)
+    (λ c κs. search needs)
+    (λ c. search needs)
     (λ c κs. search needs)
     (λ c. search needs)
     (λ c κs. search needs)
@@ -113,4 +119,6 @@ on-tape-spec =
     (λ c. search needs)
     returns-9
     (λ c. search needs)
-    returns-10)
+    returns-10
+    (λ c. search needs)
+    returns-11)

@@ -1,4 +1,4 @@
--- `play` meets its contract: the parameters behind the first four are the requests, and what the runs tell fits a row of as many places
+-- `play` meets its contract: the parameters behind the record are the requests, and what the runs tell fits a row of as many places
 -- as parameters.
 use mathlib.Core.Path.{_≡_, sym, ap, ap₂, _∙_}
 use mathlib.Core.List.{List}
@@ -7,21 +7,22 @@ use native.Mathlib.Omega.{arith}
 use lib.ListN.{length, take, drop, length-drop}
 use lib.Seq.{length-take-le}
 use Rattle.refusal.proofs.Laws.Rows.{wrote-taken, wrote-length}
+use Rattle.sequencer.specs.Records.{Record, recordIn}
 use Rattle.sequencer.specs.Lists.{requestsOf}
 use Rattle.tool.specs.Verbs.{maxParameters}
-use Rattle.tool.specs.Replies.{registersIn, runsTold}
+use Rattle.tool.specs.Replies.{runsTold}
 use Rattle.tool.proofs.Laws.Runs.{runs-told}
 use borrow.Author.Needs.{needs}
 use Rattle.tape_verbs.proofs.play.Statement.{statement}
 use Rattle.tape_verbs.proofs.play.Tie as tie
 
--- those behind the first four are the requests, no more than the parameters
-module _ (c : tie.After-past-registers) where
+-- those behind the record are the requests, no more than the parameters
+module _ (c : tie.After-past-record) where
   abbrev values : List ℕ
   values = c .before .before .before .before .args .values .now
 
-  few : length (c .past-registers .result .now) ≤ maxParameters
-  few = omega (arith, ap length (c .past-registers .ensures), length-drop 4 values)
+  few : length (c .past-record .result .now) ≤ maxParameters
+  few = omega (arith, ap length (c .past-record .ensures), length-drop 5 values)
 
 runs-requires : tie.Need-runs-requires
 runs-requires c κs = omega (arith, few (c .before .before))
@@ -35,10 +36,10 @@ module _ (c : tie.After-runs) where
   tapes = c .before .before .before .before .before .before .before .args .tapes .now
 
   told : take (c .runs .result) (c .runs .last .1 .1 .1 .0)
-      ≡ runsTold (requestsOf tapes (drop 4 (values (c .before .before .before)))) (registersIn (values (c .before .before .before)))
+      ≡ runsTold (requestsOf tapes (drop 5 (values (c .before .before .before)))) (recordIn (values (c .before .before .before)))
   told =
       wrote-taken (c .runs .ensures .0) (omega (arith, size, c .runs .ensures .0 .next-is))
-      ∙ ap₂ (λ (ws v : List ℕ). runsTold (requestsOf tapes ws) v) (c .before .before .before .past-registers .ensures) (c .before .before .registers .ensures)
+      ∙ ap₂ (λ (ws : List ℕ) (s : Record). runsTold (requestsOf tapes ws) s) (c .before .before .before .past-record .ensures) (c .before .before .record .ensures)
 
   inside : c .runs .result ≤ length (c .runs .last .1 .1 .1 .0)
   inside = omega (arith, wrote-length (c .runs .ensures .0), size)

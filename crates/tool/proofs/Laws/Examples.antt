@@ -20,7 +20,7 @@ use Rattle.fibonacci.specs.Services.{fibonacciOutcome, numberOutcome}
 use Rattle.tape.specs.Words.{headingIn, actionIn, swapIn, decoded, stepWord, encoded}
 use Rattle.tape.specs.Layout.{isLength, isHeader, isFreeOrNamed, allSteps, isEnd, laidOut, part, programWords}
 use Rattle.encoding.specs.Encoding.{tapeOf, bytesOf, noTape, tapeIn}
-use Rattle.machine.specs.Machine.{apply, inverseStep, doAll, run, inverted}
+use Rattle.machine.specs.Machine.{apply, inverseStep, doAll, undoAll, run, inverted}
 use Rattle.machine.specs.Exponents.{shift, shiftAll, inRange, allInRange, staysInRange}
 use Rattle.tables.specs.Tables.{tableOf, tableStays}
 use Rattle.named.specs.Generators.{ascend, basic, drawn}
@@ -30,9 +30,10 @@ use Rattle.named.specs.Parameters.{badModulus, badOrder, badVariant}
 use Rattle.program.specs.Services.{buildOutcome, checkRules}
 use Rattle.program.specs.Door.{onTape}
 use Rattle.program.specs.Same.{sameWords}
-use Rattle.sequencer.specs.Services.{badRegister, badRegisters, allowed, badBase, baseRules, loadOutcome, positionRules, runOutcome, forwardOutcome, traceRules, traceOutcome, badCut, cutRules, cutOutcome}
+use Rattle.sequencer.specs.Services.{badRegister, badRegisters, allowed, badBase, baseRules, loadOutcome, recordRules, goalRules, runOutcome, forwardOutcome, traceRules, traceOutcome, badCut, cutRules, cutOutcome}
 use Rattle.sequencer.specs.Bases.{rowRules, raiseRules, raised, onRow, raiseOutcome, raisedBases}
 use Rattle.sequencer.specs.Tables.{tableRules, tableOutcome}
+use Rattle.sequencer.specs.Sessions.{neighbour, pastEnd, stepRules, stepOutcome}
 use Rattle.sequencer.specs.Lists.{afterAll, numbersAll, requestsOf}
 use Rattle.listing.specs.Listing.{stepLines}
 use Rattle.tool.specs.Verbs.{entries, names, rows, indexIn, rowNamed, variantIn, parameterIn}
@@ -76,17 +77,19 @@ examples =
     replies ("build" ∷ "7" ∷ "3" ∷ "2" ∷ "free" ∷ []) (refuses 4 4)
     ∷ replies ("script" ∷ []) (complains scriptLine)
     ∷ replies ("help" ∷ []) (answers usage)
-    ∷ prints ("version" ∷ []) "fibexp 1.0.0\n"
+    ∷ prints ("version" ∷ []) "fibexp 2.0.0\n"
     ∷ tape-prints ("check" ∷ []) "0\n"
     ∷ tape-prints ("list" ∷ []) "free p=7 r=0 k=0 steps=1\n1 mul 0 1\n"
-    ∷ tape-prints ("load" ∷ "3" ∷ []) "1 3 1 1\n"
-    ∷ tape-prints ("run" ∷ "1" ∷ "3" ∷ "1" ∷ "1" ∷ "0" ∷ "1" ∷ []) "3 3 1 1\n"
-    ∷ tape-prints ("power" ∷ "3" ∷ []) "3\n3 3 1 1\n"
+    ∷ tape-prints ("load" ∷ "3" ∷ []) "1 3 1 1 0\n"
+    ∷ tape-prints ("run" ∷ "1" ∷ "3" ∷ "1" ∷ "1" ∷ "0" ∷ "1" ∷ []) "3 3 1 1 1\n"
+    ∷ tape-prints ("step" ∷ "3" ∷ "3" ∷ "1" ∷ "1" ∷ "1" ∷ "1" ∷ []) "1 3 1 1 0\n"
+    ∷ tape-replies ("step" ∷ "3" ∷ "3" ∷ "1" ∷ "1" ∷ "1" ∷ "0" ∷ []) (refuses 9 10)
+    ∷ tape-prints ("power" ∷ "3" ∷ []) "3\n3 3 1 1 1\n"
     ∷ named-prints ("raise" ∷ "2" ∷ "4" ∷ []) "4 2\n"
     ∷ tape-prints ("trace" ∷ "1" ∷ []) "1 1 0 0\n"
     ∷ tape-prints ("table" ∷ "1" ∷ []) "1 1 0 0\n0 1 0 0\n0 0 1 0\n0 0 0 1\n"
     ∷ tape-replies ("cut" ∷ "1" ∷ "0" ∷ []) (refuses 10 10)
-    ∷ tape-prints ("play" ∷ "1" ∷ "3" ∷ "1" ∷ "1" ∷ "0" ∷ "6" ∷ "0" ∷ "1" ∷ []) "3 3 1 1 0\n"
+    ∷ tape-prints ("play" ∷ "1" ∷ "3" ∷ "1" ∷ "1" ∷ "1" ∷ "0" ∷ "6" ∷ "1" ∷ "1" ∷ []) "3 3 1 1 1 0\n"
     ∷ prints ("decode" ∷ "0x70000004" ∷ []) "swp 0 1\n"
     ∷ prints ("fibonacci" ∷ "10" ∷ []) "55\n"
     ∷ prints ("places" ∷ "6" ∷ []) "4 1\n"
@@ -100,5 +103,5 @@ examples =
     ∷ []
 
 pub examples-hold : AllHold examples
-unfolding reply askedBy numbersFrom parameterIn variantIn rowNamed indexIn names rows entries built tapeReply numberReply digitOf allDigits valueFrom numberFrom inBase isHexadecimal parseNumber sameWords onTape decimalWithin decimal whole line outcome tapeIn noTape tapeOf bytesOf isLength isHeader isFreeOrNamed allSteps isEnd laidOut part programWords encoded stepWord decoded headingIn actionIn swapIn namedSteps formsIn basicForms drawn basic ascend inverted inverseStep isOneOf sameSteps sameStep checkRules buildOutcome badModulus badOrder badVariant isPrime greatest gcd badExponent inverse inverseOutcome remainder times badRegister badRegisters allowed badBase loadOutcome baseRules positionRules traceRules runOutcome forwardOutcome traceOutcome badCut cutRules cutOutcome rowRules raiseRules raised onRow raiseOutcome raisedBases tableRules tableOutcome tableOf tableStays afterAll numbersAll requestsOf run doAll apply staysInRange allInRange inRange shiftAll shift stepLines fib lucas pad greedy zeckendorf placesFrom weight arePlaces reaches firstFrom height hofstadterTo G fibonacciOutcome numberOutcome
-examples-hold = (refl, (refl, (refl, (refl, (refl, (refl, (refl, (refl, (refl, (refl, (refl, (refl, (refl, (refl, (refl, (refl, (refl, (refl, (refl, (refl, (refl, (refl, (refl, (refl, tt))))))))))))))))))))))))
+unfolding reply askedBy numbersFrom parameterIn variantIn rowNamed indexIn names rows entries built tapeReply numberReply digitOf allDigits valueFrom numberFrom inBase isHexadecimal parseNumber sameWords onTape decimalWithin decimal whole line outcome tapeIn noTape tapeOf bytesOf isLength isHeader isFreeOrNamed allSteps isEnd laidOut part programWords encoded stepWord decoded headingIn actionIn swapIn namedSteps formsIn basicForms drawn basic ascend inverted inverseStep isOneOf sameSteps sameStep checkRules buildOutcome badModulus badOrder badVariant isPrime greatest gcd badExponent inverse inverseOutcome remainder times badRegister badRegisters allowed badBase loadOutcome baseRules recordRules goalRules traceRules runOutcome forwardOutcome traceOutcome badCut cutRules cutOutcome rowRules raiseRules raised onRow raiseOutcome raisedBases tableRules tableOutcome tableOf tableStays neighbour pastEnd stepRules stepOutcome afterAll numbersAll requestsOf run doAll undoAll apply staysInRange allInRange inRange shiftAll shift stepLines fib lucas pad greedy zeckendorf placesFrom weight arePlaces reaches firstFrom height hofstadterTo G fibonacciOutcome numberOutcome
+examples-hold = (refl, (refl, (refl, (refl, (refl, (refl, (refl, (refl, (refl, (refl, (refl, (refl, (refl, (refl, (refl, (refl, (refl, (refl, (refl, (refl, (refl, (refl, (refl, (refl, (refl, (refl, tt))))))))))))))))))))))))))

@@ -21,21 +21,24 @@ use Rattle.tape.specs.Layout.{maxWords, stepsOf, programWords}
 use Rattle.encoding.specs.Encoding.{bytesOf}
 use Rattle.named.specs.Named.{namedWords}
 use Rattle.program.specs.Services.{buildOutcome, checkOutcome, acceptOutcome}
+use Rattle.machine.specs.Machine.{reg}
+use Rattle.sequencer.specs.Records.{recordIn}
 use Rattle.sequencer.specs.Services.{loadOutcome, runOutcome, forwardOutcome, traceOutcome, cutOutcome}
 use Rattle.sequencer.specs.Bases.{raiseOutcome}
 use Rattle.sequencer.specs.Tables.{tableOutcome}
+use Rattle.sequencer.specs.Sessions.{stepOutcome, isBackward}
 use Rattle.listing.specs.Listing.{firstLine, stepLines, linesFor}
 use Rattle.tool.specs.declared.TapeVerb.{TapeVerb}
-use Rattle.tool.specs.declared.TapeVerb.the-variants.{Check, Listing, Load, Run, Power, Raise, Trace, Table, Cut, Play}
+use Rattle.tool.specs.declared.TapeVerb.the-variants.{Check, Listing, Load, Run, SingleStep, Power, Raise, Trace, Table, Cut, Play}
 use Rattle.tool.specs.declared.NumberVerb.{NumberVerb}
 use Rattle.tool.specs.declared.NumberVerb.the-variants.{Decode, Fibonacci, Places, NumberOf, Hofstadter, Inverse, Height, Prime, MulMod, PowMod}
 use Rattle.tool.specs.declared.Verb.{Verb}
 use Rattle.tool.specs.declared.Verb.the-variants.{Unknown, Build, Script, Help, Version, OnTape, OnNumbers, InScript}
 use Rattle.tool.specs.declared.Row.{Row}
 use Rattle.tool.specs.Verbs.{takesTape}
-use Rattle.tool.specs.Texts.{exponentsLine, rowLine, tableLines, powerLines, meaning, stepMeaning, refusalLine, noVerbLine, wrongCountLine, unreadLine, lines, usage}
+use Rattle.tool.specs.Texts.{exponentsLine, rowLine, tableLines, recordLine, powerLines, meaning, stepMeaning, refusalLine, noVerbLine, wrongCountLine, unreadLine, lines, usage}
 use Rattle.tool.specs.Calls.{Asked, noWord, noVerb, wrongCount, unread, known, askedBy}
-use Rattle.tool.specs.Replies.{Replied, printed, at, registersIn, Streams, built, numberReply, tapeReply, means, ownIn, replyTo, reply, isWhole}
+use Rattle.tool.specs.Replies.{Replied, printed, at, Streams, built, numberReply, tapeReply, means, ownIn, replyTo, reply, isWhole}
 
 -- ---- texts
 
@@ -105,9 +108,10 @@ on-tape-some : (verb : TapeVerb) (own : ℕ) (v tape tapes : List ℕ) → 0 < l
 unfolding tapeReply
 on-tape-some Check own v tape tapes = some-printed own (checkOutcome tape) numberLine (λ n. some-line _)
 on-tape-some Listing own v tape tapes = some-listing (acceptOutcome tape) (stepsOf tape)
-on-tape-some Load own v tape tapes = some-printed own (loadOutcome tape (at v 0)) numbersLine (λ n. some-line _)
-on-tape-some Run own v tape tapes = some-printed own (runOutcome tape (registersIn v) (at v 4) (at v 5)) numbersLine (λ n. some-line _)
-on-tape-some Power own v tape tapes = some-printed own (forwardOutcome tape (at v 0)) powerLines (λ w. front (numberLine (at w 1)) (numbersLine w) (some-line _))
+on-tape-some Load own v tape tapes = some-printed own (loadOutcome tape (at v 0)) recordLine (λ s. some-line _)
+on-tape-some Run own v tape tapes = some-printed own (runOutcome tape (recordIn v) (at v 5)) recordLine (λ s. some-line _)
+on-tape-some SingleStep own v tape tapes = some-printed own (stepOutcome tape (recordIn v) (isBackward (at v 5))) recordLine (λ s. some-line _)
+on-tape-some Power own v tape tapes = some-printed own (forwardOutcome tape (at v 0)) powerLines (λ s. front (numberLine (reg (s .registers) 1)) (recordLine s) (some-line _))
 on-tape-some Raise own v tape tapes = some-printed own (raiseOutcome tape v) _ (λ n. some-line _)
 on-tape-some Trace own v tape tapes = some-printed own (traceOutcome tape (at v 0)) exponentsLine (λ n. some-line _)
 on-tape-some Table own v tape tapes = some-printed own (tableOutcome tape (at v 0)) tableLines (λ m. behind (rowLine m 0 ++ rowLine m 1 ++ rowLine m 2) (rowLine m 3) (some-line _))

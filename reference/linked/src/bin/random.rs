@@ -7,16 +7,16 @@
 //! and outputs lie between canaries, drawn anew for each call, and a refused call leaves all of them.
 //! The first difference is printed with its input and ends the program with status 1.
 //!
-//! The calls come in rounds. A round draws two tapes and makes 26 calls: of each tape check, load, run,
-//! raise, trace and table, of one also cut and the listing; two builds; two each of places, number, G and
-//! the inverse; a Fibonacci number; a height. So the services that take or write tapes, where most can go
-//! wrong, have more than half of the calls. One round in four also gives the tool some forty command
-//! lines of every verb, a fifth of them damaged, with a third tape on standard input. Of the tapes
-//! nine in sixteen are what build writes for drawn parameters, four are hand-made, two have a header
-//! that belongs to other steps, one is any words; then three in eight are damaged. A row has 0 to 66
-//! bases, and half of the rows have one or two that are drawn to be bad. Half of the builds have a
-//! fault in p, r, k, the variant or all of them. The primes are those at the ends and 6000 drawn ones
-//! of every size up to 2^28.
+//! The calls come in rounds. A round draws two tapes and makes 28 calls: of each tape check, load, run,
+//! step, raise, trace and table, of one also cut and the listing; two builds; two each of places, number,
+//! G and the inverse; a Fibonacci number; a height. So the services that take or write tapes, where most
+//! can go wrong, have more than half of the calls. One round in four also gives the tool more than forty
+//! command lines of every verb, a fifth of them damaged, with a third tape on standard input. Of the
+//! tapes nine in sixteen are what build writes for drawn parameters, four are hand-made, two have a
+//! header that belongs to other steps, one is any words; then three in eight are damaged. Half of the
+//! single steps begin beside an end of the tape. A row has 0 to 66 bases, and half of the rows have one or
+//! two that are drawn to be bad. Half of the builds have a fault in p, r, k, the variant or all of them.
+//! The primes are those at the ends and 6000 drawn ones of every size up to 2^28.
 
 use linked::lent::{inner, Canaries, Lent};
 use linked::proved;
@@ -28,6 +28,7 @@ use reference::drawing::parameters::{inverse_call, Fields, Parameters};
 use reference::drawing::tapes::{modulus_and_order, steps, tape, ROW_WORDS};
 use reference::drawing::values::{self as draw, MOST_PLACES};
 use reference::tool::{reads_tape, reply, Reply};
+use reference::Record;
 use std::fmt::Debug;
 use std::hint::black_box;
 
@@ -80,6 +81,7 @@ impl Comparison {
             self.check(tape);
             self.load(tape);
             self.run(tape);
+            self.step(tape);
             self.raise(tape);
             self.trace(tape);
             self.table(tape);
@@ -203,29 +205,49 @@ impl Comparison {
     fn load(&mut self, tape: &[u32]) {
         let (p, r) = modulus_and_order(tape);
         let base = draw::base(&mut self.noise, p, r);
-        let lent = Lent::new(&mut self.noise, four_words);
-        let mut registers = lent;
-        let (number, row) = lend(tape, |tape| proved::load(tape, base, &mut registers.value));
-        let (refusal, expected) = lent.settled(services::load(tape, base));
+        let lent = Lent::new(&mut self.noise, five_words);
+        let mut record = lent;
+        let (number, row) = lend(tape, |tape| proved::load(tape, base, &mut record.value));
+        let (refusal, expected) = lent.settled(services::load(tape, base).map(Record::numbers));
         let call = || format!("load {base} {}", hexadecimal(tape));
-        let (answered, expected) = ((registers, &row[..]), (expected, tape));
+        let (answered, expected) = ((record, &row[..]), (expected, tape));
         self.compare(Service::Load, call, (number, answered), (refusal, expected));
     }
 
     fn run(&mut self, tape: &[u32]) {
-        let (p, r) = modulus_and_order(tape);
-        let start = draw::registers(&mut self.noise, p, r);
         let (from, to) = draw::positions(&mut self.noise, steps(tape));
-        let mut lent = Lent::new(&mut self.noise, four_words);
-        lent.value = start;
-        let mut registers = lent;
-        let (number, row) = lend(tape, |tape| {
-            proved::run(tape, &mut registers.value, from, to)
-        });
-        let (refusal, expected) = lent.settled(services::run(tape, start, from, to));
-        let call = || format!("run {start:?} from {from} to {to} {}", hexadecimal(tape));
-        let (answered, expected) = ((registers, &row[..]), (expected, tape));
+        let lent = self.lent_record(tape, from);
+        let mut record = lent;
+        let (number, row) = lend(tape, |tape| proved::run(tape, &mut record.value, to));
+        let start = Record::of(lent.value);
+        let (refusal, expected) = lent.settled(services::run(tape, start, to).map(Record::numbers));
+        let call = || format!("run {:?} to {to} {}", lent.value, hexadecimal(tape));
+        let (answered, expected) = ((record, &row[..]), (expected, tape));
         self.compare(Service::Run, call, (number, answered), (refusal, expected));
+    }
+
+    fn step(&mut self, tape: &[u32]) {
+        let position = draw::step_position(&mut self.noise, steps(tape));
+        let direction = draw::direction(&mut self.noise);
+        let lent = self.lent_record(tape, position);
+        let mut record = lent;
+        let (number, row) = lend(tape, |tape| {
+            proved::step(tape, &mut record.value, direction)
+        });
+        let answer = services::step(tape, Record::of(lent.value), direction != 0);
+        let (refusal, expected) = lent.settled(answer.map(Record::numbers));
+        let call = || format!("step {:?} {direction} {}", lent.value, hexadecimal(tape));
+        let (answered, expected) = ((record, &row[..]), (expected, tape));
+        self.compare(Service::Step, call, (number, answered), (refusal, expected));
+    }
+
+    /// Drawn registers of a tape's p at a position.
+    fn lent_record(&mut self, tape: &[u32], position: u32) -> Lent<[u32; 5]> {
+        let (p, r) = modulus_and_order(tape);
+        let registers = draw::registers(&mut self.noise, p, r);
+        let mut lent = Lent::new(&mut self.noise, five_words);
+        lent.value = Record::at(position, registers).numbers();
+        lent
     }
 
     fn raise(&mut self, tape: &[u32]) {
@@ -422,8 +444,8 @@ fn lend<T: Clone, A>(lent: &[T], call: impl FnOnce(&[T]) -> A) -> (A, Vec<T>) {
     (answer, row)
 }
 
-fn four_words(noise: &mut Noise) -> [u32; 4] {
-    [0; 4].map(|_| noise.word())
+fn five_words(noise: &mut Noise) -> [u32; 5] {
+    [0; 5].map(|_| noise.word())
 }
 
 fn four_exponents(noise: &mut Noise) -> [i64; 4] {

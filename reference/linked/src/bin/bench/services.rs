@@ -5,6 +5,7 @@ use crate::timing::Pair;
 use linked::proved;
 use reference as services;
 use reference::drawing::tapes::steps;
+use reference::Record;
 use std::hint::black_box;
 
 const MOST_LISTING: usize = 6137;
@@ -42,6 +43,7 @@ const fn service(
 
 const PROGRAM: &str = "primes, forms, inverse";
 const RUN: &str = "primes, forms, inverse, product";
+const STEP: &str = "primes, forms, inverse, one step";
 const TABLE: &str = "primes, forms, inverse, passes";
 const LOADS_AND_RUNS: &str = "both sides proved; the other is 64 loads and 64 runs";
 
@@ -55,6 +57,7 @@ pub static SERVICES: &[Service] = &[
     service("load", NAMED, false, PROGRAM, load),
     service(RUNS[0], EVERY, true, RUN, run_forward),
     service(RUNS[1], EVERY, true, RUN, run_backward),
+    service("step", NAMED, false, STEP, step),
     service("raise, 64 bases", NAMED, false, RUN, raise),
     service(
         "64 bases: raise / loads and runs",
@@ -104,12 +107,12 @@ fn check(inputs: &Inputs, variant: u32) -> Pair<'_> {
 }
 
 fn load(inputs: &Inputs, variant: u32) -> Pair<'_> {
-    let mut registers = [0; 4];
+    let mut record = [0; 5];
     Pair::new(
         move |i| {
             let tape = black_box(inputs.tape(variant, i));
-            black_box(proved::load(tape, inputs.bases[i], &mut registers));
-            black_box(&registers);
+            black_box(proved::load(tape, inputs.bases[i], &mut record));
+            black_box(&record);
         },
         move |i| {
             let tape = black_box(inputs.tape(variant, i));
@@ -146,14 +149,33 @@ fn run(inputs: &Inputs, variant: u32, forward: bool) -> Pair<'_> {
         move |i| {
             let tape = black_box(inputs.tape(variant, i));
             let (from, to) = way(tape);
-            let mut registers = black_box(start(i));
-            black_box(proved::run(tape, &mut registers, from, to));
-            black_box(&registers);
+            let mut record = black_box(Record::at(from, start(i)).numbers());
+            black_box(proved::run(tape, &mut record, to));
+            black_box(&record);
         },
         move |i| {
             let tape = black_box(inputs.tape(variant, i));
             let (from, to) = way(tape);
-            let _ = black_box(services::run(tape, black_box(start(i)), from, to));
+            let record = black_box(Record::at(from, start(i)));
+            let _ = black_box(services::run(tape, record, to));
+        },
+    )
+}
+
+/// In the middle of the tape, from any registers; every other one back.
+fn step(inputs: &Inputs, variant: u32) -> Pair<'_> {
+    let start = move |tape: &[u32], i: usize| Record::at(steps(tape) / 2, inputs.registers[i]);
+    Pair::new(
+        move |i| {
+            let tape = black_box(inputs.tape(variant, i));
+            let mut record = black_box(start(tape, i).numbers());
+            black_box(proved::step(tape, &mut record, i as u32 % 2));
+            black_box(&record);
+        },
+        move |i| {
+            let tape = black_box(inputs.tape(variant, i));
+            let record = black_box(start(tape, i));
+            let _ = black_box(services::step(tape, record, i % 2 == 1));
         },
     )
 }
@@ -173,14 +195,14 @@ fn raise(inputs: &Inputs, variant: u32) -> Pair<'_> {
 /// to end on the same tape.
 fn raise_beside_runs(inputs: &Inputs, variant: u32) -> Pair<'_> {
     let mut row = [0; BASES];
-    let mut registers = [0; 4];
+    let mut record = [0; 5];
     Pair::over(ROWS, raise_proved(inputs, variant), move |i| {
         let tape = black_box(inputs.tape(variant, i));
         row.copy_from_slice(black_box(&inputs.bases));
         for base in &mut row {
-            black_box(proved::load(tape, *base, &mut registers));
-            black_box(proved::run(tape, &mut registers, 0, steps(tape)));
-            *base = registers[1];
+            black_box(proved::load(tape, *base, &mut record));
+            black_box(proved::run(tape, &mut record, steps(tape)));
+            *base = record[1];
         }
         black_box(&row);
     })

@@ -1,0 +1,3 @@
+-- What the walks by hand have in common: their steps, and the types that they meet.
+pub mod Walks
+pub mod Types
