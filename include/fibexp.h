@@ -112,9 +112,9 @@ uint32_t fibexp_load(const uint32_t *tape, size_t words, uint32_t base, uint32_t
 uint32_t fibexp_run(const uint32_t *tape, size_t words, uint32_t record[5], uint32_t to);
 
 /*
- * One step, as fibexp_run does to the neighbouring position: forward where `backward` is 0, else backward. Refusals:
- * those of fibexp_check, REGISTER, POSITION, which is given where record[4] is above the step count and for a step past
- * either end.
+ * One step, as fibexp_run does to the neighbouring position: forward where `backward` is 0, else backward. Writes the
+ * record as it stands there. Refusals: those of fibexp_check, REGISTER, POSITION, which is given where record[4] is
+ * above the step count and for a step past either end.
  */
 uint32_t fibexp_step(const uint32_t *tape, size_t words, uint32_t record[5], uint32_t backward);
 

@@ -16,8 +16,8 @@ use sequencer::StateAnswer;
 // The words of a request in a list of runs.
 const REQUEST_WORDS: usize = 4;
 
-// A list of runs, one after another, each on the record that those before it left; the number of each, 0 or its refusal's, goes into
-// the lent buffer, as far as that has places. A request is four words: where its tape begins and ends in the row of tapes, its turn and
+// A list of runs, one after another, each on the record that those before it left, with its own turn made; the number of each, 0 or its
+// refusal's, goes into the lent buffer, as far as that has places. A request is four words: where its tape begins and ends in the row of tapes, its turn and
 // its goal. A tape past that row is the empty one, so run refuses it with 6. Nothing is refused here: one to three words left over are
 // no request.
 pub fn play(tapes: &[u32], requests: &[u32], state: State, numbers: &mut [u32]) -> State

@@ -17,14 +17,14 @@ use Rattle.sequencer.specs.Lists.{none, to, Request, given, answerTo, re
 -- ---- what is said of every run
 
 -- what the steps between the record's position and the goal, done or undone one after another, make of the record
-abbrev pub between : Request → Record → Record
-between q s = recordAt (headerOf (q .tape)) (stepsOf (q .tape)) s (q .goal)
+abbrev pub recordReached : Request → Record → Record
+recordReached q s = recordAt (headerOf (q .tape)) (stepsOf (q .tape)) s (q .goal)
 
 -- It is refused exactly where a refusal listed for run applies to the record it gets; otherwise it answers what the steps make of that.
 abbrev pub AsSaid : Request → Record → Type 0
 AsSaid q s =
     ((applies (runRules (q .tape) (given q s) (q .goal)) ≡ true) × ((n : ℕ) × (answerTo q s ≡ refused n)))
-    ⊎ ((applies (runRules (q .tape) (given q s) (q .goal)) ≡ false) × (answerTo q s ≡ answered (between q (given q s))))
+    ⊎ ((applies (runRules (q .tape) (given q s) (q .goal)) ≡ false) × (answerTo q s ≡ answered (recordReached q (given q s))))
 
 -- So does every run of a list from record s, and the number beside it, in a row as far as that goes, is its own: 0 or its refusal's.
 unfoldable pub EachAsSaid : List Request → Record → List ℕ → Type 0

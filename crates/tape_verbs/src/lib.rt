@@ -9,7 +9,7 @@ ghost use Rattle.refusal.specs.Rows.{Wrote};
 ghost use Rattle.text.specs.Text.{numbersLine};
 ghost use Rattle.tape.specs.Layout.{stepsOf};
 ghost use Rattle.program.specs.Services.{acceptOutcome};
-ghost use Rattle.sequencer.specs.Records.{rowOf, recordIn, recordOf};
+ghost use Rattle.sequencer.specs.Records.{recordNumbers, rowOf, recordIn, recordOf};
 ghost use Rattle.sequencer.specs.Services.{runOutcome, cutOutcome};
 ghost use Rattle.sequencer.specs.Sessions.{stepOutcome, isBackward};
 ghost use Rattle.sequencer.specs.Lists.{requestsOf};
@@ -94,14 +94,14 @@ fn run(own: u32, values: &[u32], tape: &[u32], text: &mut [u8]) -> Reply
 fn step(own: u32, values: &[u32], tape: &[u32], text: &mut [u8]) -> Reply
     ensures { λ r. ⌜ Told (now (text .entry)) (printed own (stepOutcome (now (tape .entry)) (recordIn (now (values .entry))) (isBackward (getD (now (values .entry)) 5 0))) recordLine) r (now (text .exit)) ⌝ }
 {
-    let gone = step_once(tape, record(values), parameter(values, 5) != 0);
-    if gone.opened != 0 {
-        return refuse(text, own, gone.opened);
+    let once = step_once(tape, record(values), parameter(values, 5) != 0);
+    if once.opened != 0 {
+        return refuse(text, own, once.opened);
     }
-    if gone.stepped != 0 {
-        return refuse(text, own, gone.stepped);
+    if once.stepped != 0 {
+        return refuse(text, own, once.stepped);
     }
-    let state = gone.state;
+    let state = once.state;
     printing::record(text, state)
 }
 
@@ -160,9 +160,9 @@ fn play(values: &[u32], tapes: &[u32], text: &mut [u8]) -> Reply
 
 // The record after a list of runs, then each run's number, and how many these are.
 fn runs(tapes: &[u32], requests: &[u32], state: State, told: &mut [u32]) -> usize
-    requires { ⌜ 5 + length (now requests) / 4 ≤ length (now told) ⌝ }
+    requires { ⌜ recordNumbers + length (now requests) / 4 ≤ length (now told) ⌝ }
     ensures { λ count. ⌜ Wrote (now (told .entry)) 0 (runsTold (requestsOf (now (tapes .entry)) (now (requests .entry))) (recordOf state)) count (now (told .exit)) ⌝ }
-    ensures { λ count. ⌜ count ≡ 5 + length (now (requests .entry)) / 4 ⌝ }
+    ensures { λ count. ⌜ count ≡ recordNumbers + length (now (requests .entry)) / 4 ⌝ }
 {
     let after = playing::play(tapes, requests, state, &mut told[RECORD_NUMBERS..]);
     put_record(after, told);
@@ -171,7 +171,7 @@ fn runs(tapes: &[u32], requests: &[u32], state: State, told: &mut [u32]) -> usiz
 
 // The record in the first five places.
 fn put_record(state: State, told: &mut [u32])
-    requires { ⌜ 5 ≤ length (now told) ⌝ }
+    requires { ⌜ recordNumbers ≤ length (now told) ⌝ }
     ensures { λ _. ⌜ now (told .exit) ≡ sets (now (told .entry)) 0 (rowOf (recordOf state)) ⌝ }
 {
     let registers = state.registers;

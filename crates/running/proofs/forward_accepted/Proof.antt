@@ -1,4 +1,4 @@
--- `forward_accepted` meets its contract: load's refusal, or run's outcome from the registers that load answers.
+-- `forward_accepted` meets its contract: load's refusal, or run's outcome from the record that load answers.
 use mathlib.Core.Path.{sym, ap, _∙_}
 use borrow.Author.Needs.{needs}
 use Rattle.tape.specs.declared.Header.{Header}

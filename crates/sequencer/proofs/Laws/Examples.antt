@@ -194,7 +194,7 @@ pub sessions-step : (stepOutcome by-hand (at 2 4 5 0) false ≡ answered (at 2 5
     × (sessionOutcome by-hand (at 5 2 5 2) true ≡ answered (at 2 5 5 1))
     × (openOutcome by-hand (at 5 2 4 4) ≡ refused 10)
     × (sessionOutcome by-hand (at 5 2 4 4) true ≡ refused 6)
-unfolding programWords encoded stepWord decoded headingIn actionIn swapIn outcome checkRules isLength isHeader isFreeOrNamed allSteps isEnd laidOut badModulus isPrime greatest badRegister badRegisters onTape recordRules goalRules run doAll undoAll apply inverseStep times remainder inverse neighbour pastEnd stepRules stepOutcome openOutcome sessionOutcome
+unfolding programWords encoded stepWord decoded headingIn actionIn swapIn outcome checkRules isLength isHeader isFreeOrNamed allSteps isEnd laidOut badModulus isPrime greatest badRegister badRegisters onTape recordRules run doAll undoAll apply inverseStep times remainder inverse neighbour pastEnd stepRules stepOutcome openOutcome sessionOutcome
 sessions-step = (refl, refl, refl, refl, refl, refl, refl, refl, refl, refl, refl)
 
 -- ---- rows of bases

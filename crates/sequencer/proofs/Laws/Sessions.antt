@@ -158,11 +158,11 @@ module _ (tape : List ℕ) (s : Record) where
     refused-session e = rw e (step-empty refusedRecord backward)
 
     -- and the step on that tape and record is refused as opening was
-    pub step-refused : {n : ℕ} → openOutcome tape s ≡ refused n → stepOutcome tape s backward ≡ refused n
+    step-refused : {n : ℕ} → openOutcome tape s ≡ refused n → stepOutcome tape s backward ≡ refused n
     step-refused e = step-opens backward ∙ rw e refl
 
     -- the step of another one is that on the tape and record
-    pub opened-session : openOutcome tape s ≡ answered s → sessionOutcome tape s backward ≡ stepOutcome tape s backward
+    opened-session : openOutcome tape s ≡ answered s → sessionOutcome tape s backward ≡ stepOutcome tape s backward
     unfolding sessionOutcome
     opened-session e = rw e refl
 

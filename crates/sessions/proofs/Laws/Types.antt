@@ -34,26 +34,26 @@ use Rattle.sessions.proofs.Numbered.Laws as R′
 use Rattle.sessions.proofs.Laws.Walks.{beside, first-owned}
 
 -- ---- a declared type, with its laws
-pub record Kind : Type 2 where
+pub record DeclaredType : Type 2 where
   pub type : Declared
   pub laws : LL.Laws type
 
-abbrev pub Row : Kind → RattleType
+abbrev pub Row : DeclaredType → RattleType
 Row k = row (k .type)
 
-abbrev pub val : (k : Kind) → k .type .D → Val
+abbrev pub val : (k : DeclaredType) → k .type .D → Val
 val k = LL.val (k .type) (k .laws)
 
-abbrev pub Good : (k : Kind) → k .type .D → Type 0
+abbrev pub Good : (k : DeclaredType) → k .type .D → Type 0
 Good k x = Is (Row k) x (val k x ∷ [])
 
-pub tells : (k : Kind) → Tells (Row k) (Is (Row k)) (λ x. val k x ∷ [])
+pub tells : (k : DeclaredType) → Tells (Row k) (Is (Row k)) (λ x. val k x ∷ [])
 tells k = LL.tells (k .type) (k .laws)
 
-abbrev pub state : Kind
+abbrev pub state : DeclaredType
 state = record { type = S.the-type; laws = S′.the-laws }
 
-abbrev pub numbered : Kind
+abbrev pub numbered : DeclaredType
 numbered = record { type = R.the-type; laws = R′.the-laws }
 
 -- over a lifetime κ, named ℓ: `named 0` in a signature, `erased` in a local's type
@@ -61,16 +61,16 @@ module _ (ℓ : Lifetime) (κ : Lft) where
   abbrev α : NamedLft
   α = record { mir = ℓ; lft = κ }
 
-  abbrev pub sessionAt : Kind
+  abbrev pub sessionAt : DeclaredType
   sessionAt = record { type = T.the-type α; laws = T′.the-laws α }
 
-  abbrev pub answerAt : Kind
+  abbrev pub answerAt : DeclaredType
   answerAt = record { type = N.the-type α; laws = N′.the-laws α }
 
-abbrev pub session : Lft → Kind
+abbrev pub session : Lft → DeclaredType
 session = sessionAt (named 0)
 
-abbrev pub answer : Lft → Kind
+abbrev pub answer : Lft → DeclaredType
 answer = answerAt (named 0)
 
 -- ---- the tape's reference
@@ -94,8 +94,8 @@ GoodNumber n = Is u32 n (vint w32 n ∷ [])
 pub numbered-parts : (t : Numbered) → Good numbered t → Good state (t .state) × GoodNumber (t .number)
 numbered-parts t is = let parts = LL.owed R.the-type R′.the-laws t _ is in (parts .0, parts .1 .0)
 
-abbrev pub answered : RefT (List ℕ) → Numbered → SessionAnswer
-answered r t = record { session = record { tape = r; state = t .state }; number = t .number }
+abbrev pub answerOf : RefT (List ℕ) → Numbered → SessionAnswer
+answerOf r t = record { session = record { tape = r; state = t .state }; number = t .number }
 
 module _ (κ : Lft) where
   pub session-parts : (d : Session) → Good (session κ) d → GoodTape κ (d .tape) × Good state (d .state)
@@ -104,14 +104,14 @@ module _ (κ : Lft) where
   pub answer-parts : (a : SessionAnswer) → Good (answer κ) a → Good (session κ) (a .session) × GoodNumber (a .number)
   answer-parts a is = let parts = LL.owed (answer κ .type) (answer κ .laws) a _ is in (parts .0, parts .1 .0)
 
-  pub answer-is : (r : RefT (List ℕ)) (t : Numbered) → GoodTape κ r → Good numbered t → Good (answer κ) (answered r t)
+  pub answer-is : (r : RefT (List ℕ)) (t : Numbered) → GoodTape κ r → Good numbered t → Good (answer κ) (answerOf r t)
   answer-is r t is-r is-t =
-      let parts = numbered-parts t is-t in let a = answered r t in
+      let parts = numbered-parts t is-t in let a = answerOf r t in
       LL.owes (answer κ .type) (answer κ .laws) a (LL.owes (session κ .type) (session κ .laws) (a .session) (is-r, (parts .0, tt)), (parts .1, tt))
 
 module _ {M : Type 1} (𝓤 : URA M) (H : Heap 𝓤) (A : Atoms 𝓤) (W : Given 𝓤 H A) where
   -- ---- what a local can hold
-  pub typed : (k : Kind) (x : k .type .D) → Good k x → Typed (Row k .mir) (val k x ∷ [])
+  pub typed : (k : DeclaredType) (x : k .type .D) → Good k x → Typed (Row k .mir) (val k x ∷ [])
   typed k x is = LL.lawful (k .type) (k .laws) 𝓤 H A W .typed x _ is
 
   pub tape-typed : (ℓ : Lifetime) (κ : Lft) (r : RefT (List ℕ)) → GoodTape κ r → Typed (ShrSlice ℓ κ u32 .mir) (tapeVal r ∷ [])
@@ -121,7 +121,7 @@ module _ {M : Type 1} (𝓤 : URA M) (H : Heap 𝓤) (A : Atoms 𝓤) (W : Given
   pub state-makes : Makes 𝓤 H A (Row state) (Is (Row state))
   state-makes = LL.makes S.the-type S′.the-plain 𝓤 H A
 
-  abbrev Owns : (k : Kind) → k .type .D → SProp 𝓤
+  abbrev Owns : (k : DeclaredType) → k .type .D → SProp 𝓤
   Owns k x = sem 𝓤 H A (Row k .own x (val k x ∷ []))
 
   module _ (κ : Lft) where

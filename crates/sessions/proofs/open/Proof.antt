@@ -34,7 +34,7 @@ use Rattle.sequencer.specs.declared.State.{State}
 use Rattle.sequencer.proofs.Laws.Sessions.{held-by-number}
 use Rattle.sessions.specs.declared.Numbered.{Numbered}
 use Rattle.sessions.proofs.Laws.Walks.{shown, also, and-fact, begins, copies, part, sets, lands-in, beside, doubled, calls-told, frees-all, Walked, ends, proved}
-use Rattle.sessions.proofs.Laws.Types.{Row, val, Good, tells, state, numbered, sessionAt, session, answer, TapeRow, tapeVal, GoodTape, tape-tells, numbered-parts, answered, answer-parts, answer-is, typed, tape-typed, state-makes, answer-owned}
+use Rattle.sessions.proofs.Laws.Types.{Row, val, Good, tells, state, numbered, sessionAt, session, answer, TapeRow, tapeVal, GoodTape, tape-tells, numbered-parts, answerOf, answer-parts, answer-is, typed, tape-typed, state-makes, answer-owned}
 use Rattle.sessions.proofs.state_opened as so
 use Rattle.sessions.proofs.state_opened.Symbol as so-def
 use Rattle.sessions.proofs.state_opened.Symbol.{name as #state-opened}
@@ -89,7 +89,7 @@ module _ {M : Type 1} (𝓤 : URA M) (H : Heap 𝓤) (A : Atoms 𝓤) (mem : Mem
         move ! (1 ∷ []) $ beside ! (u32 ∷ []) (uint-makes 𝓤 H A W w32, tt) (t .number, tt) (vint w32 (t .number) ∷ [], tt) (numbered-parts t is-t .1, tt) $ move ! (1 ∷ 0 ∷ []) $ join ! $
         calls-told W th.ended (th.clauses 𝓤 H A mem run) (at-held t) ! fm known-tape (id⊢ 𝓤 _) tapeVal (tape-tells κ) (Held (now s) t) (λ r e. id⊢ 𝓤 _)
         (and-then ! (copies ! 9 refl) (and-then ! (part ! 5 1 refl refl refl) (no-more !))) (λ r held is-r.
-        let a = answered r t in let is-a = answer-is κ r t is-r is-t in
+        let a = answerOf r t in let is-a = answer-is κ r t is-r is-t in
         -- [what the part owns; the token; _5; …; room for _4; …; _3; …; _2; …; _1; …; room for _0; …]
         lands-in ! 4 refl (tape-typed 𝓤 H A W erased κ r is-r .0) $ use1 W (‵ (Row (answer κ) .own a (val (answer κ) a ∷ []))) (answer-owned 𝓤 H A W κ a is-a) $ move ! (1 ∷ 0 ∷ []) $
         sets ! (agg ! (and-then ! (copies ! 4 refl) (and-then ! (part ! 6 0 refl refl refl) (no-more !)))) 2 refl (typed 𝓤 H A W (sessionAt erased κ) (a .session) (answer-parts κ a is-a .0) .0) $

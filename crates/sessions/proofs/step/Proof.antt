@@ -31,7 +31,7 @@ use Rattle.sequencer.specs.Sessions.{stepOutcome}
 use Rattle.sessions.specs.declared.Session.{Session}
 use Rattle.sessions.specs.declared.Numbered.{Numbered}
 use Rattle.sessions.proofs.Laws.Walks.{shown, also, and-fact, begins, copies, part, sets, lands-in, beside, doubled, calls-told, frees-all, Walked, ends, proved}
-use Rattle.sessions.proofs.Laws.Types.{Row, val, Good, tells, state, numbered, sessionAt, session, answer, TapeRow, tapeVal, answered, session-parts, answer-parts, answer-is, typed, tape-typed, state-makes, tape-owned, answer-owned}
+use Rattle.sessions.proofs.Laws.Types.{Row, val, Good, tells, state, numbered, sessionAt, session, answer, TapeRow, tapeVal, answerOf, session-parts, answer-parts, answer-is, typed, tape-typed, state-makes, tape-owned, answer-owned}
 use Rattle.sessions.proofs.state_stepped as ss
 use Rattle.sessions.proofs.state_stepped.Symbol as ss-def
 use Rattle.sessions.proofs.state_stepped.Symbol.{name as #state-stepped}
@@ -76,7 +76,7 @@ module _ {M : Type 1} (𝓤 : URA M) (H : Heap 𝓤) (A : Atoms 𝓤) (mem : Mem
         beside ! (Row state ∷ bool ∷ []) (state-makes 𝓤 H A W, (bool-makes 𝓤 H A W, tt)) (d .state, (f, tt)) (val state (d .state) ∷ [], (vbool f ∷ [], tt)) (fields .1, (refl, tt)) $ move ! (18 ∷ 0 ∷ []) $ join ! $
         calls-told W ss.ended (ss.clauses 𝓤 H A mem run) at-state ! fm known (id⊢ 𝓤 _) (val numbered) (tells numbered) (Stepped d f) (λ t e. and-fact 𝓤 H A _ _ (id⊢ 𝓤 _) (id⊢ 𝓤 _))
         (and-then ! (copies ! 8 refl) (and-then ! (copies ! 6 refl) (and-then ! (copies ! 12 refl) (no-more !)))) (λ t stepped is-t. drop ! $
-        let a = answered (d .tape) t in let is-a = answer-is κ (d .tape) t (fields .0) is-t in
+        let a = answerOf (d .tape) t in let is-a = answer-is κ (d .tape) t (fields .0) is-t in
         -- [the token; what tape owns; _7; …; _6; …; _5; …; _4; …; room for _3; …; _2; …; _1; …; room for _0; …]
         lands-in ! 10 refl (typed 𝓤 H A W numbered t is-t .0) $ move ! (1 ∷ []) $ use1 W (‵ (Row (answer κ) .own a (val (answer κ) a ∷ []))) (answer-owned 𝓤 H A W κ a is-a) $ move ! (1 ∷ 0 ∷ []) $
         sets ! (of-opd ! (part ! 14 0 refl refl refl)) 4 refl fits $

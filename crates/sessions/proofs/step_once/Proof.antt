@@ -36,7 +36,7 @@ use Rattle.sessions.specs.declared.SteppedOnce.{SteppedOnce}
 use Rattle.sessions.proofs.SteppedOnce as O
 use Rattle.sessions.proofs.SteppedOnce.Laws as O′
 use Rattle.sessions.proofs.Laws.Walks.{shown, also, and-fact, begins, copies, part, sets, lands-in, beside, calls-told, frees-all, Walked, ends, proved}
-use Rattle.sessions.proofs.Laws.Types.{Kind, Row, val, Good, tells, state, sessionAt, session, answerAt, answer, tapeVal, GoodTape, tape-tells, session-parts, answer-parts, typed, tape-typed, state-makes, session-owned}
+use Rattle.sessions.proofs.Laws.Types.{DeclaredType, Row, val, Good, tells, state, sessionAt, session, answerAt, answer, tapeVal, GoodTape, tape-tells, session-parts, answer-parts, typed, tape-typed, state-makes, session-owned}
 use Rattle.sessions.proofs.open as opening
 use Rattle.sessions.proofs.open.Symbol as opening-def
 use Rattle.sessions.proofs.open.Symbol.{name as #open}
@@ -67,7 +67,7 @@ outcome-is s d f a e = λ i. stepOutcome (e .0 i) (e .1 .0 i) f
 abbrev once : SessionAnswer → SessionAnswer → SteppedOnce
 once a b = record { opened = a .number; stepped = b .number; state = b .session .state }
 
-abbrev steppedOnce : Kind
+abbrev steppedOnce : DeclaredType
 steppedOnce = record { type = O.the-type; laws = O′.the-laws }
 
 module _ {M : Type 1} (𝓤 : URA M) (H : Heap 𝓤) (A : Atoms 𝓤) (mem : Memory → SProp 𝓤) (run : Routine → Fun 𝓤) where
