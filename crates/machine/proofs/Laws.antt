@@ -5,6 +5,7 @@ pub mod Carried
 pub mod Lists
 pub mod Actions
 pub mod Ways
+pub mod Counts
 pub mod Integers
 pub mod Exponents
 pub mod Orders

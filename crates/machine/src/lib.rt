@@ -23,3 +23,10 @@ pub enum ExponentsAnswer {
     Answered(Exponents),
     Refused(Refusal),
 }
+
+// How many of some steps are mul, div and swp.
+pub struct Counts {
+    pub mul: u32,
+    pub div: u32,
+    pub swp: u32,
+}

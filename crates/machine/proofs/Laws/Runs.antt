@@ -59,9 +59,6 @@ module _ (p : ℕ) (pr : Prime p) (xs : List Step) (a : AllSound xs) where
       ∙ ap (doAll p (take k xs)) (undo-do p pr (take j xs) w (sound-take j xs a) gw)
       ∙ sym (run-form i k v g)
 
-  pub run-stay : (i : ℕ) (v : List ℕ) → Residues p v → run p xs i i v ≡ v
-  run-stay i v g = run-form i i v g ∙ do-undo p pr (take i xs) v (sound-take i xs a) g
-
   -- end to end
   pub run-forward : (v : List ℕ) → Residues p v → run p xs 0 (length xs) v ≡ doAll p xs v
   unfolding undoAll

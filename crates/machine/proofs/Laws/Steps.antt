@@ -5,7 +5,7 @@ use mathlib.Core.List.{List, [], _∷_, _++_, append-nil, append-assoc}
 use Prim.Native.Nat.{ℕ, zero, suc, _-_, _<_}
 use native.Mathlib.Omega.{arith}
 use native.Mathlib.Decide.{ℕ-discrete}
-use lib.ListN.{length, set, length-set}
+use lib.ListN.{length, set, length-append, length-set}
 use lib.Seq.{getD-set-same, getD-set-other}
 use Rattle.modular.specs.Primes.{Prime}
 use Rattle.modular.specs.Residues.{Residue, times}
@@ -55,6 +55,11 @@ unfolding inverted
 inverted-append [] ys = sym (append-nil (inverted ys))
 inverted-append (x ∷ xs) ys =
     ap (λ (l : List Step). l ++ inverseStep x ∷ []) (inverted-append xs ys) ∙ append-assoc (inverted ys) (inverted xs) (inverseStep x ∷ [])
+
+pub length-inverted : (xs : List Step) → length (inverted xs) ≡ length xs
+unfolding inverted
+length-inverted [] = refl
+length-inverted (x ∷ xs) = length-append (inverted xs) (inverseStep x ∷ []) ∙ omega (arith, length-inverted xs)
 
 -- ---- lists of steps in two parts
 

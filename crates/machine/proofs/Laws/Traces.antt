@@ -3,14 +3,13 @@
 use mathlib.Core.Path.{_≡_, refl, sym, ap, ap₂, _∙_}
 use mathlib.Core.Bool.{true, false, _&&_, true≢false}
 use mathlib.Core.List.{List, _∷_}
-use Prim.Native.Nat.{ℕ, suc, _+_, _≤_, _<_}
-use native.Mathlib.Omega.{arith}
+use Prim.Native.Nat.{ℕ, _+_, _≤_, _<_}
 use lib.IntN.{ℤ}
 use lib.ListN.{length, getD, drop, drop-of-length-le}
-use lib.Seq.{drop-cons}
 use Rattle.refusal.proofs.Laws.Tests.{test-false}
 use Rattle.tape.specs.declared.Step.{Step}
 use Rattle.machine.specs.Exponents.{shift, shiftAll, allInRange, staysInRange, makesInRange, shiftInRange}
+use Rattle.machine.proofs.Laws.Lists.{drop-next}
 use Rattle.machine.proofs.Laws.Ranges.{stays-first}
 use Rattle.machine.proofs.Laws.Sums.{step-range}
 
@@ -32,9 +31,7 @@ module _ {xs : List Step} {z : List ℤ} where
 
   module _ (i : ℕ) (x other : Step) (w : List ℤ) (at : x ≡ getD xs i other) (h : i < length xs) (l : RestOfTrace xs z (drop i xs) w) where
     from-there : drop i xs ≡ x ∷ drop (i + 1) xs
-    from-there =
-        let next : suc i ≡ i + 1 = omega arith in
-        drop-cons xs i other h ∙ ap₂ (λ (y : Step) (n : ℕ). y ∷ drop n xs) (sym at) next
+    from-there = drop-next xs i x other at h
 
     stays-on : (allInRange w && staysInRange (drop (i + 1) xs) (shift x w)) ≡ staysInRange xs z
     unfolding staysInRange

@@ -10,16 +10,12 @@ use Rattle.fibonacci.specs.Services.{lastPlace}
 use Rattle.fibonacci.proofs.Laws.Forms.{pad-length, ones-pad}
 use Rattle.tape.specs.declared.Step.{Step}
 use Rattle.tape.specs.declared.Step.the-variants.{Mul, Swp}
-use Rattle.machine.specs.Machine.{inverseStep, inverted}
+use Rattle.machine.specs.Machine.{inverted}
+use Rattle.machine.proofs.Laws.Steps.{length-inverted}
 use Rattle.named.specs.declared.Figure.{Figure}
 use Rattle.named.specs.declared.Figure.the-variants.{Two, Four, Six}
 use Rattle.named.specs.Generators.{select, lowest, higher, ascend, chain, downSteps, descend, basic, dual, hybrid, Forms, lone, drawn, generated, stepsFrom}
 use Rattle.named.specs.Promises.{Alone, FormsFit}
-
-length-back : (xs : List Step) → length (inverted xs) ≡ length xs
-unfolding inverted
-length-back [] = refl
-length-back (x ∷ xs) = length-append (inverted xs) (inverseStep x ∷ []) ∙ omega (arith, length-back xs)
 
 select-length : (b : Bool) (x : Step) (xs : List Step) → length (select b x xs) ≡ cond b 1 0 + length xs
 select-length true x xs = omega arith
@@ -73,17 +69,17 @@ drawn-count Two ks ts Ks Ts h H e E =
       arith,
       ascend-length ks [] (omega arith),
       ascend-length Ks [] (omega arith),
-      length-back (chain (length ks)),
-      length-back (ascend Ks []),
+      length-inverted (chain (length ks)),
+      length-inverted (ascend Ks []),
       chain-length (length ks),
       chain-length (length Ks),
     ))
 drawn-count Four ss ts Ss Ts h H e E =
     length-append (ascend ss ts) _
-    ∙ omega (arith, ascend-length ss ts h, ascend-length Ss Ts H, length-back (ascend Ss Ts))
+    ∙ omega (arith, ascend-length ss ts h, ascend-length Ss Ts H, length-inverted (ascend Ss Ts))
 drawn-count Six vs ts Ks Ts h H e E =
     ap suc (length-append (descend vs) _)
-    ∙ rw (e, E) (omega (arith, descend-length vs, ascend-length Ks [] (omega arith), length-back (ascend Ks [])))
+    ∙ rw (e, E) (omega (arith, descend-length vs, ascend-length Ks [] (omega arith), length-inverted (ascend Ks [])))
 
 pub generated-count : (f : Forms) → FormsFit f
     → length (generated f) ≡ stepsFrom (f .figure) (length (f .first)) (length (f .last)) (ones (f .first) + ones (f .beside) + ones (f .last) + ones (f .besideLast))

@@ -23,13 +23,17 @@ unfolding outcome
 refused-by true e x a = (refl, cc)
 refused-by false e x a = let z : _≡_ {A = ℕ} 0 1 = cc in absurd (omega arith)
 
+-- an answer that is made of another, by the same rules
+pub made-of : {A B : Type 0} (f : A → B) (x : A) (rules : List Rule) → outcome rules (f x) ≡ andThen (outcome rules x) (λ z. answered (f z))
+unfolding outcome
+made-of f x [] = refl
+made-of f x ((e given-if true) ∷ rules) = refl
+made-of f x ((e given-if false) ∷ rules) = made-of f x rules
+
 module _ {A B : Type 0} (x : A) (y : B) where
   -- the same rules with another answer
   alone : (rules : List Rule) → outcome rules y ≡ andThen (outcome rules x) (λ z. answered y)
-  unfolding outcome
-  alone [] = refl
-  alone ((e given-if true) ∷ rules) = refl
-  alone ((e given-if false) ∷ rules) = alone rules
+  alone = made-of (λ z. y) x
 
   -- rules behind others
   pub behind : (front more : List Rule) → outcome (front ++ more) y ≡ andThen (outcome front x) (λ z. outcome more y)

@@ -5,9 +5,10 @@ use mathlib.Core.Bool.{true, false, _&&_, and-false}
 use mathlib.Core.List.{List, [], _∷_, map}
 use Prim.Native.Nat.{ℕ, zero, suc, _+_, _-_, _≤_, _<_}
 use native.Mathlib.Omega.{arith}
+use native.Mathlib.Decide.{decLt}
 use lib.Dec.{leb, eqb}
 use lib.ListN.{length, getD, take, drop, length-map, length-take, length-drop, drop-of-length-le, List·getD-eq-default, List·getD-map}
-use lib.Seq.{slice, drop-cons, take-nil, drop-nil}
+use lib.Seq.{slice, length-slice, drop-cons, take-nil, drop-nil}
 use borrow.Author.Tests.{le-leb, lt-leb, eqb-true}
 use Rattle.tape.specs.declared.Step.{Step}
 use Rattle.tape.specs.declared.Decoded.the-variants.{Bad}
@@ -99,6 +100,16 @@ module _ (row : List ℕ) (begin end : ℕ) where
   pub part-inside : begin ≤ end → end ≤ length row → part row begin end ≡ slice begin end row
   unfolding part
   part-inside h k = rw (le-leb begin end h, le-leb end (length row) k)
+
+pub part-length : (row : List ℕ) (begin end : ℕ) → length (part row begin end) ≤ length row
+part-length row begin end =
+    elim (decLt end begin) [
+      | yes h ↦ rw (part-reversed row begin end h) (omega arith)
+      | no h ↦ elim (decLt (length row) end) [
+        | yes k ↦ rw (part-past row begin end k) (omega arith)
+        | no k ↦ let inside : end ≤ length row = omega arith in rw (part-inside row begin end (omega arith) inside, length-slice begin end row inside) (omega arith)
+      ]
+    ]
 
 -- a slice, taken from its beginning on
 pub slice-from : (f t : ℕ) (l : List ℕ) → slice f t l ≡ take (t - f) (drop f l)
