@@ -1,4 +1,4 @@
--- Load, run, trace, table and cut by cases, what their answers say, forward, rows of bases, sessions, and demand 3.
+-- Load, run, trace, table and cut by cases, what their answers say, forward, rows of bases, sessions, previews, and demand 3.
 pub mod Cases
 pub mod Positions
 pub mod Requests
@@ -6,6 +6,7 @@ pub mod Answers
 pub mod Forward
 pub mod Bases
 pub mod Sessions
+pub mod Previews
 pub mod Chains
 pub mod Rewinds
 pub mod Tracing

@@ -54,6 +54,10 @@ abbrev pub heldRecord : Outcome Record → Record
 heldRecord (refused n) = refusedRecord
 heldRecord (answered s) = s
 
--- a step of the session that is opened on a tape and a record
+-- a service on what the session holds that is opened on a tape and a record
+abbrev pub onSession : {A : Type 0} → List ℕ → Record → (List ℕ → Record → Outcome A) → Outcome A
+onSession tape s service = let o = openOutcome tape s in service (heldTape o tape) (heldRecord o)
+
+-- a step of it
 unfoldable pub sessionOutcome : List ℕ → Record → Bool → Outcome Record
-sessionOutcome tape s backward = let o = openOutcome tape s in stepOutcome (heldTape o tape) (heldRecord o) backward
+sessionOutcome tape s backward = onSession tape s (λ t r. stepOutcome t r backward)

@@ -45,9 +45,7 @@ run-steps-requires c κs =
     let accept = tested .before .before .before .before .pre in
     let long = ap length (c .steps .ensures) ∙ words-are _ _ accept in
     record {
-      are-steps = ap allSteps (c .steps .ensures) ∙ words-steps _ _ accept;
-      from-inside = omega arith;
-      goal-inside = omega arith;
+      inside = record { are-steps = ap allSteps (c .steps .ensures) ∙ words-steps _ _ accept; from-inside = omega arith; goal-inside = omega arith };
       prime = modulus-prime _ _ accept;
       odd = modulus-odd _ _ accept;
       residues = residues-registers _ _ _ _ _ (sym (tested .before .is-some-bad .ensures) ∙ tested .if1 .left);

@@ -30,12 +30,12 @@ returns c =
     let v : List ℕ = valuesOf (given .registers) in
     let undone : Bool = ltb (given .to) (given .from) in
     let steps : rawSteps (part .between .result .now) ≡ stepsIn (between words (given .from) (given .to)) =
-    ap rawSteps (part .between .ensures) ∙ between-raw words (start .pre .are-steps) (given .from) (given .to) (start .pre .from-inside) (start .pre .goal-inside) in
+    ap rawSteps (part .between .ensures) ∙ between-raw words (start .pre .inside .are-steps) (given .from) (given .to) (start .pre .inside .from-inside) (start .pre .inside .goal-inside) in
     c .registers-of .ensures
     ∙ run-in-forms _ _ (start .pre .prime) (start .pre .odd) (omega arith) (made .modulus-of .ensures) _ _ v _ _ _
     (directed-sound undone (between words (given .from) (given .to))) (start .pre .residues) (forms .forms-of .ensures) (beside .inverses .ensures)
     (ap (directedSteps undone) steps) (done .do-steps .ensures .0)
-    ∙ run-between words (given .p) v (given .from) (given .to) (start .pre .from-inside) (start .pre .goal-inside)
+    ∙ run-between words (given .p) v (given .from) (given .to) (start .pre .inside .from-inside) (start .pre .inside .goal-inside)
 
 pub run-steps-spec : {M : Type 1} → statement M
 run-steps-spec =

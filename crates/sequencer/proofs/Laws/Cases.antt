@@ -28,7 +28,7 @@ use Rattle.program.proofs.Laws.Door.{tape-accepted}
 use Rattle.sequencer.specs.Records.{Record}
 use Rattle.sequencer.specs.Services.{badRegister, badRegisters, allowed, badBase, badCut, baseRules, startRecord, goalRules, recordAt, traceRules, cutRules, loadOutcome, runOutcome, traceOutcome, cutOutcome, cutPart}
 use Rattle.sequencer.specs.Tables.{tableRules, tableOutcome}
-use Rattle.sequencer.proofs.Laws.Positions.{part-steps, part-raw}
+use Rattle.sequencer.proofs.Laws.Positions.{raw-part}
 
 -- ---- the tests
 
@@ -112,7 +112,7 @@ module _ (tape : List ℕ) (h : Header) (e : acceptOutcome tape ≡ answered h) 
   raw-until position inside =
       let words = stepWordsOf tape in
       let within : position ≤ length words = omega (arith, words-are) in
-      part-raw words words-steps 0 position (omega arith) within ∙ part-steps words 0 position (omega arith) within
+      raw-part words words-steps 0 position (omega arith) within
 
   -- their own rules are left
   pub load-rules : (a : ℕ) → loadOutcome tape a ≡ outcome (baseRules h a) (startRecord a)

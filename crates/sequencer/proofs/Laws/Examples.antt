@@ -1,5 +1,5 @@
--- Chains and rewinds exist: for each a list of runs, forward, backward and refused, computed from the definitions. Steps and sessions, what
--- they come to. And rows of bases, what is answered and what they are afterwards.
+-- Chains and rewinds exist: for each a list of runs, forward, backward and refused, computed from the definitions. Steps, sessions and
+-- previews, what they come to. And rows of bases, what is answered and what they are afterwards.
 use mathlib.Core.Path.{_≡_, refl}
 use mathlib.Core.Logic.{inl, inr}
 use mathlib.Core.Bool.{true, false}
@@ -19,6 +19,7 @@ use Rattle.tape.specs.declared.Step.the-variants.{Mul, Div, Swp}
 use Rattle.tape.specs.Words.{headingIn, actionIn, swapIn, decoded, stepWord, encoded}
 use Rattle.tape.specs.Layout.{part, isLength, isHeader, isFreeOrNamed, allSteps, isEnd, laidOut, programWords}
 use Rattle.machine.specs.Machine.{apply, inverseStep, doAll, undoAll, run, inverted}
+use Rattle.machine.specs.Ways.{way, countWhere, isMul, isDiv, isSwp, countsOf}
 use Rattle.machine.proofs.Laws.Steps.{residues-four}
 use Rattle.named.specs.Generators.{ascend, descend, basic, dual, hybrid, drawn}
 use Rattle.named.specs.Named.{basicForms, dualForms, hybridForms, formsIn, namedSteps, namedWords}
@@ -29,6 +30,7 @@ use Rattle.program.specs.Door.{onTape}
 use Rattle.sequencer.specs.Records.{Record}
 use Rattle.sequencer.specs.Services.{badRegister, badRegisters, allowed, badBase, baseRules, startRecord, recordRules, goalRules, loadOutcome, runOutcome, forwardOutcome}
 use Rattle.sequencer.specs.Sessions.{neighbour, pastEnd, stepRules, stepOutcome, openOutcome, sessionOutcome}
+use Rattle.sequencer.specs.Previews.{Shown, previewOutcome, sessionPreview}
 use Rattle.sequencer.specs.Bases.{rowRules, raiseRules, raised, onRow, raiseOutcome, raisedBases}
 use Rattle.sequencer.specs.Lists.{none, to, Request, afterAll, numbersAll, performed, requestsOf}
 use Rattle.sequencer.specs.Demand.{AllEndToEnd, TurnedOrRefused, Chain, NoTurns, Returns, Rewind}
@@ -196,6 +198,31 @@ pub sessions-step : (stepOutcome by-hand (at 2 4 5 0) false ≡ answered (at 2 5
     × (sessionOutcome by-hand (at 5 2 4 4) true ≡ refused 6)
 unfolding programWords encoded stepWord decoded headingIn actionIn swapIn outcome checkRules isLength isHeader isFreeOrNamed allSteps isEnd laidOut badModulus isPrime greatest badRegister badRegisters onTape recordRules run doAll undoAll apply inverseStep times remainder inverse neighbour pastEnd stepRules stepOutcome openOutcome sessionOutcome
 sessions-step = (refl, refl, refl, refl, refl, refl, refl, refl, refl, refl, refl)
+
+-- ---- previews on that program
+
+abbrev shows : ℕ → ℕ → ℕ → List ℕ → Outcome Shown
+shows c e f counts = answered (record { registers = c ∷ 3 ∷ e ∷ f ∷ []; counts = counts })
+
+-- In order: forward, mul and swp; backward, where the mul counts as a div; the div, done, and undone, where it counts as a mul; from one end
+-- to the other; here, at both ends and inside; a goal above the step count, and a record; a register that is 0 comes before a position; the
+-- empty tape; a session that is opened, and one that is refused.
+pub previews-show : (previewOutcome by-hand (at 2 4 5 0) 2 ≡ shows 5 2 5 (1 ∷ 0 ∷ 1 ∷ []))
+    × (previewOutcome by-hand (at 5 2 5 2) 0 ≡ shows 2 4 5 (0 ∷ 1 ∷ 1 ∷ []))
+    × (previewOutcome by-hand (at 5 2 5 2) 3 ≡ shows 5 2 4 (0 ∷ 1 ∷ 0 ∷ []))
+    × (previewOutcome by-hand (at 5 2 4 3) 2 ≡ shows 5 2 5 (1 ∷ 0 ∷ 0 ∷ []))
+    × (previewOutcome by-hand (at 5 2 4 3) 0 ≡ shows 2 4 5 (1 ∷ 1 ∷ 1 ∷ []))
+    × (previewOutcome by-hand (at 2 4 5 0) 0 ≡ shows 2 4 5 (0 ∷ 0 ∷ 0 ∷ []))
+    × (previewOutcome by-hand (at 2 5 5 1) 1 ≡ shows 2 5 5 (0 ∷ 0 ∷ 0 ∷ []))
+    × (previewOutcome by-hand (at 5 2 4 3) 3 ≡ shows 5 2 4 (0 ∷ 0 ∷ 0 ∷ []))
+    × (previewOutcome by-hand (at 5 2 4 3) 4 ≡ refused 10)
+    × (previewOutcome by-hand (at 5 2 4 4) 3 ≡ refused 10)
+    × (previewOutcome by-hand (at 0 2 4 4) 4 ≡ refused 9)
+    × (previewOutcome [] (at 0 2 4 4) 4 ≡ refused 6)
+    × (sessionPreview by-hand (at 2 5 5 1) 0 ≡ shows 2 4 5 (0 ∷ 1 ∷ 0 ∷ []))
+    × (sessionPreview by-hand (at 5 2 4 4) 0 ≡ refused 6)
+unfolding programWords encoded stepWord decoded headingIn actionIn swapIn outcome checkRules isLength isHeader isFreeOrNamed allSteps isEnd laidOut badModulus isPrime greatest badRegister badRegisters onTape recordRules goalRules run doAll undoAll apply inverseStep times remainder inverse way inverted countsOf countWhere isMul isDiv isSwp openOutcome previewOutcome sessionPreview
+previews-show = (refl, refl, refl, refl, refl, refl, refl, refl, refl, refl, refl, refl, refl, refl)
 
 -- ---- rows of bases
 

@@ -21,7 +21,7 @@ use Rattle.machine.proofs.Laws.Steps.{sound-inverted, do-inverted}
 use Rattle.sequencer.specs.Inner.Runs.{between}
 
 -- the steps in a part of the words
-pub part-steps : (words : List ℕ) (i j : ℕ) → i ≤ j → j ≤ length words → stepsIn (part words i j) ≡ slice i j (stepsIn words)
+part-steps : (words : List ℕ) (i j : ℕ) → i ≤ j → j ≤ length words → stepsIn (part words i j) ≡ slice i j (stepsIn words)
 part-steps words i j order inside = ap stepsIn (part-inside words i j order inside) ∙ map-slice _ i j words
 
 -- those between two positions, in the direction of the second, are the run
@@ -38,12 +38,11 @@ run-between words p v i j from-inside goal-inside =
 
 -- they are the steps that the words have in their digits, where all words are steps, and sound
 module _ (words : List ℕ) (are : allSteps words ≡ true) where
-  pub part-raw : (i j : ℕ) → i ≤ j → j ≤ length words → rawSteps (part words i j) ≡ stepsIn (part words i j)
-  part-raw i j order inside =
-      ap rawSteps (part-inside words i j order inside)
-      ∙ map-slice _ i j words
-      ∙ ap (slice i j) (raw-steps words are)
-      ∙ sym (part-steps words i j order inside)
+  pub raw-part : (i j : ℕ) → i ≤ j → j ≤ length words → rawSteps (part words i j) ≡ slice i j (stepsIn words)
+  raw-part i j order inside = ap rawSteps (part-inside words i j order inside) ∙ map-slice _ i j words ∙ ap (slice i j) (raw-steps words are)
+
+  part-raw : (i j : ℕ) → i ≤ j → j ≤ length words → rawSteps (part words i j) ≡ stepsIn (part words i j)
+  part-raw i j order inside = raw-part i j order inside ∙ sym (part-steps words i j order inside)
 
   pub between-raw : (i j : ℕ) → i ≤ length words → j ≤ length words → rawSteps (between words i j) ≡ stepsIn (between words i j)
   unfolding between

@@ -10,7 +10,8 @@ use Rattle.modular.specs.Primes.{Prime}
 use Rattle.tape.specs.declared.Step.{Step}
 use Rattle.tape.specs.Layout.{headerOf, stepsOf}
 use Rattle.machine.specs.Machine.{run, Residues}
-use Rattle.machine.proofs.Laws.Runs.{run-residues, run-compose, run-stay}
+use Rattle.machine.proofs.Laws.Runs.{run-residues, run-compose}
+use Rattle.machine.proofs.Laws.Ways.{run-here}
 use Rattle.sequencer.specs.Records.{Record}
 use Rattle.sequencer.specs.Services.{recordAt}
 use Rattle.sequencer.specs.Lists.{Turn, none, turned, Request, given, answerTo, afterAll, numbersAll, unlessRefused, performed}
@@ -54,7 +55,7 @@ module _ (tape : List ℕ) (home : ℕ) (pr : Prime (headerOf tape .modulus)) wh
   unfolding afterAll performed NoTurns Returns
   from-there [] s g straight e =
       ap₂ (λ (v : List ℕ) (i : ℕ). record { registers = v; position = i })
-      (sym (run-stay p pr xs (steps-sound tape) (s .position) (s .registers) g) ∙ ap (λ (j : ℕ). run p xs (s .position) j (s .registers)) e) e
+      (sym (run-here p xs (s .position) (s .registers)) ∙ ap (λ (j : ℕ). run p xs (s .position) j (s .registers)) e) e
   from-there (q ∷ qs) s g straight h = go (answerTo q s) refl (λ t residues. from-there qs t residues (straight .1)) h
     where
       same : given q s ≡ s
@@ -86,5 +87,5 @@ rewind-ends qs s row tape h =
       each-as-said qs s row,
       from-there tape (s .position) pr qs s (h .registers) (h .no-turns) (h .returns)
           ∙ ap (λ (v : List ℕ). record { registers = v; position = s .position })
-          (run-stay (headerOf tape .modulus) pr (stepsOf tape) (steps-sound tape) (s .position) (s .registers) (h .registers)),
+          (run-here (headerOf tape .modulus) (stepsOf tape) (s .position) (s .registers)),
     )

@@ -119,7 +119,8 @@ module _ (tape : List ℕ) (s : Record) where
 
   -- ---- opening
 
-  stands : {t : Record} → openOutcome tape s ≡ answered t → runOutcome tape s position ≡ answered (recordAt (headerOf tape) (stepsOf tape) s position)
+  -- a run to where the record stands is answered where opening is
+  pub stands : {t : Record} → openOutcome tape s ≡ answered t → runOutcome tape s position ≡ answered (recordAt (headerOf tape) (stepsOf tape) s position)
   stands e = run-opens position ∙ rw e (passes _ _ _ (le-ltb steps position (inside e)) ∙ answers _)
 
   -- it is refused as run to where the record stands, and else the record is as it was
@@ -149,6 +150,11 @@ module _ (tape : List ℕ) (s : Record) where
       go (refused n) some = rw (ne-eqb n 0 (λ e. omega (arith, some n refl))) refl
       go (answered t) some = refl
 
+  -- opening's number tells that it passes
+  pub opened : refusalNumber (openOutcome tape s) ≡ 0 → openOutcome tape s ≡ answered s
+  unfolding openOutcome onTape
+  opened zero = zero-answered s s s _ zero .0
+
   -- ---- a step of the session that is opened
 
   module _ (backward : Bool) where
@@ -172,8 +178,7 @@ module _ (tape : List ℕ) (s : Record) where
 
     module _ (zero : refusalNumber (openOutcome tape s) ≡ 0) where
       same : sessionOutcome tape s backward ≡ stepOutcome tape s backward
-      unfolding openOutcome onTape
-      same = opened-session (zero-answered s s s _ zero .0)
+      same = opened-session (opened zero)
 
       pub not-stepped : ¬ (refusalNumber (sessionOutcome tape s backward) ≡ 0)
           → stepOutcome tape s backward ≡ refused (refusalNumber (sessionOutcome tape s backward))
