@@ -57,8 +57,8 @@ pub(crate) fn step_in(word: u32) -> Step
     }
 }
 
-// The step that a word has in its digits, told by arithmetic alone. A run and a trace ask it of the words of an accepted tape, where it
-// is their meaning.
+// The step that a word has in its digits, told by arithmetic alone. A run, a trace and a preview ask it of the words of an accepted tape,
+// where it is their meaning.
 pub fn operation_of(word: u32) -> Operation
     ensures { λ op. ⌜ stepFor op ≡ rawStep word ⌝ }
 {

@@ -1,5 +1,5 @@
-// Sessions: a session carries the tape it was opened on, its registers and its position, and goes one step either way. The struct holds a
-// reference, and the proofs of the functions over it are by hand, so these are few and thin: the work is done by functions on the tape
+// Sessions: a session carries the tape it was opened on, its registers and its position, goes one step either way, and is previewed. The
+// struct holds a reference, and the proofs of the functions over it are by hand, so these are few and thin: the work is done by functions on the tape
 // and the state.
 ghost use mathlib.Core.Bool.{cond};
 ghost use mathlib.Core.List.{[]};
@@ -8,7 +8,9 @@ ghost use lib.Dec.{eqb};
 ghost use Rattle.refusal.specs.Outcomes.{refusalNumber, after};
 ghost use Rattle.sequencer.specs.Records.{recordOf};
 ghost use Rattle.sequencer.specs.Sessions.{openOutcome, stepOutcome, sessionOutcome, heldTape, heldRecord};
+ghost use Rattle.sequencer.specs.Previews.{previewOutcome, sessionPreview, previewOutcomeOf};
 use machine::Registers;
+use sequencer::PreviewAnswer;
 use sequencer::State;
 use sequencer::StateAnswer;
 
@@ -28,6 +30,13 @@ pub struct SessionAnswer<'a> {
 pub struct SteppedOnce {
     pub opened: u32,
     pub stepped: u32,
+    pub state: State,
+}
+
+// A session that was opened and previewed: opening's number, the preview, and the register record that the session holds then.
+pub struct PreviewedOnce {
+    pub opened: u32,
+    pub preview: PreviewAnswer,
     pub state: State,
 }
 
@@ -77,6 +86,30 @@ pub fn step_once(tape: &[u32], state: State, backward: bool) -> SteppedOnce
         opened: opened.number,
         stepped: stepped.number,
         state: stepped.session.state,
+    }
+}
+
+// What a run to a position makes of the session's registers, and the steps on the way; refused as that run. The session comes as a copy,
+// so the caller's own stays.
+pub fn preview<'a>(session: Session<'a>, to: u32) -> PreviewAnswer
+    ensures { λ answer. ⌜ previewOutcomeOf answer ≡ previewOutcome (now (session .entry .tape)) (recordOf (session .entry .state)) to ⌝ }
+{
+    previewing::preview(session.tape, session.state, to)
+}
+
+// A session is opened, previewed and left; the record that it holds then is the one that opening left. No struct that holds a reference
+// goes in or out, as in `step_once`.
+pub fn preview_once(tape: &[u32], state: State, to: u32) -> PreviewedOnce
+    ensures { λ once. ⌜ once .opened ≡ refusalNumber (openOutcome (now (tape .entry)) (recordOf state)) ⌝ }
+    ensures { λ once. ⌜ previewOutcomeOf (once .preview) ≡ sessionPreview (now (tape .entry)) (recordOf state) to ⌝ }
+    ensures { λ once. ⌜ recordOf (once .state) ≡ heldRecord (openOutcome (now (tape .entry)) (recordOf state)) ⌝ }
+{
+    let opened = open(tape, state);
+    let shown = preview(opened.session, to);
+    PreviewedOnce {
+        opened: opened.number,
+        preview: shown,
+        state: opened.session.state,
     }
 }
 

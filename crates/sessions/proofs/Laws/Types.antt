@@ -1,5 +1,6 @@
 -- The types that the walks meet. Owning a value tells its machine value (`tells`), of which its relation speaks (`Good`), and a local can hold it (`typed`).
 -- An answer owns what the tape's reference in it does.
+use mathlib.Core.Path.{_≡_}
 use Prim.Native.Nat.{ℕ}
 use mathlib.Core.List.{List, [], _∷_}
 use lib.ListN.{length}
@@ -18,10 +19,19 @@ use denote.RattleType.{RattleType}
 use denote.Ref.{RefT, NamedLft, ptr, now}
 use denote.Slice.{ShrSlice, sliceVal, shr-slice-tells, shr-slice-lawful}
 use denote.Struct.Declared.{Declared, row}
+use denote.Enum.Laws as EL
 use denote.Struct.Laws as LL
 use denote.Struct.Rest.{own-shut}
 use Rattle.sequencer.proofs.State as S
 use Rattle.sequencer.proofs.State.Laws as S′
+use Rattle.refusal.specs.Outcomes.{refusalNumber}
+use Rattle.sequencer.specs.Records.{recordOf}
+use Rattle.sequencer.specs.Sessions.{openOutcome, heldTape, heldRecord}
+use Rattle.sequencer.specs.Previews.{previewOutcome, previewOutcomeOf}
+use Rattle.sequencer.specs.declared.State.{State}
+use Rattle.sequencer.specs.declared.PreviewAnswer.{PreviewAnswer}
+use Rattle.sequencer.proofs.PreviewAnswer as P
+use Rattle.sequencer.proofs.PreviewAnswer.Laws as P′
 use Rattle.sessions.specs.declared.Session.{Session}
 use Rattle.sessions.specs.declared.SessionAnswer.{SessionAnswer}
 use Rattle.sessions.specs.declared.Numbered.{Numbered}
@@ -56,6 +66,19 @@ state = record { type = S.the-type; laws = S′.the-laws }
 abbrev pub numbered : DeclaredType
 numbered = record { type = R.the-type; laws = R′.the-laws }
 
+-- an enum: what a preview answers
+abbrev pub PreviewRow : RattleType
+PreviewRow = P.the-row
+
+abbrev pub previewVal : PreviewAnswer → Val
+previewVal = EL.val P.the-type P′.the-laws
+
+abbrev pub GoodPreview : PreviewAnswer → Type 0
+GoodPreview r = Is PreviewRow r (previewVal r ∷ [])
+
+pub preview-tells : Tells PreviewRow (Is PreviewRow) (λ r. previewVal r ∷ [])
+preview-tells = EL.tells P.the-type P′.the-laws
+
 -- over a lifetime κ, named ℓ: `named 0` in a signature, `erased` in a local's type
 module _ (ℓ : Lifetime) (κ : Lft) where
   abbrev α : NamedLft
@@ -88,7 +111,7 @@ module _ (κ : Lft) where
   tape-tells = shr-slice-tells (named 0) κ u32
 
 -- ---- parts, and an answer made of them
-abbrev GoodNumber : ℕ → Type 0
+abbrev pub GoodNumber : ℕ → Type 0
 GoodNumber n = Is u32 n (vint w32 n ∷ [])
 
 pub numbered-parts : (t : Numbered) → Good numbered t → Good state (t .state) × GoodNumber (t .number)
@@ -109,6 +132,13 @@ module _ (κ : Lft) where
       let parts = numbered-parts t is-t in let a = answerOf r t in
       LL.owes (answer κ .type) (answer κ .laws) a (LL.owes (session κ .type) (session κ .laws) (a .session) (is-r, (parts .0, tt)), (parts .1, tt))
 
+-- ---- what `open` and the preview of a session say of their answers
+abbrev pub Opened : List ℕ → State → SessionAnswer → Type 0
+Opened s d a = let o = openOutcome s (recordOf d) in (now (a .session .tape) ≡ heldTape o s) × ((recordOf (a .session .state) ≡ heldRecord o) × (a .number ≡ refusalNumber o))
+
+abbrev pub Previewed : ℕ → Session → PreviewAnswer → Type 0
+Previewed goal d r = previewOutcomeOf r ≡ previewOutcome (now (d .tape)) (recordOf (d .state)) goal
+
 module _ {M : Type 1} (𝓤 : URA M) (H : Heap 𝓤) (A : Atoms 𝓤) (W : Given 𝓤 H A) where
   -- ---- what a local can hold
   pub typed : (k : DeclaredType) (x : k .type .D) → Good k x → Typed (Row k .mir) (val k x ∷ [])
@@ -116,6 +146,9 @@ module _ {M : Type 1} (𝓤 : URA M) (H : Heap 𝓤) (A : Atoms 𝓤) (W : Given
 
   pub tape-typed : (ℓ : Lifetime) (κ : Lft) (r : RefT (List ℕ)) → GoodTape κ r → Typed (ShrSlice ℓ κ u32 .mir) (tapeVal r ∷ [])
   tape-typed ℓ κ r is = shr-slice-lawful 𝓤 H A W ℓ κ u32 .typed r _ is
+
+  pub preview-typed : (r : PreviewAnswer) → GoodPreview r → Typed (PreviewRow .mir) (previewVal r ∷ [])
+  preview-typed r is = EL.lawful P.the-type P′.the-laws 𝓤 H A W tt .typed r _ is
 
   -- ---- what is owned
   pub state-makes : Makes 𝓤 H A (Row state) (Is (Row state))

@@ -29,14 +29,14 @@ use denote.Triple.Statement.{Contract, Triple}
 use denote.Triple.Table.{cited}
 use Rattle.refusal.specs.Outcomes.{refusalNumber, after}
 use Rattle.sequencer.specs.Records.{recordOf}
-use Rattle.sequencer.specs.Sessions.{openOutcome, stepOutcome, sessionOutcome, heldTape, heldRecord}
+use Rattle.sequencer.specs.Sessions.{stepOutcome, sessionOutcome}
 use Rattle.sequencer.specs.declared.State.{State}
 use Rattle.sessions.specs.declared.SessionAnswer.{SessionAnswer}
 use Rattle.sessions.specs.declared.SteppedOnce.{SteppedOnce}
 use Rattle.sessions.proofs.SteppedOnce as O
 use Rattle.sessions.proofs.SteppedOnce.Laws as O′
 use Rattle.sessions.proofs.Laws.Walks.{shown, also, and-fact, begins, copies, part, sets, lands-in, beside, calls-told, frees-all, Walked, ends, proved}
-use Rattle.sessions.proofs.Laws.Types.{DeclaredType, Row, val, Good, tells, state, sessionAt, session, answerAt, answer, tapeVal, GoodTape, tape-tells, session-parts, answer-parts, typed, tape-typed, state-makes, session-owned}
+use Rattle.sessions.proofs.Laws.Types.{DeclaredType, Row, val, Good, tells, state, sessionAt, session, answerAt, answer, tapeVal, GoodTape, tape-tells, session-parts, answer-parts, Opened, typed, tape-typed, state-makes, session-owned}
 use Rattle.sessions.proofs.open as opening
 use Rattle.sessions.proofs.open.Symbol as opening-def
 use Rattle.sessions.proofs.open.Symbol.{name as #open}
@@ -50,10 +50,7 @@ use Rattle.sessions.proofs.step_once.Key.{name as #step-once}
 use Rattle.sessions.proofs.step_once.Statement as stated
 use Rattle.sessions.proofs.step_once.Code as code
 
--- what `open` and `step` say of their answers
-abbrev Opened : List ℕ → State → SessionAnswer → Type 0
-Opened s d a = let o = openOutcome s (recordOf d) in (now (a .session .tape) ≡ heldTape o s) × ((recordOf (a .session .state) ≡ heldRecord o) × (a .number ≡ refusalNumber o))
-
+-- what `step` says of its answer
 abbrev Stepped : Bool → SessionAnswer → SessionAnswer → Type 0
 Stepped f a b =
     let o = stepOutcome (now (a .session .tape)) (recordOf (a .session .state)) f in
