@@ -1,7 +1,7 @@
 /*
  * Writes the hybrid program for p = 359, r = 179 and k = 76, the source's worked example, and loads the base 4. Does a
- * single step and runs on to the end, so that register 1 holds 4^76 modulo 359, then runs back to the base, and prints
- * the program's listing.
+ * single step, previews the run to the end and does it, so that register 1 holds 4^76 modulo 359, then runs back to the
+ * base, and prints the program's listing.
  *
  *     rt staticlib capi
  *     cc -std=c99 -Wall -Wextra -Werror -Iinclude examples/power.c target/staticlib/libcapi.a -o target/power
@@ -22,6 +22,14 @@ static void print_record(const uint32_t record[5])
 {
     printf("position %u: %u %u %u %u\n", (unsigned)record[4], (unsigned)record[0], (unsigned)record[1],
            (unsigned)record[2], (unsigned)record[3]);
+}
+
+/* The counts are of the mul, div and swp steps on the way. */
+static void print_preview(uint32_t to, const uint32_t registers[4], const uint32_t counts[3])
+{
+    printf("preview of position %u: %u %u %u %u, after %u mul, %u div and %u swp\n", (unsigned)to,
+           (unsigned)registers[0], (unsigned)registers[1], (unsigned)registers[2], (unsigned)registers[3],
+           (unsigned)counts[0], (unsigned)counts[1], (unsigned)counts[2]);
 }
 
 /* A listing is made from bytes, the least significant of a word first. */
@@ -51,6 +59,13 @@ int main(void)
     print_record(record);
 
     uint32_t steps = tape[words - 1] & 0xFFFFFFF; /* the end word holds the step count */
+    uint32_t registers[4];
+    uint32_t counts[3];
+    number = fibexp_preview(tape, words, record, steps, registers, counts);
+    if (number != FIBEXP_OK)
+        return refused("preview", number);
+    print_preview(steps, registers, counts);
+
     number = fibexp_run(tape, words, record, steps);
     if (number != FIBEXP_OK)
         return refused("run", number);

@@ -23,7 +23,7 @@ extern "C" {
 #endif
 
 /* The version, as the verb `version` of the tool prints it. */
-#define FIBEXP_VERSION "2.0.0"
+#define FIBEXP_VERSION "2.1.0"
 
 /* The refusals. */
 enum fibexp_refusal {
@@ -117,6 +117,15 @@ uint32_t fibexp_run(const uint32_t *tape, size_t words, uint32_t record[5], uint
  * above the step count and for a step past either end.
  */
 uint32_t fibexp_step(const uint32_t *tape, size_t words, uint32_t record[5], uint32_t backward);
+
+/*
+ * What fibexp_run of a copy of the record would come to; the record itself stays. Writes the registers as they stand at
+ * position `to`, and in `counts` how many steps on the way are mul, div and swp, in this order. An undone mul counts as
+ * a div, an undone div as a mul. Where `to` is record[4], it writes the record's registers and three zeros. Refusals:
+ * those of fibexp_run.
+ */
+uint32_t fibexp_preview(const uint32_t *tape, size_t words, const uint32_t record[5], uint32_t to,
+                        uint32_t registers[4], uint32_t counts[3]);
 
 /*
  * Many bases in one pass through a named program, in place: each base is replaced by what fibexp_load of it and

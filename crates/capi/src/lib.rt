@@ -16,6 +16,7 @@ ghost use Rattle.sequencer.specs.Records.{rowOutcome, recordIn};
 ghost use Rattle.sequencer.specs.Services.{loadOutcome, runOutcome, traceOutcome, cutOutcome, cutPart, cutStart, cutCount};
 ghost use Rattle.sequencer.specs.Bases.{raiseOutcome, raisedBases};
 ghost use Rattle.sequencer.specs.Sessions.{stepOutcome, isBackward};
+ghost use Rattle.sequencer.specs.Previews.{previewOutcome, registersOutcome, countsOutcome};
 ghost use Rattle.sequencer.specs.Tables.{tableOutcome};
 ghost use Rattle.listing.specs.Listing.{listingOf, listingAnswer, listingBuffer};
 ghost use Rattle.text.specs.Reading.{splitWords};
@@ -26,6 +27,7 @@ use memory::bit;
 use memory::number_of;
 use memory::record_in;
 use memory::store_exponents;
+use memory::store_preview;
 use memory::store_record;
 use memory::store_table;
 use memory::store_u64;
@@ -136,6 +138,23 @@ pub extern "C" fn fibexp_step(tape: &[u32], row: &mut [u32; 5], backward: u32) -
 {
     let held = record_in(*row);
     store_record(running::step(tape, held, backward != 0), row)
+}
+
+// The preview, the record only read: run's refusals.
+#[no_mangle]
+pub extern "C" fn fibexp_preview(
+    tape: &[u32],
+    row: &[u32; 5],
+    to: u32,
+    registers: &mut [u32; 4],
+    counts: &mut [u32; 3],
+) -> u32
+    ensures { λ number. ⌜ number ≡ refusalNumber (previewOutcome (now (tape .entry)) (recordIn (now (row .entry))) to) ⌝ }
+    ensures { λ _. ⌜ now (registers .exit) ≡ after (registersOutcome (previewOutcome (now (tape .entry)) (recordIn (now (row .entry))) to)) (now (registers .entry)) ⌝ }
+    ensures { λ _. ⌜ now (counts .exit) ≡ after (countsOutcome (previewOutcome (now (tape .entry)) (recordIn (now (row .entry))) to)) (now (counts .entry)) ⌝ }
+{
+    let held = record_in(*row);
+    store_preview(previewing::preview(tape, held, to), registers, counts)
 }
 
 // Many bases in one pass, in place: check's refusals, 4, 14, then 9 and 11 of each base.

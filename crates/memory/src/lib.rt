@@ -6,9 +6,11 @@ ghost use Rattle.fibonacci.specs.Services.{bit};
 ghost use Rattle.machine.specs.Exponents.{exponentsOutcomeOf};
 ghost use Rattle.tables.specs.Tables.{tableOutcomeOf, listOutcome};
 ghost use Rattle.sequencer.specs.Records.{rowOutcome, recordIn, recordOf, stateOutcomeOf};
+ghost use Rattle.sequencer.specs.Previews.{registersOutcome, countsOutcome, previewOutcomeOf};
 use machine::ExponentsAnswer;
 use machine::Registers;
 use refusal::NumberAnswer;
+use sequencer::PreviewAnswer;
 use sequencer::State;
 use sequencer::StateAnswer;
 use tables::TableAnswer;
@@ -57,6 +59,23 @@ pub fn store_record(answer: StateAnswer, row: &mut [u32; 5]) -> u32
             0
         }
         StateAnswer::Refused(e) => refusal::number(e),
+    }
+}
+
+pub fn store_preview(answer: PreviewAnswer, registers: &mut [u32; 4], counts: &mut [u32; 3]) -> u32
+    ensures { λ n. ⌜ n ≡ refusalNumber (previewOutcomeOf answer) ⌝ }
+    ensures { λ _. ⌜ now (registers .exit) ≡ after (registersOutcome (previewOutcomeOf answer)) (now (registers .entry)) ⌝ }
+    ensures { λ _. ⌜ now (counts .exit) ≡ after (countsOutcome (previewOutcomeOf answer)) (now (counts .entry)) ⌝ }
+{
+    match answer {
+        PreviewAnswer::Answered(preview) => {
+            let r = preview.registers;
+            let n = preview.counts;
+            *registers = [r.c, r.d, r.e, r.f];
+            *counts = [n.mul, n.div, n.swp];
+            0
+        }
+        PreviewAnswer::Refused(e) => refusal::number(e),
     }
 }
 
