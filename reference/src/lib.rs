@@ -1,7 +1,7 @@
 //! An independent implementation of document 01, "The targeted exponentiation tape", and of requests
-//! T-01, T-02 and T-04 of document 02, written from these and from source document 002 alone. It serves as
-//! the other side of comparisons and benchmarks, so where there is a choice it takes another way than the
-//! text suggests:
+//! T-01, T-02, T-04 and T-05 of document 02, written from these and from source document 002 alone. It
+//! serves as the other side of comparisons and benchmarks, so where there is a choice it takes another way
+//! than the text suggests:
 //!
 //! | subject | way taken here |
 //! |---|---|
@@ -12,6 +12,7 @@
 //! | inverses | Kaliski's almost inverse (shifts and subtractions) for odd moduli, carried over to even ones |
 //! | running | each register travels with its inverse, so that a division costs no inversion |
 //! | single steps | the step's own registers alone, and an inversion where it divides |
+//! | previews | one walk, which does each step and counts it |
 //! | rows of bases | one power tests a base and inverts it; each step goes over the whole row |
 //! | tables | one pass in which a step adds whole rows, instead of one for each start value |
 //!
@@ -36,7 +37,7 @@ mod tape;
 
 pub use fibonacci::{fibonacci, height, hofstadter, number, places, write_places};
 pub use listing::listing;
-pub use machine::{cut, load, play, raise, run, step, table, trace};
+pub use machine::{cut, load, play, preview, raise, run, step, table, trace, Preview};
 pub use modular::{inverse, is_prime, power, product};
 pub use program::{build, check};
 pub use record::Record;

@@ -1,5 +1,5 @@
-//! Load, run, single steps, raise, lists of runs, trace, table and cut: what the steps of an accepted
-//! tape do.
+//! Load, run, single steps, previews, raise, lists of runs, trace, table and cut: what the steps of an
+//! accepted tape do.
 
 use crate::modular::Modulus;
 use crate::program::accept;
@@ -61,6 +61,40 @@ pub fn step(tape: &[u32], record: Record, backward: bool) -> Result<Record, u32>
     };
     let registers = acted(record.registers, Modulus::new(program.p), kind, step);
     Ok(Record::at(after, registers))
+}
+
+/// What a preview shows: the registers at its target, and how many steps on the way are mul, div and swp,
+/// in this order, as they are done there: an undone mul is a div, and an undone div a mul.
+#[derive(Clone, Copy, Debug, PartialEq, Eq)]
+pub struct Preview {
+    pub registers: [u32; 4],
+    pub counts: [u32; 3],
+}
+
+/// Preview: run's refusals. It goes to the target step by step, and counts each step as it does it.
+pub fn preview(tape: &[u32], record: Record, to: u32) -> Result<Preview, u32> {
+    let (program, mut at) = stand(tape, record)?;
+    let target = position(&program, to)?;
+    let modulus = Modulus::new(program.p);
+    let mut units = with_inverses(record.registers, modulus);
+    let mut counts = [0; 3];
+    while at != target {
+        let (step, kind) = if at < target {
+            let step = program.steps[at];
+            at += 1;
+            (step, tape::kind(step))
+        } else {
+            at -= 1;
+            let step = program.steps[at];
+            (step, undone(tape::kind(step)))
+        };
+        act(&mut units, modulus, kind, step);
+        counts[(kind - tape::MUL) as usize] += 1;
+    }
+    Ok(Preview {
+        registers: units.map(|unit| unit.value as u32),
+        counts,
+    })
 }
 
 /// Raise: check's refusals, then 4 for a free program, 14, and base by base 9, 11. Each base becomes what

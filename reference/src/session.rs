@@ -1,6 +1,7 @@
-//! Sessions of request T-04: a tape, and a record that goes over it one step at a time.
+//! Sessions of requests T-04 and T-05: a tape, and a record that goes over it one step at a time, or is asked
+//! where a run would bring it.
 
-use crate::machine::{stand, step};
+use crate::machine::{preview, stand, step, Preview};
 use crate::Record;
 
 #[derive(Clone, Copy, Debug, PartialEq, Eq)]
@@ -10,7 +11,7 @@ pub struct Session<'a> {
 }
 
 impl<'a> Session<'a> {
-    /// What a refused opening gives; every step on it is refused with 6.
+    /// What a refused opening gives; every step and preview on it is refused with 6.
     const REFUSED: Session<'a> = Session {
         tape: &[],
         record: Record {
@@ -33,5 +34,10 @@ impl<'a> Session<'a> {
             Ok(record) => (Session { record, ..self }, 0),
             Err(number) => (self, number),
         }
+    }
+
+    /// What a run to a position would come to, with its refusals; the session stays as it is.
+    pub fn preview(&self, to: u32) -> Result<Preview, u32> {
+        preview(self.tape, self.record, to)
     }
 }

@@ -626,8 +626,8 @@ fn times(left: Table, right: Table) -> [[i128; 4]; 4] {
 }
 
 /// On the way between two positions of a program: the table of the way back times that of the way out is
-/// the identity; that of the way out times the one at its beginning is the one at its end; and a run that
-/// way makes products by its exponents.
+/// the identity; that of the way out times the one at its beginning is the one at its end; a run that way
+/// makes products by its exponents, and a preview shows them, with the way's steps counted by their kind.
 fn way_agrees(tape: &[u32], p: u32, from: usize, to: usize, start: [u32; 4]) {
     let steps = steps_of(tape);
     let [out, back] = [way(steps, from, to), way(steps, to, from)].map(|way| table_of(&way));
@@ -636,8 +636,14 @@ fn way_agrees(tape: &[u32], p: u32, from: usize, to: usize, start: [u32; 4]) {
     let [begin, end] = [from, to].map(|position| table(tape, position as u32).unwrap());
     assert_eq!(times(out, begin), wide(end), "{from} to {to}");
     let products = out.map(|row| product_of(start, row, p));
-    let there = run(tape, Record::at(from as u32, start), to as u32);
+    let record = Record::at(from as u32, start);
+    let there = run(tape, record, to as u32);
     assert_eq!(there, Ok(Record::at(to as u32, products)));
+    let shown = preview(tape, record, to as u32).unwrap();
+    assert_eq!(shown.registers, products);
+    let done = way(steps, from, to);
+    let of_kind = |kind| done.iter().filter(|&word| word >> 28 == kind).count() as u32;
+    assert_eq!(shown.counts, [MUL, DIV, SWP].map(of_kind), "{from} to {to}");
 }
 
 #[test]

@@ -6,7 +6,7 @@ use std::collections::HashMap;
 use std::ops::RangeInclusive;
 
 /// The refusals that documents 01 and 02 list for the services behind the verbs.
-const REFUSALS: [(&str, &[u32]); 14] = [
+const REFUSALS: [(&str, &[u32]); 15] = [
     ("fibonacci", &[13]),
     ("places", &[5]),
     ("number", &[12, 13]),
@@ -16,6 +16,7 @@ const REFUSALS: [(&str, &[u32]); 14] = [
     ("load", &[6, 7, 4, 1, 2, 3, 8, 9, 11]),
     ("run", &[6, 7, 4, 1, 2, 3, 8, 9, 10]),
     ("step", &[6, 7, 4, 1, 2, 3, 8, 9, 10]),
+    ("preview", &[6, 7, 4, 1, 2, 3, 8, 9, 10]),
     ("power", &[6, 7, 4, 1, 2, 3, 8, 9, 11]),
     ("raise", &[6, 7, 4, 1, 2, 3, 8, 14, 9, 11]),
     ("trace", &[6, 7, 4, 1, 2, 3, 8, 10, 12]),
@@ -214,11 +215,18 @@ fn answered_or_refused_for_position(
     counts
 }
 
-/// Runs begin and end at both ends, and are refused just past the last position and far from it.
+/// Runs and previews begin and end at both ends, and are refused just past the last position and far from
+/// it.
 #[test]
 fn runs_from_and_to_both_ends() {
     let told = told(&calls::script());
-    let counts = answered_or_refused_for_position(&told, "run", |numbers, count| {
+    for verb in ["run", "preview"] {
+        from_and_to_both_ends(&told, verb);
+    }
+}
+
+fn from_and_to_both_ends(told: &[Told], verb: &str) {
+    let counts = answered_or_refused_for_position(told, verb, |numbers, count| {
         let from = place(numbers[4], count).map(|place| ("from", place));
         let to = place(numbers[5], count).map(|place| ("to", place));
         from.into_iter().chain(to).collect()
@@ -226,12 +234,69 @@ fn runs_from_and_to_both_ends() {
     let often = |way, place, number| counts.get(&(way, place, number)).copied().unwrap_or(0);
     for way in ["from", "to"] {
         for place in ["first", "before the last", "last"] {
-            assert!(often(way, place, 0) >= FEW, "{way} {place}");
+            assert!(often(way, place, 0) >= FEW, "{verb} {way} {place}");
         }
         for place in ["past the last", "far"] {
-            assert_eq!(often(way, place, 0), 0, "{way} {place}");
-            assert!(often(way, place, 10) >= FEW, "{way} {place}");
+            assert_eq!(often(way, place, 0), 0, "{verb} {way} {place}");
+            assert!(often(way, place, 10) >= FEW, "{verb} {way} {place}");
         }
+    }
+}
+
+/// Behind each preview stands the run that it shows: refused alike, else with the same registers; the counts
+/// add up to the distance, and to none where the target is the record's own position. Forward and backward
+/// ones have different counts of mul and div often.
+#[test]
+fn previews_before_their_runs() {
+    let told = told(&calls::script());
+    let is_preview = |line: &Told| line.verb() == "preview" && line.number().is_some();
+    let (mut uneven, mut here) = ([0; 2], 0);
+    for two in told.windows(2).filter(|two| is_preview(&two[0])) {
+        let [preview, run] = two else { continue };
+        let asked = numbers(&preview.line);
+        assert_eq!(run.verb(), "run", "{}", preview.line);
+        assert_eq!(numbers(&run.line), asked);
+        assert_eq!(run.number(), preview.number(), "{}", preview.line);
+        if preview.number() != Some(0) {
+            assert_eq!(run.text, preview.text);
+            continue;
+        }
+        let (from, to) = (asked[4], asked[5]);
+        let (shown, reached) = (numbers(&preview.text), numbers(&run.text));
+        assert_eq!(preview.text.lines().count(), 2);
+        assert_eq!((shown.len(), reached.len()), (7, 5));
+        assert_eq!((&shown[..4], to), (&reached[..4], reached[4]));
+        assert_eq!(shown[4..].iter().sum::<u32>(), from.abs_diff(to));
+        uneven[(to < from) as usize] += (shown[4] != shown[5]) as usize;
+        here += (from == to) as usize;
+    }
+    assert!(uneven[0] >= OFTEN && uneven[1] >= OFTEN, "{uneven:?}");
+    assert!(here >= OFTEN, "{here} times");
+}
+
+/// Of the previews that only a position can refuse: the target at both ends, one past the last and the
+/// largest number, each from positions that aren't refused.
+#[test]
+fn targets_of_previews() {
+    let told = told(&calls::script());
+    let counts = answered_or_refused_for_position(&told, "preview", |numbers, count| {
+        let to = match numbers[5] {
+            _ if numbers[4] > count => None,
+            u32::MAX => Some("the largest number"),
+            to => place(to, count),
+        };
+        to.map(|place| ("to", place)).into_iter().collect()
+    });
+    let targets = [
+        ("first", 0),
+        ("last", 0),
+        ("past the last", 10),
+        ("the largest number", 10),
+    ];
+    for (target, number) in targets {
+        let often = |number| counts.get(&("to", target, number)).copied().unwrap_or(0);
+        assert!(often(number) >= OFTEN, "{target}");
+        assert_eq!(often(10 - number), 0, "{target}");
     }
 }
 

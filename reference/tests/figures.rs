@@ -1,5 +1,5 @@
-//! Every figure of document 01, two of request T-02, one of request T-04, and every row of the paper's
-//! Figure 7.
+//! Every figure of document 01, two of request T-02, one of request T-04, those of request T-05's previews,
+//! and every row of the paper's Figure 7.
 
 mod common;
 
@@ -110,6 +110,62 @@ fn a_chain_with_turns() {
     assert_eq!(power(4, 3 * 2 * 2 % 5, 11), 5);
 }
 
+/// What a preview from these registers at a position to another shows: its registers and its counts.
+fn shown(tape: &[u32], registers: [u32; 4], from: u32, to: u32) -> ([u32; 4], [u32; 3]) {
+    let shown = preview(tape, Record::at(from, registers), to).unwrap();
+    (shown.registers, shown.counts)
+}
+
+/// Case A's listing has 3 mul, 3 div and 5 swp; undone they are 3 div, 3 mul and 5 swp.
+#[test]
+fn previews_of_case_a() {
+    let base = [1, 2, 1, 1];
+    assert_eq!(shown(&CASE_A, base, 0, 11), (base, [3, 3, 5]));
+    assert_eq!(shown(&CASE_A, base, 11, 0), (base, [3, 3, 5]));
+    // Where the record stands: the registers and three zeros, at both ends too.
+    for here in 0..=11 {
+        assert_eq!(shown(&CASE_A, base, here, here), (base, [0; 3]));
+    }
+}
+
+/// Mul and div differ in number: mul 0 1, mul 0 1, div 2 1, swp 0 1, from (1, 2, 3, 4) modulo 7.
+#[test]
+fn previews_of_mul_mul_div_swp() {
+    let words = [(MUL, 0, 1), (MUL, 0, 1), (DIV, 2, 1), (SWP, 0, 1)];
+    let tape = free(7, &words.map(|(kind, t, s)| step_word(kind, t, s)));
+    let at = [
+        [1, 2, 3, 4],
+        [2, 2, 3, 4],
+        [4, 2, 3, 4],
+        [4, 2, 5, 4],
+        [2, 4, 5, 4],
+    ];
+    let cases = [
+        (0, 1, [1, 0, 0]),
+        (0, 2, [2, 0, 0]),
+        (0, 3, [2, 1, 0]),
+        (0, 4, [2, 1, 1]),
+        (1, 4, [1, 1, 1]),
+        (2, 3, [0, 1, 0]),
+        (3, 4, [0, 0, 1]),
+        // An undone mul is a div, and an undone div is a mul.
+        (1, 0, [0, 1, 0]),
+        (2, 0, [0, 2, 0]),
+        (3, 0, [1, 2, 0]),
+        (4, 0, [1, 2, 1]),
+        (4, 1, [1, 1, 1]),
+        (3, 2, [1, 0, 0]),
+        (4, 3, [0, 0, 1]),
+        (0, 0, [0; 3]),
+        (2, 2, [0; 3]),
+        (4, 4, [0; 3]),
+    ];
+    for (from, to, counts) in cases {
+        let registers = shown(&tape, at[from], from as u32, to as u32);
+        assert_eq!(registers, (at[to], counts), "{from} to {to}");
+    }
+}
+
 #[test]
 fn bench_refusals() {
     let mut row = [0; 512];
@@ -127,6 +183,7 @@ fn a_free_tape_with_no_steps() {
     assert_eq!(check(&tape), Ok(()));
     let record = Record::at(0, [1, 2, 3, 6]);
     assert_eq!(run(&tape, record, 0), Ok(record));
+    assert_eq!(shown(&tape, [1, 2, 3, 6], 0, 0), ([1, 2, 3, 6], [0; 3]));
     assert_eq!(trace(&tape, 0), Ok([0, 1, 0, 0]));
     let identity = [[1, 0, 0, 0], [0, 1, 0, 0], [0, 0, 1, 0], [0, 0, 0, 1]];
     assert_eq!(table(&tape, 0), Ok(identity));

@@ -1,4 +1,5 @@
-//! Records of registers and their position: single steps beside runs, lists of runs with turns, sessions.
+//! Records of registers and their position: single steps and previews beside runs, lists of runs with turns,
+//! sessions.
 
 mod common;
 
@@ -73,6 +74,107 @@ fn walks_there_and_back() {
         let end = walk(start, false);
         assert_eq!(run(&tape, start, count), Ok(end));
         assert_eq!(walk(end, true), start);
+    }
+}
+
+// ---- previews
+
+/// Which of mul, div and swp a step word is where it is done, or undone.
+fn kind_done(word: u32, undo: bool) -> usize {
+    match (word >> 28, undo) {
+        (MUL, false) | (DIV, true) => 0,
+        (DIV, false) | (MUL, true) => 1,
+        _ => 2,
+    }
+}
+
+/// A preview shows these registers and counts, which add up to the distance. A run to the same position
+/// comes to the same registers, from the same record, which is as it was.
+fn shows(tape: &[u32], record: Record, to: u32, registers: [u32; 4], counts: [u32; 3]) {
+    let shown = preview(tape, record, to);
+    assert_eq!(shown, Ok(Preview { registers, counts }), "{record:?} {to}");
+    assert_eq!(run(tape, record, to), Ok(Record::at(to, registers)));
+    assert_eq!(counts.iter().sum::<u32>(), record.position.abs_diff(to));
+    let (session, _) = Session::open(tape, record);
+    assert_eq!(session.preview(to), shown);
+    assert_eq!((session.tape, session.record), (tape, record));
+}
+
+/// From every position to every other one: what the plain machine comes to, and the steps that it does on
+/// the way, forward and back. Where it stands, no step.
+#[test]
+fn previews_between_any_two_positions() {
+    let mut noise = Noise(83);
+    for (p, tape) in programs(&mut noise) {
+        let steps = steps_of(&tape);
+        for from in 0..=steps.len() {
+            let record = Record::at(from as u32, drawn_start(&mut noise, p));
+            shows(&tape, record, from as u32, record.registers, [0; 3]);
+            for undo in [false, true] {
+                let (mut registers, mut counts) = (record.registers, [0; 3]);
+                let way: Vec<usize> = if undo {
+                    (0..from).rev().collect()
+                } else {
+                    (from..steps.len()).collect()
+                };
+                for at in way {
+                    registers = plain(registers, p, steps[at], undo);
+                    counts[kind_done(steps[at], undo)] += 1;
+                    let to = if undo { at } else { at + 1 };
+                    shows(&tape, record, to as u32, registers, counts);
+                }
+            }
+        }
+    }
+}
+
+/// The way back has the steps of the way out, mul and div exchanged, and comes back to the record.
+#[test]
+fn previews_there_and_back() {
+    let mut noise = Noise(89);
+    for (p, tape) in programs(&mut noise) {
+        let count = steps_of(&tape).len() as u64;
+        for _ in 0..20 {
+            let [from, to] = [(); 2].map(|_| noise.below(count + 1) as u32);
+            let start = Record::at(from, drawn_start(&mut noise, p));
+            let there = preview(&tape, start, to).unwrap();
+            let back = preview(&tape, Record::at(to, there.registers), from).unwrap();
+            let [mul, div, swp] = there.counts;
+            assert_eq!(back.registers, start.registers);
+            assert_eq!(back.counts, [div, mul, swp]);
+        }
+    }
+}
+
+/// A preview is refused where the run is, with the same number, for drawn tapes, records and targets, and
+/// for damaged ones.
+#[test]
+fn previews_refused_as_runs() {
+    let mut noise = Noise(97);
+    let mut met = [0; 11];
+    for (p, tape) in programs(&mut noise) {
+        let count = steps_of(&tape).len() as u64;
+        for _ in 0..200 {
+            let mut tape = tape.clone();
+            let mut registers = drawn_start(&mut noise, p);
+            match noise.below(4) {
+                0 => {
+                    let at = noise.below(tape.len() as u64) as usize;
+                    tape[at] ^= 1 << noise.below(32);
+                }
+                1 => registers[noise.below(4) as usize] = [0, p, u32::MAX][noise.below(3) as usize],
+                2 => drop(tape.pop()),
+                _ => {}
+            }
+            let [from, to] = [(); 2].map(|_| noise.below(count + 3) as u32);
+            let record = Record::at(from, registers);
+            let number = run(&tape, record, to).err();
+            assert_eq!(preview(&tape, record, to).err(), number);
+            met[number.unwrap_or(0) as usize] += 1;
+        }
+    }
+    for number in [0, 1, 2, 3, 4, 6, 7, 8, 9, 10] {
+        assert!(met[number] > 0, "{number}: {met:?}");
     }
 }
 
@@ -237,6 +339,10 @@ fn refused_sessions() {
         for backward in [false, true] {
             assert_eq!(refused.step(backward), (refused, 6));
         }
+        for to in [0, 1, record.position, u32::MAX] {
+            assert_eq!(refused.preview(to), Err(6));
+        }
+        assert_eq!(preview(tape, *record, record.position), Err(*number));
     }
     assert_eq!(Session::open(&named, good).1, 0);
 }

@@ -286,9 +286,15 @@ fn registers_and_bases() {
             let mut registers = [1; 4];
             registers[place] = base;
             assert_eq!(run(&tape, Record::at(0, registers), 19), Err(9));
+            assert_eq!(preview(&tape, Record::at(0, registers), 19), Err(9));
+            assert_eq!(preview(&tape, Record::at(19, registers), 0), Err(9));
+            assert_eq!(preview(&tape, Record::at(7, registers), 7), Err(9));
             assert_eq!(step(&tape, Record::at(0, registers), false), Err(9));
             assert_eq!(step(&tape, Record::at(19, registers), true), Err(9));
             // 9 comes before 10.
+            assert_eq!(preview(&tape, Record::at(0, registers), 20), Err(9));
+            assert_eq!(preview(&tape, Record::at(20, registers), 0), Err(9));
+            assert_eq!(preview(&tape, Record::at(20, registers), 20), Err(9));
             assert_eq!(run(&tape, Record::at(0, registers), 20), Err(9));
             assert_eq!(run(&tape, Record::at(20, registers), 0), Err(9));
             assert_eq!(step(&tape, Record::at(20, registers), true), Err(9));
@@ -388,11 +394,23 @@ fn positions() {
         assert_eq!(run(&tape, ones(past), 0), Err(10));
         assert_eq!(run(&tape, ones(0), past), Err(10));
         assert_eq!(run(&tape, ones(past), past), Err(10));
+        assert_eq!(preview(&tape, ones(past), 0), Err(10));
+        assert_eq!(preview(&tape, ones(past), 19), Err(10));
+        assert_eq!(preview(&tape, ones(0), past), Err(10));
+        assert_eq!(preview(&tape, ones(19), past), Err(10));
+        assert_eq!(preview(&tape, ones(past), past), Err(10));
         assert_eq!(step(&tape, ones(past), false), Err(10));
         assert_eq!(step(&tape, ones(past), true), Err(10));
     }
     assert_eq!(run(&tape, ones(19), 19), Ok(ones(19)));
     assert_eq!(run(&tape, ones(0), 0), Ok(ones(0)));
+    for here in [0, 19] {
+        let expected = Preview {
+            registers: [1; 4],
+            counts: [0; 3],
+        };
+        assert_eq!(preview(&tape, ones(here), here), Ok(expected));
+    }
     // Past either end, and away from it.
     assert_eq!(step(&tape, ones(0), true), Err(10));
     assert_eq!(step(&tape, ones(0), false), Ok(ones(1)));
@@ -402,6 +420,8 @@ fn positions() {
     for backward in [false, true] {
         assert_eq!(step(&free(7, &[]), ones(0), backward), Err(10));
     }
+    assert_eq!(preview(&free(7, &[]), ones(0), 1), Err(10));
+    assert_eq!(preview(&free(7, &[]), ones(1), 0), Err(10));
     assert_eq!(trace(&tape, 20), Err(10));
     assert!(trace(&tape, 19).is_ok());
     assert_eq!(table(&tape, 20), Err(10));
@@ -438,8 +458,10 @@ fn record_order() {
         for (registers, position) in [([1; 4], 0), ([0; 4], 0), ([1; 4], 99), ([0; 4], u32::MAX)] {
             let record = Record::at(position, registers);
             assert_eq!(load(tape, registers[1]), Err(*refusal));
-            assert_eq!(run(tape, record, position), Err(*refusal));
-            assert_eq!(run(tape, record, 0), Err(*refusal));
+            for to in [0, position, 1, u32::MAX] {
+                assert_eq!(run(tape, record, to), Err(*refusal));
+                assert_eq!(preview(tape, record, to), Err(*refusal));
+            }
             for backward in [false, true] {
                 assert_eq!(step(tape, record, backward), Err(*refusal));
             }

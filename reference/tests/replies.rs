@@ -61,8 +61,8 @@ fn numbers() {
         ("mulmod 3 5 0", "0"),
         ("powmod 0 0 7", "1"),
         ("powmod 2 10 1", "0"),
-        ("version", "fibexp 2.0.0"),
-        ("--version", "fibexp 2.0.0"),
+        ("version", "fibexp 2.1.0"),
+        ("--version", "fibexp 2.1.0"),
     ];
     for (line, text) in cases {
         answers(&[], line, text);
@@ -106,6 +106,14 @@ fn tapes() {
     answers(&tape, "step 1 2 1 1 0 0", "2 2 1 1 1");
     for backward in ["1", "2", "0xFFFFFFFF"] {
         answers(&tape, &format!("step 2 2 1 1 1 {backward}"), "1 2 1 1 0");
+    }
+    answers(&tape, "preview 1 2 1 1 0 11", "1 2 1 1\n3 3 5");
+    answers(&tape, "preview 1 2 1 1 0xB 0", "1 2 1 1\n3 3 5");
+    answers(&tape, "preview 1 2 1 1 0 1", "2 2 1 1\n1 0 0");
+    answers(&tape, "preview 2 2 1 1 1 0", "1 2 1 1\n0 1 0");
+    for here in ["0", "5", "11"] {
+        let line = format!("preview 1 2 2 1 {here} {here}");
+        answers(&tape, &line, "1 2 2 1\n0 0 0");
     }
     answers(&tape, "power 2", "2\n1 2 1 1 11");
     answers(&tape, "raise 2 1 2", "2 1 2");
@@ -176,6 +184,11 @@ fn complaints() {
     complains("table 1 2", "table takes 1 parameter, 2 given");
     complains("--help me", "--help takes 0 parameters, 1 given");
     complains("step 1 2 3 4 0", "step takes 6 parameters, 5 given");
+    for (line, given) in [("", 0), (" 1 2 3 4 0", 5), (" 1 2 3 4 0 0 0", 7)] {
+        let text = format!("preview takes 6 parameters, {given} given");
+        complains(&format!("preview{line}"), &text);
+    }
+    complains("previe", "\"previe\": no such verb; fibexp help lists them");
     complains("play 1 2 3 4", "play takes 5 to 64 parameters, 4 given");
     for (verb, count, takes) in [
         ("number", 65, "0 to 64"),
@@ -203,6 +216,13 @@ fn complaints() {
             &format!("fibonacci {word}"),
             &format!("\"{word}\": {not_32}"),
         );
+    }
+    for line in [
+        "preview x 1 1 1 0 0",
+        "preview 1 1 1 1 0 x",
+        "preview 1 1 1 1 x 4294967296",
+    ] {
+        complains(line, &format!("\"x\": {not_32}"));
     }
     complains(
         "number 3 256 x",
@@ -285,6 +305,8 @@ fn reasons_of_tapes() {
         "run 0 0 0 0 9 9",
         "step 0 0 0 0 9 0",
         "step 1 1 1 1 0 0",
+        "preview 0 0 0 0 9 9",
+        "preview 1 1 1 1 0 0",
         "power 0",
         "raise 0",
         "raise",
@@ -325,10 +347,18 @@ fn reasons_of_tapes() {
     );
     let stranger = "8: the steps aren't those built for the tape's p, r, k and variant";
     refuses(&with(4, 0x60000004), "cut 0 0", stranger);
+    refuses(&with(4, 0x60000004), "preview 0 0 0 0 12 12", stranger);
     answers(&with(4, 0x60000004), "list", "refused 8");
     refuses(&CASE_A, "load 0", "9: the base must be from 1 to p-1");
     refuses(&CASE_A, "power 3", "9: the base must be from 1 to p-1");
-    for line in ["run 1 3 1 1 0 11", "step 1 3 1 1 0 0", "step 1 3 1 1 99 1"] {
+    for line in [
+        "run 1 3 1 1 0 11",
+        "step 1 3 1 1 0 0",
+        "step 1 3 1 1 99 1",
+        "preview 1 3 1 1 0 11",
+        "preview 1 2 0 1 11 0",
+        "preview 1 2 1 3 12 12",
+    ] {
         refuses(&CASE_A, line, "9: each register must be from 1 to p-1");
     }
     for line in [
@@ -341,6 +371,11 @@ fn reasons_of_tapes() {
         "step 1 2 1 1 12 1",
         "step 1 2 1 1 4294967295 0",
         "step 1 2 1 1 4294967295 1",
+        "preview 1 2 1 1 0 12",
+        "preview 1 2 1 1 12 0",
+        "preview 1 2 1 1 12 12",
+        "preview 1 2 1 1 0 4294967295",
+        "preview 1 2 1 1 4294967295 4294967295",
         "trace 12",
         "table 12",
         "table 4294967295",
@@ -387,6 +422,7 @@ fn bytes_that_are_no_whole_words() {
         "check",
         "load 2",
         "step 1 1 1 1 0 0",
+        "preview 1 1 1 1 0 0",
         "raise 2 0",
         "trace 0",
         "table 0",

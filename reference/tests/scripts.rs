@@ -135,6 +135,27 @@ fn a_record_and_its_steps() {
 }
 
 #[test]
+fn a_preview() {
+    let step = "tape 0x10000001 0x20000007 0x30000000 0x40000000 0x50000004 0xF0000001\n";
+    let past = "fibexp: refused 10: a position is outside 0 to the step count\n";
+    // Two lines are no text that a line could have; it takes no notice of a room, and leaves the tape at hand.
+    prints(
+        &format!(
+            "{step}preview 1 3 1 1 0 1\npreview 3 3 1 1 1 0\nroom 1\npreview 1 3 1 1 0 0\n\
+             preview 1 3 1 1 0 2\npreview 1 3 1 1 0 1 = 3 3 1 1\nrun 1 3 1 1 0 1\n"
+        ),
+        &format!(
+            "6\n3 3 1 1\n1 0 0\n1 3 1 1\n0 1 0\n1\n1 3 1 1\n0 0 0\n{past}\
+             3 3 1 1\n1 0 0\n= 3 3 1 1: no\n3 3 1 1 1\n"
+        ),
+    );
+    prints(
+        &format!("{step}preview 1 3 1 1 0 2 = {past}"),
+        &format!("6\n{past}= {}: yes\n", past.trim_end()),
+    );
+}
+
+#[test]
 fn a_change_out_of_range() {
     let none = "fibexp: no such word in the tape\n";
     prints("change 0 0\n", none);

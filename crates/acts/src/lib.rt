@@ -77,6 +77,7 @@ fn on_tape(verb: TapeVerb, act: Act) -> Act
         TapeVerb::Load => Act::Reply,
         TapeVerb::Run => Act::Reply,
         TapeVerb::SingleStep => Act::Reply,
+        TapeVerb::Preview => Act::Reply,
         TapeVerb::Power => Act::Reply,
         TapeVerb::Raise => Act::Reply,
         TapeVerb::Trace => Act::Reply,

@@ -10,7 +10,8 @@ ghost use Rattle.text.specs.Rows.{Put};
 ghost use Rattle.machine.specs.Exponents.{exponentsOutcomeOf};
 ghost use Rattle.tables.specs.Tables.{tableOutcomeOf};
 ghost use Rattle.sequencer.specs.Records.{stateOutcomeOf};
-ghost use Rattle.tool.specs.Texts.{exponentsLine, tableLines, recordLine, powerLines, reasonFor};
+ghost use Rattle.sequencer.specs.Previews.{previewOutcomeOf};
+ghost use Rattle.tool.specs.Texts.{exponentsLine, tableLines, recordLine, previewLines, powerLines, reasonFor};
 ghost use Rattle.tool.specs.Replies.{refuses, printed};
 ghost use Rattle.tool.specs.Rows.{Told};
 use machine::ExponentsAnswer;
@@ -23,7 +24,9 @@ use refusal::OWN_REASONS;
 use refusal::REASONS;
 use results::exponents;
 use results::power;
+use results::preview;
 use results::rows;
+use sequencer::PreviewAnswer;
 use sequencer::StateAnswer;
 use tables::TableAnswer;
 use text::NEWLINE;
@@ -83,6 +86,16 @@ pub fn print_power(buffer: &mut [u8], own: u32, answer: StateAnswer) -> Reply
     match answer {
         StateAnswer::Answered(state) => power(buffer, state),
         StateAnswer::Refused(e) => refuse(buffer, own, refusal::number(e)),
+    }
+}
+
+// What a preview shows, or the refusal.
+pub fn print_preview(buffer: &mut [u8], own: u32, answer: PreviewAnswer) -> Reply
+    ensures { λ r. ⌜ Told (now (buffer .entry)) (printed own (previewOutcomeOf answer) previewLines) r (now (buffer .exit)) ⌝ }
+{
+    match answer {
+        PreviewAnswer::Answered(shown) => preview(buffer, shown),
+        PreviewAnswer::Refused(e) => refuse(buffer, own, refusal::number(e)),
     }
 }
 

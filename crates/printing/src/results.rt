@@ -7,7 +7,8 @@ ghost use Rattle.text.specs.Rows.{Put};
 ghost use Rattle.machine.specs.Exponents.{exponentsOf};
 ghost use Rattle.tables.specs.Tables.{matrixOf};
 ghost use Rattle.sequencer.specs.Records.{recordOf};
-ghost use Rattle.tool.specs.Texts.{exponentsLine, tableLines, recordLine, powerLines};
+ghost use Rattle.sequencer.specs.Previews.{shownOf};
+ghost use Rattle.tool.specs.Texts.{exponentsLine, tableLines, recordLine, previewLines, powerLines};
 ghost use Rattle.tool.specs.Replies.{answers};
 ghost use Rattle.tool.specs.Rows.{Told};
 use lines::number_line;
@@ -15,6 +16,7 @@ use lines::numbers_line;
 use machine::Exponents;
 use putting::put_byte;
 use putting::put_whole;
+use sequencer::Preview;
 use sequencer::State;
 use tables::Table;
 use text::BLANK;
@@ -68,6 +70,23 @@ fn put_record(buffer: &mut [u8], at: usize, state: State) -> usize
         state.position,
     ];
     numbers_line(buffer, at, &values)
+}
+
+// The registers on a line, and the counts on the next.
+pub(crate) fn preview(buffer: &mut [u8], shown: Preview) -> Reply
+    ensures { λ r. ⌜ Told (now (buffer .entry)) (answers (previewLines (shownOf shown))) r (now (buffer .exit)) ⌝ }
+{
+    let registers = shown.registers;
+    let counts = shown.counts;
+    let next = numbers_line(
+        buffer,
+        0,
+        &[registers.c, registers.d, registers.e, registers.f],
+    );
+    Reply {
+        status: ANSWERED,
+        length: numbers_line(buffer, next, &[counts.mul, counts.div, counts.swp]),
+    }
 }
 
 // Four exponents on one line.

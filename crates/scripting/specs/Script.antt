@@ -15,7 +15,7 @@ use Rattle.program.specs.Services.{buildOutcome, buildBuffer}
 use Rattle.program.specs.Same.{sameWords}
 use Rattle.listing.specs.Listing.{listingAnswer, listingBuffer}
 use Rattle.tool.specs.declared.TapeVerb.{TapeVerb}
-use Rattle.tool.specs.declared.TapeVerb.the-variants.{Check, Listing, Load, Run, SingleStep, Power, Raise, Trace, Table, Cut, Play}
+use Rattle.tool.specs.declared.TapeVerb.the-variants.{Check, Listing, Load, Run, SingleStep, Preview, Power, Raise, Trace, Table, Cut, Play}
 use Rattle.tool.specs.declared.NumberVerb.{NumberVerb}
 use Rattle.tool.specs.declared.NumberVerb.the-variants.{Decode, Fibonacci, Places, NumberOf, Hofstadter, Inverse, Height, Prime, MulMod, PowMod}
 use Rattle.tool.specs.declared.ScriptVerb.{ScriptVerb}
@@ -148,6 +148,7 @@ isListing Check = false
 isListing Load = false
 isListing Run = false
 isListing SingleStep = false
+isListing Preview = false
 isListing Power = false
 isListing Raise = false
 isListing Trace = false

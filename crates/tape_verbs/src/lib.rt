@@ -12,10 +12,11 @@ ghost use Rattle.program.specs.Services.{acceptOutcome};
 ghost use Rattle.sequencer.specs.Records.{recordNumbers, rowOf, recordIn, recordOf};
 ghost use Rattle.sequencer.specs.Services.{runOutcome, cutOutcome};
 ghost use Rattle.sequencer.specs.Sessions.{stepOutcome, isBackward};
+ghost use Rattle.sequencer.specs.Previews.{previewOutcome};
 ghost use Rattle.sequencer.specs.Lists.{requestsOf};
 ghost use Rattle.listing.specs.Listing.{linesFor};
 ghost use Rattle.tool.specs.Verbs.{maxParameters};
-ghost use Rattle.tool.specs.Texts.{recordLine};
+ghost use Rattle.tool.specs.Texts.{recordLine, previewLines};
 ghost use Rattle.tool.specs.Replies.{answers, printed, raisedAll, runsTold, played, tapeReply};
 ghost use Rattle.tool.specs.Rows.{Told};
 use lines::numbers_line;
@@ -23,12 +24,14 @@ use lister::list_tape;
 use printing::answer;
 use printing::print_exponents;
 use printing::print_power;
+use printing::print_preview;
 use printing::print_record;
 use printing::print_table;
 use printing::refuse;
 use putting::put_words;
 use refusal::NumberAnswer;
 use sequencer::State;
+use sessions::preview_once;
 use sessions::step_once;
 use tool::ANSWERED;
 use tool::MAX_PARAMETERS;
@@ -62,6 +65,7 @@ pub fn on_tape(
         TapeVerb::Load => print_record(text, own, running::load(tape, parameter(given, 0))),
         TapeVerb::Run => run(own, given, tape, text),
         TapeVerb::SingleStep => step(own, given, tape, text),
+        TapeVerb::Preview => preview(own, given, tape, text),
         TapeVerb::Power => print_power(text, own, running::forward(tape, parameter(given, 0))),
         TapeVerb::Raise => raise(own, given, tape, text),
         TapeVerb::Trace => print_exponents(text, own, inspecting::trace(tape, parameter(given, 0))),
@@ -103,6 +107,18 @@ fn step(own: u32, values: &[u32], tape: &[u32], text: &mut [u8]) -> Reply
     }
     let state = once.state;
     printing::record(text, state)
+}
+
+// A preview, of a session that is opened for it, as `step` is.
+fn preview(own: u32, values: &[u32], tape: &[u32], text: &mut [u8]) -> Reply
+    ensures { λ r. ⌜ Told (now (text .entry)) (printed own (previewOutcome (now (tape .entry)) (recordIn (now (values .entry))) (getD (now (values .entry)) 5 0)) previewLines) r (now (text .exit)) ⌝ }
+{
+    let previewed = preview_once(tape, record(values), parameter(values, 5));
+    if previewed.opened != 0 {
+        return refuse(text, own, previewed.opened);
+    }
+    let shown = previewed.preview;
+    print_preview(text, own, shown)
 }
 
 // Raise, its bases the parameters, which are copied since they are replaced.

@@ -23,10 +23,11 @@ use Rattle.sequencer.specs.Services.{loadOutcome, runOutcome, forwardOutcome, t
 use Rattle.sequencer.specs.Bases.{raiseOutcome, raisedBases}
 use Rattle.sequencer.specs.Tables.{tableOutcome}
 use Rattle.sequencer.specs.Sessions.{stepOutcome, isBackward}
+use Rattle.sequencer.specs.Previews.{previewOutcome}
 use Rattle.sequencer.specs.Lists.{Request, afterAll, numbersAll, requestsOf}
 use Rattle.listing.specs.Listing.{linesFor}
 use Rattle.tool.specs.declared.TapeVerb.{TapeVerb}
-use Rattle.tool.specs.declared.TapeVerb.the-variants.{Check, Listing, Load, Run, SingleStep, Power, Raise, Trace, Table, Cut, Play}
+use Rattle.tool.specs.declared.TapeVerb.the-variants.{Check, Listing, Load, Run, SingleStep, Preview, Power, Raise, Trace, Table, Cut, Play}
 use Rattle.tool.specs.declared.NumberVerb.{NumberVerb}
 use Rattle.tool.specs.declared.NumberVerb.the-variants.{Decode, Fibonacci, Places, NumberOf, Hofstadter, Inverse, Height, Prime, MulMod, PowMod}
 use Rattle.tool.specs.declared.Verb.{Verb}
@@ -34,7 +35,7 @@ use Rattle.tool.specs.declared.Verb.the-variants.{Unknown, Build, Script
 use Rattle.tool.specs.declared.Row.{Row}
 use Rattle.tool.specs.Verbs.{takesTape, takesLines, givesTape}
 use Rattle.tool.specs.Calls.{Asked, noWord, noVerb, wrongCount, unread, known, askedBy}
-use Rattle.tool.specs.Texts.{exponentsLine, tableLines, recordLine, powerLines, meaning, versionLine, refusalLine, noVerbLine, wrongCountLine, unreadLine, scriptLine, usage}
+use Rattle.tool.specs.Texts.{exponentsLine, tableLines, recordLine, previewLines, powerLines, meaning, versionLine, refusalLine, noVerbLine, wrongCountLine, unreadLine, scriptLine, usage}
 
 pub record Replied : Type 0 where
   -- 0 answered, 1 refused, 2 not understood
@@ -114,6 +115,7 @@ tapeReply Listing own v tape tapes = answers (linesFor (acceptOutcome tape) (ste
 tapeReply Load own v tape tapes = printed own (loadOutcome tape (at v 0)) recordLine
 tapeReply Run own v tape tapes = printed own (runOutcome tape (recordIn v) (at v 5)) recordLine
 tapeReply SingleStep own v tape tapes = printed own (stepOutcome tape (recordIn v) (isBackward (at v 5))) recordLine
+tapeReply Preview own v tape tapes = printed own (previewOutcome tape (recordIn v) (at v 5)) previewLines
 tapeReply Power own v tape tapes = printed own (forwardOutcome tape (at v 0)) powerLines
 tapeReply Raise own v tape tapes = raisedAll own v tape
 tapeReply Trace own v tape tapes = printed own (traceOutcome tape (at v 0)) exponentsLine

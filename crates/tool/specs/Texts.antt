@@ -16,6 +16,7 @@ use Rattle.tape.specs.declared.Decoded.the-variants.{Heading, P, R, K, Action, 
 use Rattle.machine.specs.Machine.{reg}
 use Rattle.named.specs.Named.{lastVariant, variantNames}
 use Rattle.sequencer.specs.Records.{Record, rowOf}
+use Rattle.sequencer.specs.Previews.{Shown}
 use Rattle.tool.specs.declared.Row.{Row}
 use Rattle.tool.specs.Verbs.{isVariant}
 
@@ -37,6 +38,10 @@ tableLines m = rowLine m 0 ++ rowLine m 1 ++ rowLine m 2 ++ rowLine m 3
 abbrev pub recordLine : Record → List ℕ
 recordLine s = numbersLine (rowOf s)
 
+-- a preview: the registers on a line, the counts on the next
+abbrev pub previewLines : Shown → List ℕ
+previewLines w = numbersLine (w .registers) ++ numbersLine (w .counts)
+
 -- register 1 on a line of its own, and the record
 abbrev pub powerLines : Record → List ℕ
 powerLines s = numberLine (reg (s .registers) 1) ++ recordLine s
@@ -57,7 +62,7 @@ meaning (End count) = line (ascii "end" ∷ decimal count ∷ [])
 meaning Bad = line (ascii "none" ∷ [])
 
 abbrev pub versionLine : List ℕ
-versionLine = ascii "fibexp 2.0.0" ++ newline ∷ []
+versionLine = ascii "fibexp 2.1.0" ++ newline ∷ []
 
 -- ---- refusals
 
@@ -122,6 +127,7 @@ usage =
     ∷ ascii "  load BASE              the record to start from"
     ∷ ascii "  run RECORD TO          the record at position TO"
     ∷ ascii "  step RECORD BACKWARD   the record one step on, or one step back where BACKWARD isn't 0"
+    ∷ ascii "  preview RECORD TO      the registers at position TO, then the mul, div and swp steps on the way"
     ∷ ascii "  power BASE             load and run: register 1 (a named program's power), the record"
     ∷ ascii "  raise BASE..           each of up to 64 bases to the power k, by a named program"
     ∷ ascii "  trace POSITION         the four whole exponents"

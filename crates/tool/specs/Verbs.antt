@@ -11,7 +11,7 @@ use Rattle.text.specs.declared.Parsed.the-variants.{Number}
 use Rattle.text.specs.Reading.{parseNumber}
 use Rattle.named.specs.Named.{variantNames}
 use Rattle.program.specs.Same.{sameWords}
-use Rattle.tool.specs.declared.TapeVerb.the-variants.{Check, Listing, Load, Run, SingleStep, Power, Raise, Trace, Table, Cut, Play}
+use Rattle.tool.specs.declared.TapeVerb.the-variants.{Check, Listing, Load, Run, SingleStep, Preview, Power, Raise, Trace, Table, Cut, Play}
 use Rattle.tool.specs.declared.NumberVerb.{NumberVerb}
 use Rattle.tool.specs.declared.NumberVerb.the-variants.{Decode, Fibonacci, Places, NumberOf, Hofstadter, Inverse, Height, Prime, MulMod, PowMod}
 use Rattle.tool.specs.declared.ScriptVerb.{ScriptVerb}
@@ -67,6 +67,7 @@ entries =
     ∷ entry "load" (OnTape Load) 1 1 largest32 0
     ∷ entry "run" (OnTape Run) 6 6 largest32 9
     ∷ entry "step" (OnTape SingleStep) 6 6 largest32 9
+    ∷ entry "preview" (OnTape Preview) 6 6 largest32 9
     ∷ entry "power" (OnTape Power) 1 1 largest32 0
     ∷ entry "raise" (OnTape Raise) 0 maxParameters largest32 4
     ∷ entry "trace" (OnTape Trace) 1 1 largest32 0

@@ -22,6 +22,14 @@ mod c {
         pub fn fibexp_load(tape: *const u32, words: usize, base: u32, record: *mut u32) -> u32;
         pub fn fibexp_run(tape: *const u32, words: usize, record: *mut u32, to: u32) -> u32;
         pub fn fibexp_step(tape: *const u32, words: usize, record: *mut u32, backward: u32) -> u32;
+        pub fn fibexp_preview(
+            tape: *const u32,
+            words: usize,
+            record: *const u32,
+            to: u32,
+            registers: *mut u32,
+            counts: *mut u32,
+        ) -> u32;
         pub fn fibexp_raise(tape: *const u32, words: usize, bases: *mut u32, count: usize) -> u32;
         pub fn fibexp_trace(
             tape: *const u32,
@@ -101,6 +109,26 @@ pub fn run(tape: &[u32], record: &mut [u32; 5], to: u32) -> u32 {
 /// Forward where `backward` is 0.
 pub fn step(tape: &[u32], record: &mut [u32; 5], backward: u32) -> u32 {
     unsafe { c::fibexp_step(tape.as_ptr(), tape.len(), record.as_mut_ptr(), backward) }
+}
+
+/// The counts are of mul, div and swp; the record stays.
+pub fn preview(
+    tape: &[u32],
+    record: &[u32; 5],
+    to: u32,
+    registers: &mut [u32; 4],
+    counts: &mut [u32; 3],
+) -> u32 {
+    unsafe {
+        c::fibexp_preview(
+            tape.as_ptr(),
+            tape.len(),
+            record.as_ptr(),
+            to,
+            registers.as_mut_ptr(),
+            counts.as_mut_ptr(),
+        )
+    }
 }
 
 pub fn raise(tape: &[u32], bases: &mut [u32]) -> u32 {

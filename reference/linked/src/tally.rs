@@ -13,6 +13,7 @@ pub enum Service {
     Load,
     Run,
     Step,
+    Preview,
     Raise,
     Trace,
     Table,
@@ -21,7 +22,7 @@ pub enum Service {
     Reply,
 }
 
-const SERVICES: [Service; 17] = [
+const SERVICES: [Service; 18] = [
     Service::Fibonacci,
     Service::Places,
     Service::Number,
@@ -33,6 +34,7 @@ const SERVICES: [Service; 17] = [
     Service::Load,
     Service::Run,
     Service::Step,
+    Service::Preview,
     Service::Raise,
     Service::Trace,
     Service::Table,
@@ -58,6 +60,7 @@ impl Service {
             Service::Load => "load",
             Service::Run => "run",
             Service::Step => "step",
+            Service::Preview => "preview",
             Service::Raise => "raise",
             Service::Trace => "trace",
             Service::Table => "table",
@@ -78,7 +81,7 @@ impl Service {
             Service::Build => &[1, 2, 3, 4, 5],
             Service::Check => &[6, 7, 4, 1, 2, 3, 8],
             Service::Load => &[6, 7, 4, 1, 2, 3, 8, 9, 11],
-            Service::Run | Service::Step => &[6, 7, 4, 1, 2, 3, 8, 9, 10],
+            Service::Run | Service::Step | Service::Preview => &[6, 7, 4, 1, 2, 3, 8, 9, 10],
             Service::Raise => &[6, 7, 4, 1, 2, 3, 8, 14, 9, 11],
             Service::Trace | Service::Table => &[6, 7, 4, 1, 2, 3, 8, 10, 12],
             Service::Cut => &[6, 7, 4, 1, 2, 3, 8, 10],

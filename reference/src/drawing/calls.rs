@@ -104,11 +104,25 @@ fn powers(lines: &mut Lines) {
         let (from, to) = values::positions(&mut lines.noise, count);
         lines.small_call("run", &[c, d, e, f, from, to]);
     }
+    previews(lines);
     for _ in 0..3 {
         let [c, d, e, f] = values::registers(&mut lines.noise, p, r);
         let position = values::step_position(&mut lines.noise, count);
         let direction = values::direction(&mut lines.noise);
         lines.small_call("step", &[c, d, e, f, position, direction]);
+    }
+}
+
+/// Previews, each before the run that it shows.
+fn previews(lines: &mut Lines) {
+    let (p, r) = modulus_and_order(&lines.tape);
+    let count = steps(&lines.tape);
+    for _ in 0..3 {
+        let [c, d, e, f] = values::registers(&mut lines.noise, p, r);
+        let (from, to) = values::position_and_target(&mut lines.noise, count);
+        for verb in ["preview", "run"] {
+            lines.small_call(verb, &[c, d, e, f, from, to]);
+        }
     }
 }
 

@@ -4,13 +4,14 @@ use crate::drawing::lines::Lines;
 use crate::drawing::noise::Noise;
 
 /// Verbs, each with a count of parameters that it takes.
-const VERBS: [(&str, usize); 28] = [
+const VERBS: [(&str, usize); 29] = [
     ("build", 4),
     ("check", 0),
     ("list", 0),
     ("load", 1),
     ("run", 6),
     ("step", 6),
+    ("preview", 6),
     ("power", 1),
     ("raise", 3),
     ("trace", 1),

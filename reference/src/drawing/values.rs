@@ -206,6 +206,21 @@ pub fn positions(noise: &mut Noise, count: u32) -> (u32, u32) {
     }
 }
 
+/// Where a preview begins and its target: as those of a run, the same position twice, or one of them at an
+/// end, just past it, or the largest number.
+pub fn position_and_target(noise: &mut Noise, count: u32) -> (u32, u32) {
+    let ends = [0, count, count + 1, u32::MAX];
+    match noise.below(8) {
+        0 => {
+            let here = position(noise, count);
+            (here, here)
+        }
+        1 => (noise.pick(&ends), position(noise, count)),
+        2 | 3 => (position(noise, count), noise.pick(&ends)),
+        _ => positions(noise, count),
+    }
+}
+
 /// Four registers: (1, a, 1, 1), or any from 1 to p − 1; once in eight draws one is out of range.
 pub fn registers(noise: &mut Noise, p: u32, r: u32) -> [u32; 4] {
     let mut four = if noise.once_in(3) {

@@ -5,7 +5,7 @@ use super::texts::{USAGE, VERSION};
 use super::verbs::Verb;
 use super::Tapes;
 use crate as services;
-use crate::{Meaning, Record};
+use crate::{Meaning, Preview, Record};
 use std::fmt::Display;
 
 /// No form has more places.
@@ -40,6 +40,7 @@ fn on_tape(call: &Call, tapes: Tapes) -> Answer {
         Verb::Load => services::load(tape, n[0]).map(record_line),
         Verb::Run => services::run(tape, record(&n), n[5]).map(record_line),
         Verb::Step => services::step(tape, record(&n), n[5] != 0).map(record_line),
+        Verb::Preview => preview(tape, record(&n), n[5]),
         Verb::Power => power(tape, n[0]),
         Verb::Raise => raise(tape, n),
         Verb::Trace => services::trace(tape, n[0]).map(|four| line_of(&four)),
@@ -96,6 +97,12 @@ fn record(n: &[u32]) -> Record {
 
 fn record_line(record: Record) -> Vec<u8> {
     line_of(&record.numbers())
+}
+
+/// The registers on a line, then the counts of mul, div and swp.
+fn preview(tape: &[u32], record: Record, to: u32) -> Answer {
+    let Preview { registers, counts } = services::preview(tape, record, to)?;
+    Ok([line_of(&registers), line_of(&counts)].concat())
 }
 
 /// Load, and a run to the end: register 1, then the record.

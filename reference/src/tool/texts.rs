@@ -6,7 +6,7 @@ use crate::refusal;
 /// Each complaint and each refusal begins with the tool's name.
 pub(super) const NAME: &str = "fibexp: ";
 
-pub(super) const VERSION: &str = "fibexp 2.0.0\n";
+pub(super) const VERSION: &str = "fibexp 2.1.0\n";
 
 pub(super) const USAGE: &str = "\
 usage: fibexp VERB PARAMETER..
@@ -18,6 +18,7 @@ on the tape from standard input; a RECORD is C D E F POSITION, the registers and
   load BASE              the record to start from
   run RECORD TO          the record at position TO
   step RECORD BACKWARD   the record one step on, or one step back where BACKWARD isn't 0
+  preview RECORD TO      the registers at position TO, then the mul, div and swp steps on the way
   power BASE             load and run: register 1 (a named program's power), the record
   raise BASE..           each of up to 64 bases to the power k, by a named program
   trace POSITION         the four whole exponents
@@ -48,7 +49,9 @@ pub(super) fn reason(verb: Verb, number: u32) -> &'static str {
         (refusal::VARIANT, Verb::Build | Verb::Raise) => {
             "the variant must be that of a named program"
         }
-        (refusal::REGISTER, Verb::Run | Verb::Step) => "each register must be from 1 to p-1",
+        (refusal::REGISTER, Verb::Run | Verb::Step | Verb::Preview) => {
+            "each register must be from 1 to p-1"
+        }
         (refusal::POSITION, Verb::Cut) => {
             "first and last must be positions up to the step count, first at most last"
         }

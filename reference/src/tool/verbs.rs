@@ -8,6 +8,7 @@ pub(crate) enum Verb {
     Load,
     Run,
     Step,
+    Preview,
     Power,
     Raise,
     Trace,
@@ -70,13 +71,14 @@ const fn exactly(name: &'static str, verb: Verb, count: usize) -> Entry {
 }
 
 /// What a command line may begin with.
-pub(crate) const VERBS: [Entry; 28] = [
+pub(crate) const VERBS: [Entry; 29] = [
     exactly("build", Verb::Build, 4),
     exactly("check", Verb::Check, 0),
     exactly("list", Verb::List, 0),
     exactly("load", Verb::Load, 1),
     exactly("run", Verb::Run, 6),
     exactly("step", Verb::Step, 6),
+    exactly("preview", Verb::Preview, 6),
     exactly("power", Verb::Power, 1),
     takes("raise", Verb::Raise, 0, MOST, WORD),
     exactly("trace", Verb::Trace, 1),
@@ -121,6 +123,7 @@ impl Verb {
                 | Verb::Load
                 | Verb::Run
                 | Verb::Step
+                | Verb::Preview
                 | Verb::Power
                 | Verb::Raise
                 | Verb::Trace

@@ -40,27 +40,31 @@ returns-5 c = rw (c .before .before .before .before .enum-told5 .given .1) (rw (
 
 returns-6 : tie.Need-returns-6
 unfolding tapeReply
-returns-6 c = rw (c .before .before .before .before .before .before .enum-told6 .given .1) (rw (c .before .before .before .forward .ensures, c .before .before .before .before .parameter2 .ensures, c .before .before .before .before .before .before .before .before .first .ensures) at (c .before .before .print-power .ensures))
+returns-6 c = rw (c .before .before .before .before .enum-told6 .given .1) (rw (c .before .before .before .before .before .before .first .ensures) at (c .before .before .preview .ensures))
 
 returns-7 : tie.Need-returns-7
 unfolding tapeReply
-returns-7 c = rw (c .before .before .before .before .enum-told7 .given .1) (rw (c .before .before .before .before .before .before .first .ensures) at (c .before .before .raise .ensures))
+returns-7 c = rw (c .before .before .before .before .before .before .enum-told7 .given .1) (rw (c .before .before .before .forward .ensures, c .before .before .before .before .parameter2 .ensures, c .before .before .before .before .before .before .before .before .first .ensures) at (c .before .before .print-power .ensures))
 
 returns-8 : tie.Need-returns-8
 unfolding tapeReply
-returns-8 c = rw (c .before .before .before .before .before .before .enum-told8 .given .1) (rw (c .before .before .before .trace .ensures .0, c .before .before .before .before .parameter3 .ensures, c .before .before .before .before .before .before .before .before .first .ensures) at (c .before .before .print-exponents .ensures))
+returns-8 c = rw (c .before .before .before .before .enum-told8 .given .1) (rw (c .before .before .before .before .before .before .first .ensures) at (c .before .before .raise .ensures))
 
 returns-9 : tie.Need-returns-9
 unfolding tapeReply
-returns-9 c = rw (c .before .before .before .before .before .before .enum-told9 .given .1) (rw (c .before .before .before .table .ensures .0, c .before .before .before .before .parameter4 .ensures, c .before .before .before .before .before .before .before .before .first .ensures) at (c .before .before .print-table .ensures))
+returns-9 c = rw (c .before .before .before .before .before .before .enum-told9 .given .1) (rw (c .before .before .before .trace .ensures .0, c .before .before .before .before .parameter3 .ensures, c .before .before .before .before .before .before .before .before .first .ensures) at (c .before .before .print-exponents .ensures))
 
 returns-10 : tie.Need-returns-10
 unfolding tapeReply
-returns-10 c = rw (c .before .before .before .before .before .before .enum-told10 .given .1) (rw (c .before .before .before .before .before .parameter5 .ensures, c .before .before .before .before .parameter6 .ensures, c .before .before .before .before .before .before .before .before .first .ensures) at (c .before .before .cut .ensures))
+returns-10 c = rw (c .before .before .before .before .before .before .enum-told10 .given .1) (rw (c .before .before .before .table .ensures .0, c .before .before .before .before .parameter4 .ensures, c .before .before .before .before .before .before .before .before .first .ensures) at (c .before .before .print-table .ensures))
 
 returns-11 : tie.Need-returns-11
 unfolding tapeReply
-returns-11 c = rw (c .before .before .before .before .enum-told11 .given .1) (rw (c .before .before .before .before .before .before .first .ensures) at (c .before .before .play .ensures))
+returns-11 c = rw (c .before .before .before .before .before .before .enum-told11 .given .1) (rw (c .before .before .before .before .before .parameter5 .ensures, c .before .before .before .before .parameter6 .ensures, c .before .before .before .before .before .before .before .before .first .ensures) at (c .before .before .cut .ensures))
+
+returns-12 : tie.Need-returns-12
+unfolding tapeReply
+returns-12 c = rw (c .before .before .before .before .enum-told12 .given .1) (rw (c .before .before .before .before .before .before .first .ensures) at (c .before .before .play .ensures))
 
 pub on-tape-spec : {M : Type 1} → statement M
 on-tape-spec =
@@ -75,6 +79,8 @@ on-tape-spec =
     (λ c. search needs)
     (λ c κs. search needs)
     (λ c κs. search needs)
+    (λ c κs. search needs)
+    (λ c. search needs)
     (λ c κs. search needs)
     (λ c. search needs)
     (λ c κs. search needs)
@@ -121,4 +127,6 @@ on-tape-spec =
     (λ c. search needs)
     returns-10
     (λ c. search needs)
-    returns-11)
+    returns-11
+    (λ c. search needs)
+    returns-12)

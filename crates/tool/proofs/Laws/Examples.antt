@@ -21,6 +21,7 @@ use Rattle.tape.specs.Words.{headingIn, actionIn, swapIn, decoded, stepWord, en
 use Rattle.tape.specs.Layout.{isLength, isHeader, isFreeOrNamed, allSteps, isEnd, laidOut, part, programWords}
 use Rattle.encoding.specs.Encoding.{tapeOf, bytesOf, noTape, tapeIn}
 use Rattle.machine.specs.Machine.{apply, inverseStep, doAll, undoAll, run, inverted}
+use Rattle.machine.specs.Ways.{way, countWhere, isMul, isDiv, isSwp, countsOf}
 use Rattle.machine.specs.Exponents.{shift, shiftAll, inRange, allInRange, staysInRange}
 use Rattle.tables.specs.Tables.{tableOf, tableStays}
 use Rattle.named.specs.Generators.{ascend, basic, drawn}
@@ -34,6 +35,7 @@ use Rattle.sequencer.specs.Services.{badRegister, badRegisters, allowed, badBas
 use Rattle.sequencer.specs.Bases.{rowRules, raiseRules, raised, onRow, raiseOutcome, raisedBases}
 use Rattle.sequencer.specs.Tables.{tableRules, tableOutcome}
 use Rattle.sequencer.specs.Sessions.{neighbour, pastEnd, stepRules, stepOutcome}
+use Rattle.sequencer.specs.Previews.{previewOutcome}
 use Rattle.sequencer.specs.Lists.{afterAll, numbersAll, requestsOf}
 use Rattle.listing.specs.Listing.{stepLines}
 use Rattle.tool.specs.Verbs.{entries, names, rows, indexIn, rowNamed, variantIn, parameterIn}
@@ -77,13 +79,14 @@ examples =
     replies ("build" ∷ "7" ∷ "3" ∷ "2" ∷ "free" ∷ []) (refuses 4 4)
     ∷ replies ("script" ∷ []) (complains scriptLine)
     ∷ replies ("help" ∷ []) (answers usage)
-    ∷ prints ("version" ∷ []) "fibexp 2.0.0\n"
+    ∷ prints ("version" ∷ []) "fibexp 2.1.0\n"
     ∷ tape-prints ("check" ∷ []) "0\n"
     ∷ tape-prints ("list" ∷ []) "free p=7 r=0 k=0 steps=1\n1 mul 0 1\n"
     ∷ tape-prints ("load" ∷ "3" ∷ []) "1 3 1 1 0\n"
     ∷ tape-prints ("run" ∷ "1" ∷ "3" ∷ "1" ∷ "1" ∷ "0" ∷ "1" ∷ []) "3 3 1 1 1\n"
     ∷ tape-prints ("step" ∷ "3" ∷ "3" ∷ "1" ∷ "1" ∷ "1" ∷ "1" ∷ []) "1 3 1 1 0\n"
     ∷ tape-replies ("step" ∷ "3" ∷ "3" ∷ "1" ∷ "1" ∷ "1" ∷ "0" ∷ []) (refuses 9 10)
+    ∷ tape-prints ("preview" ∷ "3" ∷ "3" ∷ "1" ∷ "1" ∷ "1" ∷ "0" ∷ []) "1 3 1 1\n0 1 0\n"
     ∷ tape-prints ("power" ∷ "3" ∷ []) "3\n3 3 1 1 1\n"
     ∷ named-prints ("raise" ∷ "2" ∷ "4" ∷ []) "4 2\n"
     ∷ tape-prints ("trace" ∷ "1" ∷ []) "1 1 0 0\n"
@@ -103,5 +106,5 @@ examples =
     ∷ []
 
 pub examples-hold : AllHold examples
-unfolding reply askedBy numbersFrom parameterIn variantIn rowNamed indexIn names rows entries built tapeReply numberReply digitOf allDigits valueFrom numberFrom inBase isHexadecimal parseNumber sameWords onTape decimalWithin decimal whole line outcome tapeIn noTape tapeOf bytesOf isLength isHeader isFreeOrNamed allSteps isEnd laidOut part programWords encoded stepWord decoded headingIn actionIn swapIn namedSteps formsIn basicForms drawn basic ascend inverted inverseStep isOneOf sameSteps sameStep checkRules buildOutcome badModulus badOrder badVariant isPrime greatest gcd badExponent inverse inverseOutcome remainder times badRegister badRegisters allowed badBase loadOutcome baseRules recordRules goalRules traceRules runOutcome forwardOutcome traceOutcome badCut cutRules cutOutcome rowRules raiseRules raised onRow raiseOutcome raisedBases tableRules tableOutcome tableOf tableStays neighbour pastEnd stepRules stepOutcome afterAll numbersAll requestsOf run doAll undoAll apply staysInRange allInRange inRange shiftAll shift stepLines fib lucas pad greedy zeckendorf placesFrom weight arePlaces reaches firstFrom height hofstadterTo G fibonacciOutcome numberOutcome
-examples-hold = (refl, (refl, (refl, (refl, (refl, (refl, (refl, (refl, (refl, (refl, (refl, (refl, (refl, (refl, (refl, (refl, (refl, (refl, (refl, (refl, (refl, (refl, (refl, (refl, (refl, (refl, tt))))))))))))))))))))))))))
+unfolding reply askedBy numbersFrom parameterIn variantIn rowNamed indexIn names rows entries built tapeReply numberReply digitOf allDigits valueFrom numberFrom inBase isHexadecimal parseNumber sameWords onTape decimalWithin decimal whole line outcome tapeIn noTape tapeOf bytesOf isLength isHeader isFreeOrNamed allSteps isEnd laidOut part programWords encoded stepWord decoded headingIn actionIn swapIn namedSteps formsIn basicForms drawn basic ascend inverted inverseStep isOneOf sameSteps sameStep checkRules buildOutcome badModulus badOrder badVariant isPrime greatest gcd badExponent inverse inverseOutcome remainder times badRegister badRegisters allowed badBase loadOutcome baseRules recordRules goalRules traceRules runOutcome forwardOutcome traceOutcome badCut cutRules cutOutcome rowRules raiseRules raised onRow raiseOutcome raisedBases tableRules tableOutcome tableOf tableStays neighbour pastEnd stepRules stepOutcome previewOutcome way countsOf countWhere isMul isDiv isSwp afterAll numbersAll requestsOf run doAll undoAll apply staysInRange allInRange inRange shiftAll shift stepLines fib lucas pad greedy zeckendorf placesFrom weight arePlaces reaches firstFrom height hofstadterTo G fibonacciOutcome numberOutcome
+examples-hold = (refl, (refl, (refl, (refl, (refl, (refl, (refl, (refl, (refl, (refl, (refl, (refl, (refl, (refl, (refl, (refl, (refl, (refl, (refl, (refl, (refl, (refl, (refl, (refl, (refl, (refl, (refl, tt)))))))))))))))))))))))))))

@@ -27,16 +27,17 @@ use Rattle.sequencer.specs.Services.{loadOutcome, runOutcome, forwardOutcome, t
 use Rattle.sequencer.specs.Bases.{raiseOutcome}
 use Rattle.sequencer.specs.Tables.{tableOutcome}
 use Rattle.sequencer.specs.Sessions.{stepOutcome, isBackward}
+use Rattle.sequencer.specs.Previews.{previewOutcome}
 use Rattle.listing.specs.Listing.{firstLine, stepLines, linesFor}
 use Rattle.tool.specs.declared.TapeVerb.{TapeVerb}
-use Rattle.tool.specs.declared.TapeVerb.the-variants.{Check, Listing, Load, Run, SingleStep, Power, Raise, Trace, Table, Cut, Play}
+use Rattle.tool.specs.declared.TapeVerb.the-variants.{Check, Listing, Load, Run, SingleStep, Preview, Power, Raise, Trace, Table, Cut, Play}
 use Rattle.tool.specs.declared.NumberVerb.{NumberVerb}
 use Rattle.tool.specs.declared.NumberVerb.the-variants.{Decode, Fibonacci, Places, NumberOf, Hofstadter, Inverse, Height, Prime, MulMod, PowMod}
 use Rattle.tool.specs.declared.Verb.{Verb}
 use Rattle.tool.specs.declared.Verb.the-variants.{Unknown, Build, Script, Help, Version, OnTape, OnNumbers, InScript}
 use Rattle.tool.specs.declared.Row.{Row}
 use Rattle.tool.specs.Verbs.{takesTape}
-use Rattle.tool.specs.Texts.{exponentsLine, rowLine, tableLines, recordLine, powerLines, meaning, stepMeaning, refusalLine, noVerbLine, wrongCountLine, unreadLine, lines, usage}
+use Rattle.tool.specs.Texts.{exponentsLine, rowLine, tableLines, recordLine, previewLines, powerLines, meaning, stepMeaning, refusalLine, noVerbLine, wrongCountLine, unreadLine, lines, usage}
 use Rattle.tool.specs.Calls.{Asked, noWord, noVerb, wrongCount, unread, known, askedBy}
 use Rattle.tool.specs.Replies.{Replied, printed, at, Streams, built, numberReply, tapeReply, means, ownIn, replyTo, reply, isWhole}
 
@@ -111,6 +112,7 @@ on-tape-some Listing own v tape tapes = some-listing (acceptOutcome tape) (steps
 on-tape-some Load own v tape tapes = some-printed own (loadOutcome tape (at v 0)) recordLine (λ s. some-line _)
 on-tape-some Run own v tape tapes = some-printed own (runOutcome tape (recordIn v) (at v 5)) recordLine (λ s. some-line _)
 on-tape-some SingleStep own v tape tapes = some-printed own (stepOutcome tape (recordIn v) (isBackward (at v 5))) recordLine (λ s. some-line _)
+on-tape-some Preview own v tape tapes = some-printed own (previewOutcome tape (recordIn v) (at v 5)) previewLines (λ w. front (numbersLine (w .registers)) (numbersLine (w .counts)) (some-line _))
 on-tape-some Power own v tape tapes = some-printed own (forwardOutcome tape (at v 0)) powerLines (λ s. front (numberLine (reg (s .registers) 1)) (recordLine s) (some-line _))
 on-tape-some Raise own v tape tapes = some-printed own (raiseOutcome tape v) _ (λ n. some-line _)
 on-tape-some Trace own v tape tapes = some-printed own (traceOutcome tape (at v 0)) exponentsLine (λ n. some-line _)

@@ -11,7 +11,7 @@ abbrev pub plainCount : ℕ
 plainCount = 7
 
 abbrev pub tapeCount : ℕ
-tapeCount = 11
+tapeCount = 12
 
 abbrev pub numberCount : ℕ
 numberCount = 10

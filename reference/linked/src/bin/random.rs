@@ -7,16 +7,18 @@
 //! and outputs lie between canaries, drawn anew for each call, and a refused call leaves all of them.
 //! The first difference is printed with its input and ends the program with status 1.
 //!
-//! The calls come in rounds. A round draws two tapes and makes 28 calls: of each tape check, load, run,
-//! step, raise, trace and table, of one also cut and the listing; two builds; two each of places, number,
-//! G and the inverse; a Fibonacci number; a height. So the services that take or write tapes, where most
-//! can go wrong, have more than half of the calls. One round in four also gives the tool more than forty
-//! command lines of every verb, a fifth of them damaged, with a third tape on standard input. Of the
+//! The calls come in rounds. A round draws two tapes and makes 30 calls: of each tape check, load, run,
+//! step, preview, raise, trace and table, of one also cut and the listing; two builds; two each of places,
+//! number, G and the inverse; a Fibonacci number; a height. So the services that take or write tapes, where
+//! most can go wrong, have more than half of the calls. One round in four also gives the tool more than
+//! fifty command lines of every verb, a fifth of them damaged, with a third tape on standard input. Of the
 //! tapes nine in sixteen are what build writes for drawn parameters, four are hand-made, two have a
 //! header that belongs to other steps, one is any words; then three in eight are damaged. Half of the
-//! single steps begin beside an end of the tape. A row has 0 to 66 bases, and half of the rows have one or
-//! two that are drawn to be bad. Half of the builds have a fault in p, r, k, the variant or all of them.
-//! The primes are those at the ends and 6000 drawn ones of every size up to 2^28.
+//! single steps begin beside an end of the tape. A preview goes from end to end in a quarter of the draws,
+//! in an eighth to where its record stands, and in a quarter to an end, one past it, or the largest number.
+//! A row has 0 to 66 bases, and half of the rows have one or two that are drawn to be bad. Half of the
+//! builds have a fault in p, r, k, the variant or all of them. The primes are those at the ends and 6000
+//! drawn ones of every size up to 2^28.
 
 use linked::lent::{inner, Canaries, Lent};
 use linked::proved;
@@ -82,6 +84,7 @@ impl Comparison {
             self.load(tape);
             self.run(tape);
             self.step(tape);
+            self.preview(tape);
             self.raise(tape);
             self.trace(tape);
             self.table(tape);
@@ -239,6 +242,32 @@ impl Comparison {
         let call = || format!("step {:?} {direction} {}", lent.value, hexadecimal(tape));
         let (answered, expected) = ((record, &row[..]), (expected, tape));
         self.compare(Service::Step, call, (number, answered), (refusal, expected));
+    }
+
+    fn preview(&mut self, tape: &[u32]) {
+        let (from, to) = draw::position_and_target(&mut self.noise, steps(tape));
+        let start = [self.lent_record(tape, from)];
+        let lent_registers = Lent::new(&mut self.noise, four_words);
+        let lent_counts = Lent::new(&mut self.noise, three_words);
+        let (mut registers, mut counts) = (lent_registers, lent_counts);
+        let ((number, row), record) = lend(&start, |record| {
+            let record = &record[0].value;
+            lend(tape, |tape| {
+                proved::preview(tape, record, to, &mut registers.value, &mut counts.value)
+            })
+        });
+        let answer = services::preview(tape, Record::of(start[0].value), to);
+        let (refusal, expected_registers) = lent_registers.settled(answer.map(|at| at.registers));
+        let (_, expected_counts) = lent_counts.settled(answer.map(|at| at.counts));
+        let call = || format!("preview {:?} to {to} {}", start[0].value, hexadecimal(tape));
+        let answered = (registers, counts, &record[..], &row[..]);
+        let expected = (expected_registers, expected_counts, &start[..], tape);
+        self.compare(
+            Service::Preview,
+            call,
+            (number, answered),
+            (refusal, expected),
+        );
     }
 
     /// Drawn registers of a tape's p at a position.
@@ -442,6 +471,14 @@ fn lend<T: Clone, A>(lent: &[T], call: impl FnOnce(&[T]) -> A) -> (A, Vec<T>) {
     // The compiler may not take it for granted that the call left the row as it was.
     black_box(&mut row);
     (answer, row)
+}
+
+fn three_words(noise: &mut Noise) -> [u32; 3] {
+    [0; 3].map(|_| noise.word())
+}
+
+fn four_words(noise: &mut Noise) -> [u32; 4] {
+    [0; 4].map(|_| noise.word())
 }
 
 fn five_words(noise: &mut Noise) -> [u32; 5] {

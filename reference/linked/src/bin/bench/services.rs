@@ -43,6 +43,7 @@ const fn service(
 
 const PROGRAM: &str = "primes, forms, inverse";
 const RUN: &str = "primes, forms, inverse, product";
+const PREVIEW: &str = "primes, forms, inverse, product, counts";
 const STEP: &str = "primes, forms, inverse, one step";
 const TABLE: &str = "primes, forms, inverse, passes";
 const LOADS_AND_RUNS: &str = "both sides proved; the other is 64 loads and 64 runs";
@@ -58,6 +59,8 @@ pub static SERVICES: &[Service] = &[
     service(RUNS[0], EVERY, true, RUN, run_forward),
     service(RUNS[1], EVERY, true, RUN, run_backward),
     service("step", NAMED, false, STEP, step),
+    service("preview forward", EVERY, true, PREVIEW, preview_forward),
+    service("preview backward", EVERY, true, PREVIEW, preview_backward),
     service("raise, 64 bases", NAMED, false, RUN, raise),
     service(
         "64 bases: raise / loads and runs",
@@ -129,35 +132,28 @@ fn run_backward(inputs: &Inputs, variant: u32) -> Pair<'_> {
     run(inputs, variant, false)
 }
 
-/// End to end, from (1, a, 1, 1) forward, from any registers backward.
+/// The record and the goal of input i, end to end: from (1, a, 1, 1) forward, from any registers backward.
+fn whole(inputs: &Inputs, tape: &[u32], i: usize, forward: bool) -> (Record, u32) {
+    if forward {
+        (Record::at(0, [1, inputs.bases[i], 1, 1]), steps(tape))
+    } else {
+        (Record::at(steps(tape), inputs.registers[i]), 0)
+    }
+}
+
 fn run(inputs: &Inputs, variant: u32, forward: bool) -> Pair<'_> {
-    let start = move |i: usize| {
-        if forward {
-            [1, inputs.bases[i], 1, 1]
-        } else {
-            inputs.registers[i]
-        }
-    };
-    let way = move |tape: &[u32]| {
-        if forward {
-            (0, steps(tape))
-        } else {
-            (steps(tape), 0)
-        }
-    };
     Pair::new(
         move |i| {
             let tape = black_box(inputs.tape(variant, i));
-            let (from, to) = way(tape);
-            let mut record = black_box(Record::at(from, start(i)).numbers());
+            let (record, to) = whole(inputs, tape, i, forward);
+            let mut record = black_box(record.numbers());
             black_box(proved::run(tape, &mut record, to));
             black_box(&record);
         },
         move |i| {
             let tape = black_box(inputs.tape(variant, i));
-            let (from, to) = way(tape);
-            let record = black_box(Record::at(from, start(i)));
-            let _ = black_box(services::run(tape, record, to));
+            let (record, to) = whole(inputs, tape, i, forward);
+            let _ = black_box(services::run(tape, black_box(record), to));
         },
     )
 }
@@ -176,6 +172,33 @@ fn step(inputs: &Inputs, variant: u32) -> Pair<'_> {
             let tape = black_box(inputs.tape(variant, i));
             let record = black_box(start(tape, i));
             let _ = black_box(services::step(tape, record, i % 2 == 1));
+        },
+    )
+}
+
+fn preview_forward(inputs: &Inputs, variant: u32) -> Pair<'_> {
+    preview(inputs, variant, true)
+}
+
+fn preview_backward(inputs: &Inputs, variant: u32) -> Pair<'_> {
+    preview(inputs, variant, false)
+}
+
+/// The whole runs, as `run` does them.
+fn preview(inputs: &Inputs, variant: u32, forward: bool) -> Pair<'_> {
+    let (mut registers, mut counts) = ([0; 4], [0; 3]);
+    Pair::new(
+        move |i| {
+            let tape = black_box(inputs.tape(variant, i));
+            let (record, to) = whole(inputs, tape, i, forward);
+            let record = black_box(record.numbers());
+            let number = proved::preview(tape, &record, to, &mut registers, &mut counts);
+            black_box((number, &registers, &counts));
+        },
+        move |i| {
+            let tape = black_box(inputs.tape(variant, i));
+            let (record, to) = whole(inputs, tape, i, forward);
+            let _ = black_box(services::preview(tape, black_box(record), to));
         },
     )
 }
