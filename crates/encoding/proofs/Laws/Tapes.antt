@@ -1,15 +1,11 @@
 -- The words from an index of the bytes on: the word of the next four bytes and the words past them, or none.
 use mathlib.Core.Path.{_≡_, refl, ap, _∙_}
 use mathlib.Core.List.{List, [], _∷_}
-use Prim.Native.Nat.{ℕ, suc, _+_, _/_, _≤_, _<_}
+use Prim.Native.Nat.{ℕ, _+_, _/_, _≤_, _<_}
 use native.Mathlib.Omega.{arith}
 use lib.ListN.{length, getD, drop, length-drop}
-use lib.Seq.{drop-cons}
+use Rattle.tape.proofs.Laws.Rows.{drop-next}
 use Rattle.encoding.specs.Encoding.{wordOf, tapeOf}
-
--- the elements from an index on: the one there, and those from the next on
-pub drop-next : {A : Type 0} (l : List A) (i next : ℕ) (d : A) → next ≡ i + 1 → i < length l → drop i l ≡ getD l i d ∷ drop next l
-drop-next l i next d e h = let same : suc i ≡ next = omega arith in drop-cons l i d h ∙ ap (λ (n : ℕ). getD l i d ∷ drop n l) same
 
 pub tape-next : (bytes : List ℕ) (at : ℕ) → at + 4 ≤ length bytes
     → tapeOf (drop at bytes)

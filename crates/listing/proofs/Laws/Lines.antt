@@ -8,7 +8,7 @@ use Rattle.tape.specs.declared.Step.{Step}
 use Rattle.tape.specs.Words.{decoded}
 use Rattle.tape.specs.Layout.{stepOf, stepsIn}
 use Rattle.tape.proofs.Laws.Rows.{steps-nth}
-use Rattle.encoding.proofs.Laws.Tapes.{drop-next}
+use Rattle.tape.proofs.Laws.Rows.{drop-next}
 use Rattle.listing.specs.Listing.{stepLine, stepLines}
 
 module _ (words : List ℕ) where

@@ -13,10 +13,10 @@ use borrow.Author.Tests.{ne-eqb}
 use Rattle.tape.specs.declared.Step.{Step}
 use Rattle.tape.specs.declared.Step.the-variants.{Mul, Div, Swp}
 use Rattle.tape.specs.Inner.Operations.{stepBy}
+use Rattle.tape.proofs.Laws.Rows.{drop-next}
 use Rattle.machine.specs.Machine.{inverseStep, inverted}
 use Rattle.machine.specs.Ways.{way, countWhere, isMul, isDiv, isSwp, countsOf}
 use Rattle.machine.specs.Inner.Kinds.{isKind}
-use Rattle.machine.proofs.Laws.Lists.{drop-next}
 use Rattle.machine.proofs.Laws.Steps.{length-inverted}
 use Rattle.machine.proofs.Laws.Ways.{way-forward, way-backward, way-here, way-back}
 
@@ -45,10 +45,10 @@ module _ (test : Step → Bool) where
 
   -- from one step of a list on, and behind its end
   module _ (xs : List Step) (i : ℕ) where
-    pub count-next : (x other : Step) → x ≡ getD xs i other → i < length xs → (b : Bool) → test x ≡ b
+    pub count-next : (other : Step) → i < length xs → (b : Bool) → test (getD xs i other) ≡ b
         → countWhere test (drop i xs) ≡ cond b (suc (countWhere test (drop (i + 1) xs))) (countWhere test (drop (i + 1) xs))
     unfolding countWhere
-    count-next x other at inside b e = ap (countWhere test) (drop-next xs i x other at inside) ∙ rw e
+    count-next other inside b e = ap (countWhere test) (drop-next xs i (i + 1) other refl inside) ∙ rw e
 
     pub count-end : length xs ≤ i → countWhere test (drop i xs) ≡ 0
     unfolding countWhere

@@ -1,13 +1,13 @@
 -- Laws of lists for registers as for exponents: two places exchanged twice are as they were, since writes to different places
--- commute; a list from one entry on; and reading and writing go through a function on the entries.
-use mathlib.Core.Path.{_≡_, refl, sym, _∙_, ap, ap₂}
+-- commute; and reading and writing go through a function on the entries.
+use mathlib.Core.Path.{_≡_, refl, sym, _∙_, ap}
 use mathlib.Core.Logic.{_≢_}
 use mathlib.Core.List.{List, [], _∷_, map}
-use Prim.Native.Nat.{ℕ, zero, suc, _+_, _<_}
+use Prim.Native.Nat.{ℕ, zero, suc, _<_}
 use native.Mathlib.Nat.{not-suc-le-zero, le-of-suc-le-suc}
 use native.Mathlib.Omega.{arith}
 use lib.ListN.{length, getD, set, take, drop, length-set}
-use lib.Seq.{slice, drop-cons, set-set, set-comm, set-getD, getD-set-same, getD-set-other}
+use lib.Seq.{slice, set-set, set-comm, set-getD, getD-set-same, getD-set-other}
 
 -- ---- four entries
 
@@ -54,13 +54,6 @@ module _ {A : Type 0} (d : A) where
       let et : getD (exchange v t s) t d ≡ getD v s d =
       getD-set-other (set v t (getD v s d)) s t (getD v t d) d ne ∙ getD-set-same v t (getD v s d) d ht in
       rw (es, et) (written-twice v t s (getD v t d) (getD v s d) ne refl refl)
-
--- ---- a list from one entry on
-
-pub drop-next : {A : Type 0} (xs : List A) (i : ℕ) (x other : A) → x ≡ getD xs i other → i < length xs → drop i xs ≡ x ∷ drop (i + 1) xs
-drop-next xs i x other at inside =
-    let next : suc i ≡ i + 1 = omega arith in
-    drop-cons xs i other inside ∙ ap₂ (λ y (n : ℕ). y ∷ drop n xs) (sym at) next
 
 -- ---- a list read and written through a function
 

@@ -8,8 +8,8 @@ use lib.IntN.{ℤ}
 use lib.ListN.{length, getD, drop, drop-of-length-le}
 use Rattle.refusal.proofs.Laws.Tests.{test-false}
 use Rattle.tape.specs.declared.Step.{Step}
+use Rattle.tape.proofs.Laws.Rows.{drop-next}
 use Rattle.machine.specs.Exponents.{shift, shiftAll, allInRange, staysInRange, makesInRange, shiftInRange}
-use Rattle.machine.proofs.Laws.Lists.{drop-next}
 use Rattle.machine.proofs.Laws.Ranges.{stays-first}
 use Rattle.machine.proofs.Laws.Sums.{step-range}
 
@@ -31,7 +31,7 @@ module _ {xs : List Step} {z : List ℤ} where
 
   module _ (i : ℕ) (x other : Step) (w : List ℤ) (at : x ≡ getD xs i other) (h : i < length xs) (l : RestOfTrace xs z (drop i xs) w) where
     from-there : drop i xs ≡ x ∷ drop (i + 1) xs
-    from-there = drop-next xs i x other at h
+    from-there = drop-next xs i (i + 1) other refl h ∙ ap (λ (y : Step). y ∷ drop (i + 1) xs) (sym at)
 
     stays-on : (allInRange w && staysInRange (drop (i + 1) xs) (shift x w)) ≡ staysInRange xs z
     unfolding staysInRange

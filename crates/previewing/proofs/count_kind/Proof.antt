@@ -1,5 +1,5 @@
 -- `count_kind` meets its contract: what is counted so far and what is left come to the whole count.
-use mathlib.Core.Path.{_≡_, sym, _∙_}
+use mathlib.Core.Path.{_≡_, sym, ap, _∙_}
 use mathlib.Core.Logic.{inl, inr}
 use Prim.Native.Nat.{_+_, _-_, _≤_}
 use native.Mathlib.Omega.{arith}
@@ -36,7 +36,8 @@ loop-again c =
     let k = start .args .opcode in
     let i = at .loop .i in
     let op = read .operation-of .result in
-    let next = count-next (isKind k) (rawSteps words) i _ _ (read .operation-of .ensures ∙ sym (raw-nth words i)) (omega (arith, raw-count words)) _ (kind-by k (op .opcode) (op .target) (op .source) (start .pre .1)) in
+    let same = ap (isKind k) (raw-nth words i ∙ sym (read .operation-of .ensures)) ∙ kind-by k (op .opcode) (op .target) (op .source) (start .pre .1) in
+    let next = count-next (isKind k) (rawSteps words) i _ (omega (arith, raw-count words)) _ same in
     elim (c .if1 .came) [
       | inl t ↦ (omega arith, omega (arith, t .1), omega (arith, t .1, rw (eq-eqb _ _ (t .0 .taken)) at next, at .loop .inv .2))
       | inr t ↦ (omega arith, omega (arith, t .1), omega (arith, t .1, rw (ne-eqb _ _ (t .0 .left)) at next, at .loop .inv .2))

@@ -5,10 +5,10 @@ use mathlib.Core.List.{List, [], _∷_, _++_, append-assoc}
 use Prim.Native.Nat.{ℕ, suc, _+_, _-_, _^_, _≤_, _<_}
 use native.Mathlib.Omega.{arith}
 use lib.ListN.{length, getD, set, drop, length-drop, length-append}
-use lib.Seq.{sets, drop-cons, take-at, drop-at}
+use lib.Seq.{sets, take-at, drop-at}
 use Rattle.refusal.specs.Outcomes.{refusalNumber}
 use Rattle.tape.specs.Layout.{part}
-use Rattle.tape.proofs.Laws.Rows.{part-inside}
+use Rattle.tape.proofs.Laws.Rows.{part-inside, drop-next}
 use Rattle.sequencer.specs.Records.{Record}
 use Rattle.sequencer.specs.Lists.{Turn, none, to, Request, answerTo, recordAfter, afterAll, numbersAll, turnOf, requestsOf, AllBelow, EncodedRequests, tapesOf, turnWord, PositionsFit}
 
@@ -23,7 +23,7 @@ fewer row (a ∷ b ∷ c ∷ d ∷ words) h = absurd (omega arith)
 module _ (row words : List ℕ) (i : ℕ) where
   -- the word at an index, and those past it
   next-word : (j : ℕ) → j < length words → drop j words ≡ getD words j 0 ∷ drop (j + 1) words
-  next-word j h = let next : suc j ≡ j + 1 = omega arith in drop-cons words j 0 h ∙ ap (λ (n : ℕ). getD words j 0 ∷ drop n words) next
+  next-word j h = drop-next words j (j + 1) 0 refl h
 
   four-words : i + 4 ≤ length words
       → drop i words ≡ getD words i 0 ∷ getD words (i + 1) 0 ∷ getD words (i + 2) 0 ∷ getD words (i + 3) 0 ∷ drop (i + 4) words

@@ -111,6 +111,10 @@ part-length row begin end =
       ]
     ]
 
+-- the elements from an index on: the one there, and those from the next on
+pub drop-next : {A : Type 0} (l : List A) (i next : ℕ) (d : A) → next ≡ i + 1 → i < length l → drop i l ≡ getD l i d ∷ drop next l
+drop-next l i next d e h = let same : suc i ≡ next = omega arith in drop-cons l i d h ∙ ap (λ (n : ℕ). getD l i d ∷ drop n l) same
+
 -- a slice, taken from its beginning on
 pub slice-from : (f t : ℕ) (l : List ℕ) → slice f t l ≡ take (t - f) (drop f l)
 slice-from zero t l = let all : t ≡ t - 0 = omega arith in ap (λ (n : ℕ). take n l) all

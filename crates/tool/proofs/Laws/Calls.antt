@@ -10,7 +10,7 @@ use lib.ListN.{length, getD, take, drop, set, drop-of-length-le, length-drop}
 use lib.Seq.{take-suc-set, getD-drop}
 use Rattle.text.specs.declared.Parsed.{Parsed}
 use Rattle.text.specs.declared.Parsed.the-variants.{Number, NoNumber}
-use Rattle.encoding.proofs.Laws.Tapes.{drop-next}
+use Rattle.tape.proofs.Laws.Rows.{drop-next}
 use Rattle.tool.specs.declared.Row.{Row}
 use Rattle.tool.specs.Verbs.{rowNamed, isHidden, limitOf, parameterIn}
 use Rattle.tool.specs.Calls.{Numbers, all, stopped, prependParsed, numbersFrom, noWord, noVerb, wrongCount, unread, withNumbers, askedOf, askedBy}

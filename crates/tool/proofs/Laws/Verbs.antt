@@ -13,7 +13,7 @@ use Rattle.text.specs.declared.Parsed.{Parsed}
 use Rattle.text.specs.declared.Parsed.the-variants.{Number, NoNumber}
 use Rattle.text.specs.Reading.{Small, parseNumber}
 use Rattle.text.proofs.Laws.Digits.{number-small}
-use Rattle.encoding.proofs.Laws.Tapes.{drop-next}
+use Rattle.tape.proofs.Laws.Rows.{drop-next}
 use Rattle.named.specs.Named.{variantNames}
 use Rattle.program.specs.Same.{sameWords}
 use Rattle.program.proofs.Laws.Same.{same-itself, same-equal}
