@@ -70,7 +70,7 @@ fn count_steps(words: &[u32]) -> Counts
     }
 }
 
-// How many of them have this opcode. Each kind has its own pass, so that a word costs no branch.
+// How many of them have this opcode.
 fn count_kind(words: &[u32], opcode: u32) -> u32
     requires { ⌜ length (now words) ≤ maxSteps ⌝ }
     requires { ⌜ opcode < 2 ⌝ }

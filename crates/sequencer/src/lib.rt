@@ -1,5 +1,5 @@
-// REQUIREMENTS 8 and 16: load, run, trace, table, cut, rows of bases, sessions, the preview, and lists of runs. The definitions and laws of this layer,
-// demand 3 among them, and the types and the limit that they name; it has no functions.
+// REQUIREMENTS 8 and 16: load, run, trace, table, cut, rows of bases, sessions, the preview, and lists of runs. The definitions and laws of
+// this layer, demand 3 among them, and the types and the limit that they name; it has no functions.
 use machine::Counts;
 use machine::Registers;
 use refusal::Refusal;

@@ -1,6 +1,6 @@
 // Sessions: a session carries the tape it was opened on, its registers and its position, goes one step either way, and is previewed. The
-// struct holds a reference, and the proofs of the functions over it are by hand, so these are few and thin: the work is done by functions on the tape
-// and the state.
+// struct holds a reference, and the proofs of the functions over it are by hand, so these are few and thin: the work is done by functions
+// on the tape and the state.
 ghost use mathlib.Core.Bool.{cond};
 ghost use mathlib.Core.List.{[]};
 ghost use mathlib.Core.Path.{_≡_};
