@@ -89,7 +89,7 @@ fn kind_done(word: u32, undo: bool) -> usize {
 }
 
 /// A preview shows these registers and counts, which add up to the distance. A run to the same position
-/// comes to the same registers, from the same record, which is as it was.
+/// comes to the same registers, from the same record.
 fn shows(tape: &[u32], record: Record, to: u32, registers: [u32; 4], counts: [u32; 3]) {
     let shown = preview(tape, record, to);
     assert_eq!(shown, Ok(Preview { registers, counts }), "{record:?} {to}");
@@ -306,7 +306,7 @@ fn sessions_at_every_position() {
 }
 
 /// What opening refuses, in run's order; a refused session holds the empty tape, four ones and position 0,
-/// and a step on it is refused with 6.
+/// and a step and a preview on it are refused with 6.
 #[test]
 fn refused_sessions() {
     let named = built(7, 3, 2, 1);
