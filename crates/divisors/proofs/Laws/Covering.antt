@@ -13,7 +13,7 @@ use borrow.Author.Tests.{eqb-true, ltb-true, ltb-false}
 use Rattle.divisors.specs.Small.{limit, SmallDivisor, hasSmallDivisor}
 use Rattle.divisors.specs.Inner.Inverted.{NoneBelow, DividedByOne}
 use Rattle.refusal.proofs.Laws.Tests.{by-test, both}
-use Rattle.divisors.proofs.Laws.Quotients.{cofactor-two}
+use Rattle.divisors.proofs.Laws.Quotients.{no-multiple, cofactor-two}
 use Rattle.divisors.proofs.Laws.Small.{small-told}
 
 -- the first of the numbers fs that divides e is from 2 to e - 1
@@ -51,7 +51,7 @@ none-below-two p d high s = omega (arith, s .low)
 
 module _ (p : ℕ) (odd : ¬ (p % 2 ≡ 0)) where
   no-even : (d : ℕ) → d % 2 ≡ 0 → ¬ (SmallDivisor p d)
-  no-even d even s = odd (mod-eq-zero-of-dvd 2 (dvd-trans 2 (dvd-of-mod-eq-zero 2 even) (s .divides)))
+  no-even d even s = no-multiple p 2 d odd even (s .divides)
 
   pub none-below-three : NoneBelow p 3
   none-below-three d high s = no-even d (omega (arith, s .low)) s

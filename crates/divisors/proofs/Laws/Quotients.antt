@@ -4,7 +4,7 @@
 -- 2^16, to which d is coprime.
 use mathlib.Core.Path.{_≡_, sym, _∙_, ap, subst}
 use Prim.Native.Nat.{ℕ, _+_, _*_, _-_, _/_, _%_, _≤_, _<_, _∣_}
-use native.Mathlib.Nat.{add-mul-mod-self-right, div-eq-of-lt, div-le-of-le-mul, div-le-self, div-mul-cancel, dvd-add, dvd-add-iff-left, dvd-mul-left, dvd-mul-left-of-dvd, dvd-mul-right, dvd-mul-right-of-dvd, le-of-lt, lt-of-le-of-lt, mod-add-div', mod-eq-of-lt, mod-lt, mul-le-mul-left, mul-le-mul-right, mul-lt-mul-of-pos-right}
+use native.Mathlib.Nat.{add-mul-mod-self-right, div-eq-of-lt, div-le-of-le-mul, div-le-self, div-mul-cancel, dvd-add, dvd-add-iff-left, dvd-mul-left, dvd-mul-left-of-dvd, dvd-mul-right, dvd-mul-right-of-dvd, dvd-of-mod-eq-zero, dvd-trans, le-of-lt, lt-of-le-of-lt, mod-add-div', mod-eq-of-lt, mod-eq-zero-of-dvd, mod-lt, mul-le-mul-left, mul-le-mul-right, mul-lt-mul-of-pos-right}
 use native.Mathlib.Omega.{arith}
 use native.Mathlib.Decide.{decLe}
 use Rattle.divisors.specs.Inner.Inverted.{halfWord, sumLimit, quotientBy, carryOf, HalfWordInverse, ZeroWhereDivided}
@@ -12,6 +12,10 @@ use Rattle.divisors.specs.Inner.Inverted.{halfWord, sumLimit, quotientBy
 -- the product of two numbers below n
 pub product-below : (n : ℕ) {x y : ℕ} → x < n → y < n → x * y < n * n
 product-below n {x} {y} hx hy = lt-of-le-of-lt (mul-le-mul-left x (le-of-lt hy)) (mul-lt-mul-of-pos-right hx (omega arith))
+
+-- what m doesn't divide, no multiple of m divides
+pub no-multiple : (n m e : ℕ) → ¬ (n % m ≡ 0) → e % m ≡ 0 → ¬ (e ∣ n)
+no-multiple n m e other multiple h = other (mod-eq-zero-of-dvd m (dvd-trans m (dvd-of-mod-eq-zero m multiple) h))
 
 -- the other factor of p
 pub cofactor-two : (p d q : ℕ) → d < p → q * d ≡ p → 2 ≤ q

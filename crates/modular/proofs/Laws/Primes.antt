@@ -4,14 +4,14 @@ use mathlib.Core.Path.{_≡_, refl, ap₂, subst}
 use mathlib.Core.Logic.{_⊎_, inl, inr, ⊎-elim}
 use mathlib.Core.Bool.{Bool, true, false, _&&_}
 use Prim.Native.Nat.{ℕ, _+_, _*_, _-_, _/_, _%_, _≤_, _<_, _∣_}
-use native.Mathlib.Nat.{div-mul-cancel, dvd-mul-right, dvd-of-mod-eq-zero, dvd-trans, mod-eq-zero-of-dvd, mod-one, mul-le-mul, mul-le-mul-left, mul-le-mul-right}
+use native.Mathlib.Nat.{div-mul-cancel, dvd-mul-right, dvd-of-mod-eq-zero, mod-eq-zero-of-dvd, mod-one, mul-le-mul, mul-le-mul-left, mul-le-mul-right}
 use native.Mathlib.Omega.{arith}
 use native.Mathlib.Decide.{ℕ-discrete, decLe, decLt}
 use lib.Dec.{leb, eqb}
 use borrow.Author.Tests.{eqb-true, eq-eqb, leb-true, le-leb}
 use Rattle.divisors.specs.Small.{limit, SmallDivisor, hasSmallDivisor}
 use Rattle.divisors.proofs.Laws.Small.{small-found, small-none}
-use Rattle.divisors.proofs.Laws.Quotients.{cofactor-two}
+use Rattle.divisors.proofs.Laws.Quotients.{no-multiple, cofactor-two}
 use Rattle.divisors.specs.Search.{greatest, divides}
 use Rattle.modular.specs.Primes.{Prime, isPrime}
 use Rattle.refusal.proofs.Laws.Tests.{test-false, both}
@@ -99,9 +99,7 @@ module _ (p : ℕ) (odd : ¬ (p % 2 ≡ 0)) (other : ¬ (p % 3 ≡ 0)) where
   -- a divisor leaves 1 or 5 modulo 6 as well
   divisor-leaves : (e : ℕ) → e ∣ p → (e % 6 ≡ 1) ⊎ (e % 6 ≡ 5)
   divisor-leaves e h =
-      leaves-one-or-five e
-      (λ z. odd (mod-eq-zero-of-dvd 2 (dvd-trans 2 (dvd-of-mod-eq-zero 2 z) h)))
-      (λ z. other (mod-eq-zero-of-dvd 3 (dvd-trans 3 (dvd-of-mod-eq-zero 3 z) h)))
+      leaves-one-or-five e (λ z. no-multiple p 2 e odd z h) (λ z. no-multiple p 3 e other z h)
 
   pub tried-start : Tried p 5
   tried-start =
