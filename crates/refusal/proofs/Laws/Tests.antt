@@ -1,5 +1,5 @@
 -- Laws of tests: a test is true or false, and what a conjunction or a disjunction of two says of each.
-use mathlib.Core.Path.{_≡_, refl}
+use mathlib.Core.Path.{_≡_, refl, sym}
 use mathlib.Core.Bool.{Bool, true, false, not, _&&_, _||_, true≢false, false≢true}
 
 -- a test, from what is absurd
@@ -38,3 +38,9 @@ implied false t e h = absurd (false≢true h)
 pub implies : (s t : Bool) → (s ≡ true → t ≡ true) → not s || t ≡ true
 implies true t f = f refl
 implies false t f = refl
+
+-- two tests that each say the other
+pub agree : (s t : Bool) → (s ≡ true → t ≡ true) → (t ≡ true → s ≡ true) → s ≡ t
+agree true t f g = sym (f refl)
+agree false true f g = g refl
+agree false false f g = refl
