@@ -1,7 +1,7 @@
 /*
- * Writes the hybrid program for p = 359, r = 179 and k = 76, the source's worked example, and loads the base 4. Does a
- * single step, previews the run to the end and does it, so that register 1 holds 4^76 modulo 359, then runs back to the
- * base, and prints the program's listing.
+ * Writes the hybrid program for p = 359, r = 179 and k = 76, the source's worked example, and loads the base 4, whose
+ * order modulo 359 is 179. Does a single step, previews the run to the end and does it, so that register 1 holds 4^76
+ * modulo 359, then runs back to the base, and prints the program's listing.
  *
  *     rt staticlib capi
  *     cc -std=c99 -Wall -Wextra -Werror -Iinclude examples/power.c target/staticlib/libcapi.a -o target/power

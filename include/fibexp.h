@@ -23,7 +23,7 @@ extern "C" {
 #endif
 
 /* The version, as the verb `version` of the tool prints it. */
-#define FIBEXP_VERSION "2.1.0"
+#define FIBEXP_VERSION "3.0.0"
 
 /* The refusals. */
 enum fibexp_refusal {
@@ -38,7 +38,8 @@ enum fibexp_refusal {
     FIBEXP_MISMATCH = 8,  /* a named program's steps aren't those built for its p, r, k and variant */
     FIBEXP_REGISTER = 9,  /* a register or base is 0 or at least p */
     FIBEXP_POSITION = 10, /* a position above the step count; a step past either end; a cut's first above its last */
-    FIBEXP_BASE = 11,     /* named program, and base^r isn't 1 modulo p */
+    FIBEXP_BASE = 11,     /* named program, and r isn't the base's order modulo p: base^r isn't 1, or a smaller positive
+                             power is */
     FIBEXP_RANGE = 12,    /* an exponent outside -2^62 to 2^62, or a sum of places above 64 bits */
     FIBEXP_INDEX = 13,    /* an index above 93, or a list that isn't a Zeckendorf form of places 1 to 92 */
     FIBEXP_COUNT = 14     /* a row of more than 64 bases */
@@ -101,7 +102,12 @@ uint32_t fibexp_check(const uint32_t *tape, size_t words);
  * second time.
  */
 
-/* Writes the record (1, base, 1, 1) at position 0. Refusals: those of fibexp_check, REGISTER, BASE. */
+/*
+ * Writes the record (1, base, 1, 1) at position 0. A named program takes a base of order r alone: r is the least
+ * positive exponent that gives 1 modulo p. So it never takes 1. What whole runs of named programs for p and r make of
+ * such a base has order r again. A tape made by hand takes every base from 1 to p - 1. Refusals: those of fibexp_check,
+ * REGISTER, BASE.
+ */
 uint32_t fibexp_load(const uint32_t *tape, size_t words, uint32_t base, uint32_t record[5]);
 
 /*

@@ -1,5 +1,5 @@
 //! An independent implementation of document 01, "The targeted exponentiation tape", and of requests
-//! T-01, T-02, T-04 and T-05 of document 02, written from these and from source document 002 alone. It
+//! T-01, T-02, T-04, T-05 and T-06 of document 02, written from these and from source document 002 alone. It
 //! serves as the other side of comparisons and benchmarks, so where there is a choice it takes another way
 //! than the text suggests:
 //!
@@ -10,10 +10,11 @@
 //! | Hofstadter's G | equation (1) of the paper, one fixed-point product and an exact test |
 //! | primes | Miller–Rabin with three bases that decide every 32-bit number |
 //! | inverses | Kaliski's almost inverse (shifts and subtractions) for odd moduli, carried over to even ones |
+//! | orders | r / q for the prime divisors q of r; Pollard's rho finds those above 61 |
 //! | running | each register travels with its inverse, so that a division costs no inversion |
 //! | single steps | the step's own registers alone, and an inversion where it divides |
 //! | previews | one walk, which does each step and counts it |
-//! | rows of bases | one power tests a base and inverts it; each step goes over the whole row |
+//! | rows of bases | the power that inverts a base also tests that a^r is 1; each step goes over the whole row |
 //! | tables | one pass in which a step adds whole rows, instead of one for each start value |
 //!
 //! Each service answers `Err(number)` with the refusal's number, the first that applies.
@@ -30,6 +31,7 @@ mod fibonacci;
 mod listing;
 mod machine;
 mod modular;
+mod order;
 mod program;
 mod record;
 mod session;

@@ -2,6 +2,7 @@
 //! accepted tape do.
 
 use crate::modular::Modulus;
+use crate::order::Order;
 use crate::program::accept;
 use crate::refusal;
 use crate::tape::{self, Program};
@@ -18,8 +19,8 @@ pub fn load(tape: &[u32], base: u32) -> Result<Record, u32> {
     if !is_register(base, program.p) {
         return Err(refusal::REGISTER);
     }
-    let order_kept = || Modulus::new(program.p).power(base as u64, program.r as u64) == 1;
-    if program.variant != tape::FREE && !order_kept() {
+    let has_order = || Order::new(program.r).is_that_of(base as u64, Modulus::new(program.p));
+    if program.variant != tape::FREE && !has_order() {
         return Err(refusal::BASE);
     }
     Ok(Record::at(0, [1, base, 1, 1]))
@@ -107,10 +108,10 @@ pub fn raise(tape: &[u32], bases: &mut [u32]) -> Result<(), u32> {
     if bases.len() > MOST_BASES {
         return Err(refusal::COUNT);
     }
-    let modulus = Modulus::new(program.p);
+    let (modulus, order) = (Modulus::new(program.p), Order::new(program.r));
     let units: Result<Vec<Unit>, u32> = bases
         .iter()
-        .map(|&base| base_with_inverse(base, &program, modulus))
+        .map(|&base| base_with_inverse(base, &program, modulus, &order))
         .collect();
     let ones = vec![Unit::ONE; bases.len()];
     let mut rows = [ones.clone(), units?, ones.clone(), ones];
@@ -280,14 +281,19 @@ fn acted(registers: [u32; 4], modulus: Modulus, kind: u32, step: u32) -> [u32; 4
 }
 
 /// A base of a named program: its refusals 9, 11. Where a^r is 1, a^(r − 1) is the inverse, so one power
-/// gives both.
-fn base_with_inverse(base: u32, program: &Program, modulus: Modulus) -> Result<Unit, u32> {
+/// tells the inverse and that a^r is 1.
+fn base_with_inverse(
+    base: u32,
+    program: &Program,
+    modulus: Modulus,
+    order: &Order,
+) -> Result<Unit, u32> {
     if !is_register(base, program.p) {
         return Err(refusal::REGISTER);
     }
     let value = base as u64;
     let inverse = modulus.power(value, program.r as u64 - 1);
-    if modulus.product(value, inverse) != 1 {
+    if modulus.product(value, inverse) != 1 || !order.is_least_for(value, modulus) {
         return Err(refusal::BASE);
     }
     Ok(Unit { value, inverse })

@@ -182,10 +182,27 @@ fn named(p: u32, r: u32, k: u32, a: u32) {
     }
 }
 
-/// The least a above 1 with a^r = 1, if there is one.
+/// The order of a base from 1 to p − 1: its powers one after another, up to the first that is 1.
+fn order_of(a: u32, p: u32) -> u32 {
+    let mut x = a;
+    let mut exponent = 1;
+    while x != 1 {
+        x = (x as u64 * a as u64 % p as u64) as u32;
+        exponent += 1;
+    }
+    exponent
+}
+
+/// A base of order r.
 fn base_of(p: u32, r: u32) -> u32 {
-    let power = |a: u64| (0..(p - 1) / r).fold(1, |x, _| x * a % p as u64) as u32;
-    (2..p as u64).map(power).find(|&a| a > 1).unwrap_or(1)
+    let mut powers = (2..p).map(|x| power(x, (p - 1) / r, p));
+    powers.find(|&a| order_of(a, p) == r).unwrap()
+}
+
+/// Whether r is the order of a base, where its powers are too many to count: r alone of all divisors of r gives 1.
+fn has_order(a: u32, r: u32, p: u32) -> bool {
+    let gives_one = |&d: &u32| power(a, d, p) == 1;
+    divisors(r).iter().all(|d| gives_one(d) == (*d == r))
 }
 
 #[test]
@@ -228,7 +245,7 @@ fn named_programs_of_large_orders() {
             .find(|&k| gcd(k, r) == 1)
             .unwrap();
         let h = height(r);
-        let a = 1 + noise.below(p as u64 - 1) as u32;
+        let a = drawn_base(&mut noise, p, r);
         for (variant, most) in [(1, 9 * h + 2), (2, 6 * h + 4), (3, 8 * h + 5)] {
             let tape = built(p, r, k, variant);
             let steps = tape.len() as u32 - 5;
@@ -245,6 +262,17 @@ fn named_programs_of_large_orders() {
     }
 }
 
+/// A drawn base of order r.
+fn drawn_base(noise: &mut Noise, p: u32, r: u32) -> u32 {
+    loop {
+        let x = 1 + noise.below(p as u64 - 1) as u32;
+        let a = power(x, (p - 1) / r, p);
+        if has_order(a, r, p) {
+            return a;
+        }
+    }
+}
+
 fn power(a: u32, k: impl Into<u64>, p: u32) -> u32 {
     let (p, mut square, mut rest, mut result) = (p as u64, a as u64, k.into(), 1);
     while rest > 0 {
@@ -255,6 +283,87 @@ fn power(a: u32, k: impl Into<u64>, p: u32) -> u32 {
         rest /= 2;
     }
     result as u32
+}
+
+/// What load gives for a base from 1 to p − 1 that is allowed or isn't.
+fn loaded(a: u32, is_allowed: bool) -> Result<Record, u32> {
+    if is_allowed {
+        Ok(Record::at(0, [1, a, 1, 1]))
+    } else {
+        Err(11)
+    }
+}
+
+/// Small primes, and others for which p − 1 is a power of 2, or has a high power of a prime, or many primes:
+/// named programs load the bases of order r alone, and a program by hand loads all.
+#[test]
+fn every_base_by_its_order() {
+    let small = (3..=61).filter(|&p| common::is_prime(p));
+    for p in small.chain([211, 241, 257, 359, 433, 487]) {
+        let orders: Vec<u32> = (1..p).map(|a| order_of(a, p)).collect();
+        for r in (2..p).filter(|r| (p - 1) % r == 0) {
+            let tape = built(p, r, r - 1, 1 + r % 3);
+            for (a, &order) in (1..p).zip(&orders) {
+                assert_eq!(load(&tape, a), loaded(a, order == r), "{a} for {r}, {p}");
+            }
+        }
+        for a in 1..p {
+            assert_eq!(load(&free(p, &[]), a), loaded(a, true));
+        }
+    }
+}
+
+/// Orders modulo a Fermat prime, the largest modulus, a safe prime, one whose p − 1 has eight prime divisors, and
+/// one with two large ones: drawn bases with a^r = 1, and 1 and p − 1.
+#[test]
+fn large_bases_by_their_order() {
+    let mut noise = Noise(31);
+    for p in [65_537, 268_435_399, 268_435_019, 232_792_561, 268_331_747] {
+        let orders = divisors(p - 1).into_iter().filter(|&r| r > 1);
+        for r in orders.take(40) {
+            let tape = built(p, r, r - 1, 1 + r % 3);
+            let drawn: Vec<u32> = (0..3)
+                .map(|_| power(1 + noise.below(p as u64 - 1) as u32, (p - 1) / r, p))
+                .collect();
+            for a in [1, p - 1].into_iter().chain(drawn) {
+                let expected = loaded(a, has_order(a, r, p));
+                assert_eq!(load(&tape, a), expected, "{a} for {r}, {p}");
+            }
+        }
+    }
+}
+
+/// A base of order r to the power of one prime divisor q of r has order r / q, which the quotient r / q alone
+/// tells; to the power of any exponent that shares no factor with r it has order r.
+#[test]
+fn each_prime_tells_a_smaller_order() {
+    let mut noise = Noise(37);
+    let cases: [(u32, u32, &[u32]); 5] = [
+        (232_792_561, 232_792_560, &[2, 3, 5, 7, 11, 13, 17, 19]),
+        (268_435_399, 268_435_398, &[2, 3, 7, 11, 581_029]),
+        (268_435_399, 134_217_699, &[3, 7, 11, 581_029]),
+        (268_435_019, 134_217_509, &[134_217_509]),
+        (268_331_747, 134_165_873, &[11_579, 11_587]),
+    ];
+    for (p, r, primes) in cases {
+        let tape = built(p, r, r - 1, 1);
+        let a = drawn_base(&mut noise, p, r);
+        assert_eq!(load(&tape, a), loaded(a, true));
+        for &q in primes {
+            let lesser = power(a, q, p);
+            let telling = primes.iter().filter(|&d| power(lesser, r / d, p) == 1);
+            assert!(telling.eq(&[q]));
+            assert_eq!(load(&tape, lesser), Err(11), "{q} of {r}");
+            let mut row = [a, lesser, a];
+            assert_eq!(raise(&tape, &mut row), Err(11));
+            assert_eq!(row, [a, lesser, a]);
+        }
+        for _ in 0..20 {
+            let k = 1 + noise.below(r as u64 - 1) as u32;
+            let b = power(a, k, p);
+            assert_eq!(load(&tape, b), loaded(b, gcd(k, r) == 1), "{k} of {r}");
+        }
+    }
 }
 
 /// What load and run from end to end leave of each base in register 1.
@@ -294,15 +403,17 @@ fn rows_of_every_base() {
 
 fn every_base(p: u32, r: u32, k: u32, variant: u32) {
     let tape = built(p, r, k, variant);
-    let plain = |a: u32, exponent: u32| (0..exponent).fold(1, |x, _| x * a % p);
-    let (good, bad): (Vec<u32>, Vec<u32>) = (0..=p + 1).partition(|&a| plain(a, r) == 1 && a < p);
-    let powers: Vec<u32> = good.iter().map(|&a| plain(a, k)).collect();
+    let is_good = |&a: &u32| 0 < a && a < p && order_of(a, p) == r;
+    let (good, bad): (Vec<u32>, Vec<u32>) = (0..=p + 1).partition(is_good);
+    let powers: Vec<u32> = good.iter().map(|&a| power(a, k, p)).collect();
     assert_eq!(raised(&tape, &good), powers, "{p} {r} {k} {variant}");
     assert_eq!(each_alone(&tape, &good), powers);
     for base in bad {
-        let mut row = [1, base];
-        assert_eq!(raise(&tape, &mut row), load(&tape, base).map(|_| ()));
-        assert_eq!(row, [1, base]);
+        let mut row = [good[0], base];
+        let refused = load(&tape, base).map(|_| ());
+        assert!(refused.is_err(), "{base} {p} {r}");
+        assert_eq!(raise(&tape, &mut row), refused);
+        assert_eq!(row, [good[0], base]);
     }
 }
 
@@ -316,8 +427,7 @@ fn rows_of_the_largest_prime() {
                 .find(|&k| gcd(k, r) == 1)
                 .unwrap_or(1);
             let tape = built(p, r, k, 1 + noise.below(3) as u32);
-            let drawn = (0..count).map(|_| 1 + noise.below(p as u64 - 1) as u32);
-            let bases: Vec<u32> = drawn.map(|x| power(x, (p - 1) / r, p)).collect();
+            let bases: Vec<u32> = (0..count).map(|_| drawn_base(&mut noise, p, r)).collect();
             let powers: Vec<u32> = bases.iter().map(|&a| power(a, k, p)).collect();
             assert_eq!(raised(&tape, &bases), powers, "{r} {k}");
             assert_eq!(each_alone(&tape, &bases), powers);
@@ -400,25 +510,54 @@ fn named_programs_step_by_step() {
     }
 }
 
-/// A chain of demand 3: programs for one p and r end to end, each behind a turn, refused runs between
-/// them.
+/// A chain of demand 3: programs for one p and r end to end, each behind a turn, refused runs between them.
+/// Answers the base that it leaves, which is a^E.
+fn chain(noise: &mut Noise, start: Record, p: u32, r: u32) -> u32 {
+    let a = start.registers[1];
+    let (mut record, mut e) = (start, 1);
+    for _ in 0..8 {
+        let k = (1 + noise.below(r as u64 - 1) as u32..r).find(|&k| gcd(k, r) == 1);
+        let k = k.unwrap_or(1);
+        let tape = built(p, r, k, 1 + noise.below(3) as u32);
+        let steps = tape.len() as u32 - 5;
+        let forward = noise.below(2) == 0;
+        let (from, to) = if forward { (0, steps) } else { (steps, 0) };
+        record = run(&tape, record.turned(from), to).unwrap();
+        e = e * if forward { k } else { inverse(k, r).unwrap() } % r;
+        assert_eq!(run(&tape, record, steps + 1), Err(10));
+    }
+    assert_eq!(record.registers, [1, power(a, e, p), 1, 1]);
+    record.registers[1]
+}
+
+/// From a base that a named program loads; another one for the same p and r loads the result.
 #[test]
 fn chains() {
     let (p, r, a) = (359, 179, 4);
     let mut noise = Noise(11);
     for _ in 0..20 {
-        let (mut record, mut e) = (Record::at(0, [1, a, 1, 1]), 1);
-        for _ in 0..8 {
-            let k = 1 + noise.below(178) as u32;
-            let tape = built(p, r, k, 1 + noise.below(3) as u32);
-            let steps = tape.len() as u32 - 5;
-            let forward = noise.below(2) == 0;
-            let (from, to) = if forward { (0, steps) } else { (steps, 0) };
-            record = run(&tape, record.turned(from), to).unwrap();
-            e = e * if forward { k } else { inverse(k, r).unwrap() } % r;
-            assert_eq!(run(&tape, record, steps + 1), Err(10));
+        let start = load(&built(p, r, 76, 1), a).unwrap();
+        let b = chain(&mut noise, start, p, r);
+        let again = load(&built(p, r, 100, 2), b).unwrap();
+        chain(&mut noise, again, p, r);
+    }
+}
+
+/// From every base with a^r = 1, which a program by hand loads, whatever its order; the result has the same
+/// order, so that a named program loads it exactly where it loads the base.
+#[test]
+fn chains_of_every_order() {
+    let mut noise = Noise(13);
+    for (p, r) in [(31, 30), (31, 10), (61, 60), (97, 48), (257, 64), (3, 2)] {
+        let named = built(p, r, r - 1, 1);
+        for a in (1..p).filter(|&a| power(a, r, p) == 1) {
+            let start = load(&free(p, &[]), a).unwrap();
+            let b = chain(&mut noise, start, p, r);
+            assert_eq!(order_of(b, p), order_of(a, p));
+            for base in [a, b] {
+                assert_eq!(load(&named, base), loaded(base, order_of(a, p) == r));
+            }
         }
-        assert_eq!(record.registers, [1, power(a, e, p), 1, 1]);
     }
 }
 

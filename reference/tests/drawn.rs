@@ -1,6 +1,10 @@
 //! The drawn script meets every refusal of every verb often, and stays small.
 
+mod common;
+
+use common::divisors;
 use reference::drawing::calls;
+use reference::power;
 use reference::script::script;
 use std::collections::HashMap;
 use std::ops::RangeInclusive;
@@ -25,6 +29,7 @@ const REFUSALS: [(&str, &[u32]); 15] = [
 ];
 const OFTEN: usize = 20;
 const FEW: usize = 8;
+const SOME: usize = 4;
 /// A position far past the end of any tape.
 const FAR: u32 = 1 << 31;
 
@@ -64,27 +69,42 @@ fn numbers(line: &str) -> Vec<u32> {
     line.split_whitespace().filter_map(number).collect()
 }
 
-fn told(lines: &[u8]) -> Vec<Told> {
+/// Each line of a script, what it prints, and what another line behind it then prints.
+fn with_another(lines: &[u8], another: impl Fn(&[u8]) -> &'static str) -> Vec<[String; 3]> {
     let split = |text: &[u8]| String::from_utf8_lossy(text).into_owned();
     let lines: Vec<&[u8]> = lines
         .strip_suffix(b"\n")
         .unwrap()
         .split(|&byte| byte == b'\n')
         .collect();
-    // A comment behind each line, which is copied, ends what the line prints. `drop 0` changes nothing, and
-    // tells how many words there are.
+    // A comment behind each line, which is copied, ends what the line prints.
     let marked: Vec<u8> = lines
         .iter()
-        .flat_map(|line| [line, &b"\n#@\ndrop 0\n#@\n"[..]].concat())
+        .flat_map(|line| {
+            [
+                line,
+                "\n#@\n".as_bytes(),
+                another(line).as_bytes(),
+                b"\n#@\n",
+            ]
+            .concat()
+        })
         .collect();
     let said = split(&script(&marked));
     let said: Vec<&str> = said.split("#@\n").collect();
     assert_eq!(said.len(), 2 * lines.len() + 1);
     let each = lines.iter().zip(said.chunks_exact(2));
-    each.map(|(line, said)| Told {
-        line: split(line),
-        text: said[0].to_string(),
-        words: said[1].trim_end().parse().unwrap(),
+    each.map(|(line, said)| [split(line), said[0].to_string(), said[1].to_string()])
+        .collect()
+}
+
+/// `drop 0` changes nothing, and tells how many words there are.
+fn told(lines: &[u8]) -> Vec<Told> {
+    let each = with_another(lines, |_| "drop 0").into_iter();
+    each.map(|[line, text, words]| Told {
+        line,
+        text,
+        words: words.trim_end().parse().unwrap(),
     })
     .collect()
 }
@@ -161,6 +181,169 @@ fn rows_of_bases_of_every_length() {
         let refused = |text: &str| text.starts_with("fibexp: refused 14: ");
         assert!(count(length, refused) >= FEW, "{length} bases");
     }
+}
+
+/// What a base is for a p and r.
+#[derive(Clone, Copy, Debug, PartialEq, Eq, Hash)]
+enum Kind {
+    /// Of order r.
+    Proper,
+    /// Its power r is 1, and a smaller one too.
+    Lesser,
+    /// Its power r isn't 1.
+    Foreign,
+    Outside,
+}
+
+impl Kind {
+    /// The divisors of r are given: one of them is the order of a base whose power r is 1.
+    fn of(base: u32, p: u32, r: u32, divisors: &[u32]) -> Kind {
+        if base == 0 || base >= p {
+            Kind::Outside
+        } else if power(base, r, p) != 1 {
+            Kind::Foreign
+        } else if divisors.iter().any(|&d| d < r && power(base, d, p) == 1) {
+            Kind::Lesser
+        } else {
+            Kind::Proper
+        }
+    }
+
+    /// What load on a named program gives.
+    fn number(self) -> u32 {
+        match self {
+            Kind::Proper => 0,
+            Kind::Lesser | Kind::Foreign => 11,
+            Kind::Outside => 9,
+        }
+    }
+}
+
+/// A line that bases are given to, on a tape that is accepted.
+struct Given {
+    verb: String,
+    number: u32,
+    bases: Vec<u32>,
+    /// What the first line of the tape's listing has: r is 0 where it is made by hand.
+    p: u32,
+    r: u32,
+}
+
+impl Given {
+    /// None where the tape is refused, or the line isn't understood: then a word is no number.
+    fn of(told: Told, listing: &str) -> Option<Given> {
+        let header: Vec<&str> = listing.lines().next()?.split(' ').collect();
+        let field = |label: &str| {
+            let mut values = header.iter().filter_map(|word| word.strip_prefix(label));
+            values.next()?.parse().ok()
+        };
+        Some(Given {
+            verb: told.verb().to_string(),
+            number: told.number()?,
+            bases: numbers(&told.line),
+            p: field("p=")?,
+            r: field("r=")?,
+        })
+    }
+
+    fn kinds(&self, r: u32) -> Vec<Kind> {
+        let divisors = divisors(r);
+        let kind = |&base: &u32| Kind::of(base, self.p, r, &divisors);
+        self.bases.iter().map(kind).collect()
+    }
+}
+
+fn given_bases(lines: &[u8]) -> Vec<Given> {
+    let takes_bases = |line: &[u8]| {
+        let verbs: [&[u8]; 3] = [b"load ", b"power ", b"raise "];
+        verbs.iter().any(|verb| line.starts_with(verb))
+    };
+    let each = with_another(lines, |line| if takes_bases(line) { "list" } else { "" });
+    let given = each.into_iter().map(|[line, text, listing]| {
+        let words = 0;
+        takes_bases(line.as_bytes())
+            .then(|| Given::of(Told { line, text, words }, &listing))
+            .flatten()
+    });
+    given.flatten().collect()
+}
+
+/// Loads and powers by named programs are given bases of each kind often, most of them of order r.
+#[test]
+fn bases_of_every_order() {
+    let mut counts: HashMap<Kind, usize> = HashMap::new();
+    let given = given_bases(&calls::script());
+    for line in given
+        .iter()
+        .filter(|line| line.verb != "raise" && line.r > 0)
+    {
+        let kind = line.kinds(line.r)[0];
+        assert_eq!(line.number, kind.number(), "{:?}", line.bases);
+        *counts.entry(kind).or_default() += 1;
+    }
+    let all: usize = counts.values().sum();
+    for kind in [Kind::Proper, Kind::Lesser, Kind::Foreign, Kind::Outside] {
+        assert!(counts[&kind] >= OFTEN, "{counts:?}");
+    }
+    assert!(2 * counts[&Kind::Proper] > all, "{counts:?}");
+}
+
+/// Rows of named programs have a base of smaller order at the first place, inside and last, alone and beside one
+/// out of range, before it and behind it; about half of the rows are answered.
+#[test]
+fn rows_with_a_base_of_smaller_order() {
+    let given = given_bases(&calls::script());
+    let rows = given
+        .iter()
+        .filter(|line| line.verb == "raise" && line.r > 0);
+    let (mut answered, mut refused) = (0, 0);
+    let mut places: HashMap<&str, usize> = HashMap::new();
+    let mut beside: HashMap<u32, usize> = HashMap::new();
+    for row in rows.filter(|row| row.number != 14) {
+        let kinds = row.kinds(row.r);
+        let first = kinds.iter().find(|&&kind| kind != Kind::Proper);
+        let number = first.map_or(0, |kind| kind.number());
+        assert_eq!(row.number, number, "{:?}", row.bases);
+        answered += (number == 0) as usize;
+        refused += (number != 0) as usize;
+        let Some(at) = kinds.iter().position(|&kind| kind == Kind::Lesser) else {
+            continue;
+        };
+        if kinds.contains(&Kind::Outside) {
+            *beside.entry(number).or_default() += 1;
+        } else if kinds.len() > 2 {
+            let place = match at {
+                0 => "first",
+                _ if at == kinds.len() - 1 => "last",
+                _ => "inside",
+            };
+            *places.entry(place).or_default() += 1;
+        }
+    }
+    for place in ["first", "inside", "last"] {
+        assert!(places[place] >= FEW, "{places:?}");
+    }
+    assert!(beside[&9] >= SOME && beside[&11] >= SOME, "{beside:?}");
+    assert!(5 * answered >= 4 * refused, "{answered} {refused}");
+}
+
+/// Chains begin with a load by a program made by hand: most bases are of order r, some of smaller order.
+#[test]
+fn chains_of_loaded_bases() {
+    let orders = HashMap::from([(31, 10), (359, 179), (65537, 256)]);
+    let mut counts: HashMap<Kind, usize> = HashMap::new();
+    let given = given_bases(&calls::script());
+    // The last ones: no load comes behind the lists.
+    for line in given.iter().rev().take_while(|line| line.r == 0) {
+        let Some(&r) = orders.get(&line.p) else { break };
+        assert_eq!(line.number, 0);
+        *counts.entry(line.kinds(r)[0]).or_default() += 1;
+    }
+    assert!(counts[&Kind::Lesser] >= OFTEN, "{counts:?}");
+    assert!(
+        counts[&Kind::Proper] > 2 * counts[&Kind::Lesser],
+        "{counts:?}"
+    );
 }
 
 /// A table is asked behind each trace, at the same position. It is refused for the range where the trace is,

@@ -1,5 +1,5 @@
-//! Every figure of document 01, two of request T-02, one of request T-04, those of request T-05's previews,
-//! and every row of the paper's Figure 7.
+//! Every figure of document 01, two of request T-02, one of request T-04, those of request T-05's previews and
+//! of request T-06's orders, and every row of the paper's Figure 7.
 
 mod common;
 
@@ -108,6 +108,27 @@ fn a_chain_with_turns() {
     assert_eq!(end, Record::at(23, [1, 5, 1, 1]));
     assert_eq!(numbers, [0, 0, 10, 0, 10]);
     assert_eq!(power(4, 3 * 2 * 2 % 5, 11), 5);
+}
+
+/// Loading by the base's own order, for p = 359: 4 has order 179, and the bases 1 to 5 have a smaller one than 358,
+/// which 7 has.
+#[test]
+fn bases_of_order_r() {
+    let order_179 = built(359, 179, 76, 1);
+    let order_358 = built(359, 358, 75, 1);
+    let loaded = |base| Ok(Record::at(0, [1, base, 1, 1]));
+    assert_eq!(load(&order_179, 1), Err(11));
+    assert_eq!(load(&order_179, 4), loaded(4));
+    for base in 1..=5 {
+        assert_eq!(power(base, 358, 359), 1);
+        assert_eq!(load(&order_358, base), Err(11));
+    }
+    assert_eq!(load(&order_358, 7), loaded(7));
+    assert_eq!(load(&built(359, 2, 1, 1), 358), loaded(358));
+    // A program by hand loads them all.
+    for base in [1, 2, 3, 4, 5, 7, 358] {
+        assert_eq!(load(&free(359, &[]), base), loaded(base));
+    }
 }
 
 /// What a preview from these registers at a position to another shows: its registers and its counts.

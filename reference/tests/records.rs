@@ -194,7 +194,7 @@ fn in_a_row(tapes: &[Vec<u32>]) -> Vec<(u32, u32)> {
 
 /// Chains of demand 3, as request T-04 has them: programs for p = 11 and r = 5, each run from end to end
 /// behind a turn to 0 or to the step count, and refused runs between them, with any turn or none. The
-/// record may stand anywhere at first.
+/// record may stand anywhere at first. A program by hand loads the base, which is 1 at times.
 #[test]
 fn chains_with_turns() {
     let (p, r) = (11, 5);
@@ -223,7 +223,8 @@ fn chains_with_turns() {
             requests.extend(request);
             expected.push(number);
         }
-        let start = Record::at(noise.next() as u32, [1, a, 1, 1]);
+        let start = load(&free(p, &[]), a).unwrap();
+        let start = start.turned(noise.next() as u32);
         let (end, numbers) = play(&row, &requests, start);
         assert_eq!(end.registers, [1, power(a, e, p), 1, 1], "{requests:?}");
         assert_eq!(numbers, expected, "{requests:?}");

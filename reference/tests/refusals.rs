@@ -302,12 +302,24 @@ fn registers_and_bases() {
             assert_eq!(step(&tape, Record::at(0, registers), true), Err(9));
         }
     }
-    // 3 has order 6 modulo 7.
-    assert_eq!(load(&tape, 3), Err(11));
-    assert_eq!(load(&tape, 4), Ok(Record::at(0, [1, 4, 1, 1])));
-    assert_eq!(load(&free(7, &[]), 3), Ok(Record::at(0, [1, 3, 1, 1])));
     assert_eq!(load(&tape[..4], 3), Err(6));
     assert_eq!(load(&with(&tape, 4, 0), 0), Err(7));
+}
+
+/// Modulo 7 the bases from 1 to 6 have the orders 1, 3, 6, 3, 6, 2. A named program takes those of its r, where
+/// the power r of others may be 1 too; a program by hand takes all.
+#[test]
+fn orders_of_bases() {
+    for (base, order) in (1..).zip([1, 3, 6, 3, 6, 2]) {
+        let loaded = Ok(Record::at(0, [1, base, 1, 1]));
+        for (r, k) in [(2, 1), (3, 2), (6, 5)] {
+            for variant in 1..=3 {
+                let expected = if order == r { loaded } else { Err(11) };
+                assert_eq!(load(&built(7, r, k, variant), base), expected);
+            }
+        }
+        assert_eq!(load(&free(7, &[]), base), loaded);
+    }
 }
 
 /// Refuses a row of bases, and leaves it.
@@ -337,18 +349,18 @@ fn raise_order() {
         (free(7, &[step_word(MUL, 0, 1)]), 4),
         (named.clone(), 14),
     ];
-    // 0 is out of range, 3 has order 6 modulo 7; 65 of them are too many, too.
+    // 0 is out of range, 1 and 3 have orders 1 and 6 modulo 7; 65 of them are too many, too.
     for (tape, refusal) in &tapes {
-        for base in [0, 3, 7, u32::MAX] {
+        for base in [0, 1, 3, 7, u32::MAX] {
             refuses_row(tape, &[base; 65], *refusal);
             refuses_row(tape, &[base; 1000], *refusal);
         }
-        refuses_row(tape, &[1; 65], *refusal);
+        refuses_row(tape, &[2; 65], *refusal);
     }
     // A row of no bases, and one of good ones, is refused for the tape alone.
     for (tape, refusal) in &tapes[..tapes.len() - 1] {
         refuses_row(tape, &[], *refusal);
-        refuses_row(tape, &[1, 2, 4], *refusal);
+        refuses_row(tape, &[2, 4, 2], *refusal);
     }
 }
 
@@ -358,16 +370,19 @@ fn rows_of_bases() {
     let tape = built(7, 3, 2, 1);
     for base in [0, 7, 8, u32::MAX] {
         refuses_row(&tape, &[base], 9);
-        refuses_row(&tape, &[base, 3], 9);
-        refuses_row(&tape, &[3, base], 11);
-        refuses_row(&tape, &[1, 2, 3, 4, base, 1], 11);
-        refuses_row(&tape, &[1, 2, base, 4, 3, 1], 9);
+        // The power 3 of 3 isn't 1; that of 1 is, and so is a smaller one.
+        for other in [3, 1] {
+            refuses_row(&tape, &[base, other], 9);
+            refuses_row(&tape, &[other, base], 11);
+            refuses_row(&tape, &[4, 2, other, 4, base, 2], 11);
+            refuses_row(&tape, &[4, 2, base, 4, other, 2], 9);
+        }
     }
-    for base in [3, 5, 6] {
+    for base in [1, 3, 5, 6] {
         refuses_row(&tape, &[base], 11);
     }
     for place in 0..64 {
-        for (base, refusal) in [(0, 9), (7, 9), (u32::MAX, 9), (6, 11)] {
+        for (base, refusal) in [(0, 9), (7, 9), (u32::MAX, 9), (6, 11), (1, 11)] {
             let mut row = [2; 64];
             row[place] = base;
             refuses_row(&tape, &row, refusal);
@@ -380,10 +395,14 @@ fn rows_of_bases() {
         assert_eq!(raise(&tape, &mut row), Ok(()));
         assert_eq!(row, vec![4; count]);
     }
-    // Where r is p − 1 no base from 1 to p − 1 is refused.
-    let mut row = [1, 2, 3, 4, 5, 6];
-    assert_eq!(raise(&built(7, 6, 5, 2), &mut row), Ok(()));
-    assert_eq!(row, [1, 4, 5, 2, 3, 6]);
+    // Where r is p − 1 the power r of every base is 1, and of some a smaller one is too.
+    let tape = built(7, 6, 5, 2);
+    let mut row = [3, 5];
+    assert_eq!(raise(&tape, &mut row), Ok(()));
+    assert_eq!(row, [5, 3]);
+    for base in [1, 2, 4, 6] {
+        refuses_row(&tape, &[3, base, 5], 11);
+    }
 }
 
 #[test]

@@ -89,9 +89,10 @@ fn a_row_of_bases() {
     let long = format!("raise{}\n", " 3".repeat(66));
     // It takes no notice of a room, and leaves the tape at hand.
     prints(
-        &format!("{tape}room 1\nraise 2 1\n{long}raise 3\nraise\nraise = \n"),
-        "16\n1\n2 1\nfibexp: refused 14: a row has at most 64 bases\n\
-         fibexp: refused 9: the base must be from 1 to p-1\n\n\n= : yes\n",
+        &format!("{tape}room 1\nraise 2 2\n{long}raise 3\nraise 2 1\nraise\nraise = \n"),
+        "16\n1\n2 2\nfibexp: refused 14: a row has at most 64 bases\n\
+         fibexp: refused 9: the base must be from 1 to p-1\n\
+         fibexp: refused 11: the base's order isn't r\n\n\n= : yes\n",
     );
     prints(
         &format!("{tape}raise{}\ncheck\n", " 2".repeat(67)),
@@ -128,9 +129,7 @@ fn a_record_and_its_steps() {
             "{step}room 1\nload 3\nstep 1 3 1 1 0 0\nstep 3 3 1 1 1 0\nrun 3 3 1 1 1 0\n\
              step 3 3 1 1 1 1 = 1 3 1 1 0\n"
         ),
-        &format!(
-            "6\n1\n1 3 1 1 0\n3 3 1 1 1\n{past}1 3 1 1 0\n1 3 1 1 0\n= 1 3 1 1 0: yes\n"
-        ),
+        &format!("6\n1\n1 3 1 1 0\n3 3 1 1 1\n{past}1 3 1 1 0\n1 3 1 1 0\n= 1 3 1 1 0: yes\n"),
     );
 }
 

@@ -1,9 +1,9 @@
 // Many bases in one pass through a named program.
 ghost use mathlib.Core.Path.{_≡_};
-ghost use Rattle.refusal.specs.Outcomes.{answered, outcome, numberOutcomeOf};
+ghost use Rattle.refusal.specs.Outcomes.{answered, numberOutcomeOf};
 ghost use Rattle.program.specs.Services.{acceptOutcome};
-ghost use Rattle.sequencer.specs.Bases.{rowRules, raiseOutcome, raisedBases};
-use conditions::check_base;
+ghost use Rattle.sequencer.specs.Bases.{raiseOutcome, raisedBases};
+use conditions::check_bases;
 use lanes::run_lanes;
 use montgomery::modulus_of;
 use parts::steps;
@@ -45,18 +45,4 @@ fn raise_accepted(tape: &[u32], header: Header, bases: &mut [u32]) -> NumberAnsw
             NumberAnswer::Answered(0)
         }
     }
-}
-
-// The bases' refusals: those of the first base that has one.
-fn check_bases(header: Header, bases: &[u32]) -> NumberAnswer
-    ensures { λ answer. ⌜ numberOutcomeOf answer ≡ outcome (rowRules header (now (bases .entry))) 0 ⌝ }
-{
-    let mut i: usize = 0;
-    while i < bases.len() {
-        match check_base(header, bases[i]) {
-            NumberAnswer::Refused(e) => return NumberAnswer::Refused(e),
-            NumberAnswer::Answered(passed) => i += 1,
-        }
-    }
-    NumberAnswer::Answered(0)
 }

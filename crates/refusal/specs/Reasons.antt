@@ -15,7 +15,7 @@ reasons =
     ∷ "the steps aren't those built for the tape's p, r, k and variant"
     ∷ "the base must be from 1 to p-1"
     ∷ "a position is outside 0 to the step count"
-    ∷ "the base's power r isn't 1"
+    ∷ "the base's order isn't r"
     ∷ "an exponent leaves -2^62 to 2^62"
     ∷ "not the places of a Zeckendorf form, from 92 down to 1"
     ∷ "a row has at most 64 bases"

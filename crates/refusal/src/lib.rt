@@ -52,8 +52,8 @@ pub fn number(refusal: Refusal) -> u32
 }
 
 // What each refusal is given for, by its number, a zero byte after each.
-pub const REASONS: [u8; 566] =
-    *b"\0p must be a prime from 3 to 268435455\0r must be at least 2 and divide p-1\0k must be from 1 to r-1 and share no factor with r\0the tape's variant is none of those known\0the buffer is shorter than the result\0a tape has 5 to 512 words\0a word, its place or the end's count breaks the layout\0the steps aren't those built for the tape's p, r, k and variant\0the base must be from 1 to p-1\0a position is outside 0 to the step count\0the base's power r isn't 1\0an exponent leaves -2^62 to 2^62\0not the places of a Zeckendorf form, from 92 down to 1\0a row has at most 64 bases\0";
+pub const REASONS: [u8; 564] =
+    *b"\0p must be a prime from 3 to 268435455\0r must be at least 2 and divide p-1\0k must be from 1 to r-1 and share no factor with r\0the tape's variant is none of those known\0the buffer is shorter than the result\0a tape has 5 to 512 words\0a word, its place or the end's count breaks the layout\0the steps aren't those built for the tape's p, r, k and variant\0the base must be from 1 to p-1\0a position is outside 0 to the step count\0the base's order isn't r\0an exponent leaves -2^62 to 2^62\0not the places of a Zeckendorf form, from 92 down to 1\0a row has at most 64 bases\0";
 
 // The same where a service gives a refusal for a cause of its own.
 pub const OWN_REASONS: [u8; 294] =

@@ -1,8 +1,9 @@
--- Load, run, trace, table and cut by cases, what their answers say, forward, rows of bases, sessions, previews, and demand 3.
+-- Load, run, trace, table and cut by cases, what their answers say, the bases that load takes, forward, rows of bases, sessions, previews, and demand 3.
 pub mod Cases
 pub mod Positions
 pub mod Requests
 pub mod Answers
+pub mod Orders
 pub mod Forward
 pub mod Bases
 pub mod Sessions

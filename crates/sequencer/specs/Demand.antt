@@ -1,4 +1,4 @@
--- Demand 3, REQUIREMENTS 10 in the words of document 02, T-04: chains and rewinds, each a claim about a list of runs as a whole.
+-- Demand 3, REQUIREMENTS 10 in the words of document 02, T-04 and T-06: chains and rewinds, each a claim about a list of runs as a whole.
 use mathlib.Core.Path.{_≡_}
 use mathlib.Core.Logic.{_⊎_}
 use mathlib.Core.Bool.{true, false, cond}
@@ -7,6 +7,7 @@ use Prim.Native.Nat.{ℕ, _*_, _%_, _^_, _≤_}
 use lib.Dec.{ltb}
 use Rattle.refusal.specs.Outcomes.{refused, answered, applies, refusalNumber}
 use Rattle.modular.specs.Inverses.{inverse}
+use Rattle.orders.specs.Orders.{OrderOf}
 use Rattle.tape.specs.Layout.{headerOf, stepsOf}
 use Rattle.machine.specs.Machine.{Residues, start}
 use Rattle.program.specs.Services.{isNamed, checkOutcome}
@@ -76,11 +77,18 @@ unfoldable pub exponentAfter : ℕ → List CompletedRun → ℕ → ℕ
 exponentAfter r [] E = E
 exponentAfter r (q ∷ qs) E = exponentAfter r qs (E * factor r q % r)
 
+-- a^E after a list of runs from record s, modulo p
+abbrev pub powerAfter : ℕ → ℕ → ℕ → List Request → Record → ℕ
+powerAfter p r a qs s = a ^ exponentAfter r (performed qs s) 1 % p
+
 -- DEMAND 3, CHAIN. If a list is a chain from record s, every run in it is refused or answers as said, with its number among
--- `numbers`, and the registers at its end, those of `last`, are (1, a^E, 1, 1).
+-- `numbers`, and the registers at its end, those of `last`, are (1, a^E, 1, 1). Where a has order r, so has a^E.
 abbrev pub ChainEnds : List Request → Record → List ℕ → Record → Type 0
 ChainEnds qs s numbers last =
-    (p r a : ℕ) → Chain p r a qs s → EachAsSaid qs s numbers × (last .registers ≡ start (a ^ exponentAfter r (performed qs s) 1 % p))
+    (p r a : ℕ) → Chain p r a qs s
+    → EachAsSaid qs s numbers
+    × (last .registers ≡ start (powerAfter p r a qs s))
+    × (OrderOf p a r → OrderOf p (powerAfter p r a qs s) r)
 
 -- ---- rewinds
 

@@ -1,12 +1,13 @@
 -- Load, run, trace and cut: check's refusals, then their own, else the register record, exponents, or a part of the tape.
 use mathlib.Core.Bool.{Bool, false, not, _&&_, _||_}
 use mathlib.Core.List.{List, [], _∷_, _++_}
-use Prim.Native.Nat.{ℕ, _%_, _^_}
+use Prim.Native.Nat.{ℕ}
 use lib.Dec.{leb, ltb, eqb}
 use lib.IntN.{ℤ}
 use lib.ListN.{length, take}
 use Rattle.refusal.specs.declared.Refusal.the-variants.{Register, Position, Base, Range}
 use Rattle.refusal.specs.Outcomes.{Outcome, Rule, refused, answered, andThen, _given-if_}
+use Rattle.orders.specs.Orders.{isOrder}
 use Rattle.tape.specs.declared.Header.{Header}
 use Rattle.tape.specs.declared.Step.{Step}
 use Rattle.tape.specs.Layout.{headerOf, stepIndex, stepWords, stepsOf}
@@ -25,11 +26,11 @@ unfoldable pub badRegisters : ℕ → List ℕ → Bool
 badRegisters p [] = false
 badRegisters p (x ∷ v) = badRegister p x || badRegisters p v
 
--- a base that a named program takes: a^r is 1
+-- a base that a named program takes: its order is r
 unfoldable pub allowed : Header → ℕ → Bool
-allowed h a = eqb (a ^ (h .order) % h .modulus) 1
+allowed h a = isOrder (h .modulus) a (h .order)
 
--- refusal 11: named program, a^r isn't 1
+-- refusal 11: named program, r isn't the base's order
 unfoldable pub badBase : Header → ℕ → Bool
 badBase h a = isNamed h && not (allowed h a)
 

@@ -62,7 +62,7 @@ meaning (End count) = line (ascii "end" ∷ decimal count ∷ [])
 meaning Bad = line (ascii "none" ∷ [])
 
 abbrev pub versionLine : List ℕ
-versionLine = ascii "fibexp 2.1.0" ++ newline ∷ []
+versionLine = ascii "fibexp 3.0.0" ++ newline ∷ []
 
 -- ---- refusals
 

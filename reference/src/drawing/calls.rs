@@ -1,5 +1,6 @@
 //! A script of drawn calls: every verb, lawful and refused, on tapes that are valid, damaged or by hand.
 
+use crate::drawing::bases;
 use crate::drawing::lines::Lines;
 use crate::drawing::noise::Noise;
 use crate::drawing::odd;
@@ -126,19 +127,20 @@ fn previews(lines: &mut Lines) {
     }
 }
 
-/// As `values::base`, but more often out of range or without a^r = 1.
+/// As `bases::base`, but more often out of range or of another order.
 fn base(noise: &mut Noise, p: u32, r: u32) -> u32 {
-    match noise.below(8) {
+    match noise.below(12) {
         0 => noise.pick(&[0, p, p.wrapping_add(1)]),
-        1..=4 => noise.between(1, p.max(2) - 1),
-        _ => values::base(noise, p, r),
+        1 => noise.between(1, p.max(2) - 1),
+        2 => bases::lesser(noise, p, r),
+        _ => bases::base(noise, p, r),
     }
 }
 
 fn raises(lines: &mut Lines) {
     let (p, r) = modulus_and_order(&lines.tape);
     for _ in 0..3 {
-        let bases = values::bases(&mut lines.noise, p, r);
+        let bases = bases::bases(&mut lines.noise, p, r);
         lines.small_call("raise", &bases);
     }
 }

@@ -152,7 +152,7 @@ impl Fields {
 }
 
 /// An exponent that r allows.
-fn exponent(noise: &mut Noise, r: u32) -> u32 {
+pub fn exponent(noise: &mut Noise, r: u32) -> u32 {
     match noise.below(8) {
         0 => 1,
         1 => r - 1,
@@ -234,6 +234,25 @@ pub fn power(base: u32, exponent: u32, p: u32) -> u32 {
         square = square * square % p;
     }
     result as u32
+}
+
+/// The primes that divide a number from 1 on, by trial division.
+pub fn prime_divisors(n: u32) -> Vec<u32> {
+    let mut primes = Vec::new();
+    let (mut rest, mut d) = (n, 2);
+    while d <= rest / d {
+        if rest.is_multiple_of(d) {
+            primes.push(d);
+        }
+        while rest.is_multiple_of(d) {
+            rest /= d;
+        }
+        d += 1;
+    }
+    if rest > 1 {
+        primes.push(rest);
+    }
+    primes
 }
 
 fn primes_below(limit: u32) -> Vec<u32> {

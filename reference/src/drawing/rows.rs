@@ -1,15 +1,17 @@
 //! Tapes behind each other, lists of runs on them, and a row that is full.
 
+use crate::drawing::bases;
 use crate::drawing::lines::Lines;
 use crate::drawing::noise::Noise;
-use crate::drawing::parameters::{power, Fields, Parameters};
+use crate::drawing::parameters::{Fields, Parameters};
 use crate::drawing::tapes::{named, short};
 use crate::drawing::values;
 
 /// Moduli and orders of which the row has several programs each.
-const FIELDS: [(u32, u32); 3] = [(31, 5), (359, 179), (65537, 256)];
+const FIELDS: [(u32, u32); 3] = [(31, 10), (359, 179), (65537, 256)];
 const TAPES: usize = 24;
-const LISTS: usize = 300;
+/// So many for each modulus.
+const LISTS: usize = 100;
 /// The row holds so many words.
 const MOST_ROW_WORDS: u32 = 4096;
 /// The record of a list stands where that of a tape of so many steps would.
@@ -38,9 +40,37 @@ pub(super) fn tapes_in_a_row(lines: &mut Lines) {
         lines.hold(tape);
         leave(lines);
     }
+    for (p, r) in FIELDS {
+        lists(lines, &row, p, r);
+    }
+    lines.hold(Vec::new());
+}
+
+/// Lists of runs for one p. The tape at hand is a program by hand for it, which loads the base of a chain
+/// whatever its order is.
+fn lists(lines: &mut Lines, row: &[Standing], p: u32, r: u32) {
+    let tape = short(p, &mut lines.noise);
+    lines.hold(tape);
+    let size = lines.before + lines.tape.len() as u32;
     for _ in 0..LISTS {
-        let list = list(&mut lines.noise, &row, lines.before);
-        lines.small_call("play", &list);
+        let mut numbers = if lines.noise.once_in(2) {
+            let base = chain_base(&mut lines.noise, p, r);
+            lines.small_call("load", &[base]);
+            vec![1, base, 1, 1, 0]
+        } else {
+            values::record(&mut lines.noise, p, r, MOST_STEPS).to_vec()
+        };
+        numbers.extend(requests(&mut lines.noise, row, p, size));
+        lines.small_call("play", &numbers);
+    }
+}
+
+/// A base with a^r = 1: most of order r, some of smaller order.
+fn chain_base(noise: &mut Noise, p: u32, r: u32) -> u32 {
+    if noise.once_in(4) {
+        bases::lesser(noise, p, r)
+    } else {
+        bases::proper(noise, p, r)
     }
 }
 
@@ -66,14 +96,10 @@ fn stood(noise: &mut Noise, p: u32, r: u32) -> Vec<u32> {
     tape
 }
 
-/// A record and up to 14 requests: most on programs of one p, end to end in either direction.
-fn list(noise: &mut Noise, row: &[Standing], size: u32) -> Vec<u32> {
-    let (p, r) = noise.pick(&FIELDS);
-    let mut numbers = if noise.once_in(2) {
-        vec![1, power(noise.between(1, p - 1), (p - 1) / r, p), 1, 1, 0]
-    } else {
-        values::record(noise, p, r, MOST_STEPS).to_vec()
-    };
+/// Up to 14 requests, most on programs of one p, end to end in either direction; and up to three numbers left
+/// over. With a record these are at most 64 numbers.
+fn requests(noise: &mut Noise, row: &[Standing], p: u32, size: u32) -> Vec<u32> {
+    let mut numbers = Vec::new();
     for _ in 0..noise.below(15) {
         let mut tape = &row[noise.index(row.len())];
         while tape.p != p && !noise.once_in(8) {
@@ -81,8 +107,9 @@ fn list(noise: &mut Noise, row: &[Standing], size: u32) -> Vec<u32> {
         }
         numbers.extend(request(noise, tape, size));
     }
-    let left = noise.index(4).min(64 - numbers.len());
-    numbers.extend((0..left).map(|_| noise.below(size)));
+    for _ in 0..noise.below(4) {
+        numbers.push(noise.below(size));
+    }
     numbers
 }
 

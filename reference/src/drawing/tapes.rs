@@ -308,7 +308,8 @@ fn change_length(tape: &mut Vec<u32>, noise: &mut Noise) {
 /// Another variant, p, r or k, lawful by itself or not.
 fn change_header(tape: &mut [u32], fields: &Fields, noise: &mut Noise) {
     let (p, r) = modulus_and_order(tape);
-    let at = noise.below(4);
+    // The variant and r more often, since few other draws lead to refusals 4 and 2.
+    let at = noise.pick(&[0, 0, 0, 1, 1, 2, 2, 2, 3, 3]);
     let value = match (at, noise.below(4)) {
         (0, _) => noise.below(16),
         (1, 0) => fields.lawful(noise).p,

@@ -1,15 +1,13 @@
-//! Numbers, orders, lists of places, positions, turns, registers, records, bases, rows of bases and rooms.
+//! Numbers, orders, lists of places, positions, turns, registers, records and rooms.
 
+use crate::drawing::bases::base;
 use crate::drawing::noise::Noise;
-use crate::drawing::parameters::power;
 use crate::{fibonacci, places};
 
 /// The most places of a form.
 pub const MOST_PLACES: usize = 46;
 const LAST_INDEX: u32 = 93;
 const LAST_PLACE: u32 = 92;
-/// A base without a^r = 1 is looked for so often; where r is p − 1 there is none.
-const TRIES: u32 = 8;
 
 /// An index of a Fibonacci number.
 pub fn index(noise: &mut Noise) -> u32 {
@@ -245,76 +243,7 @@ pub fn record(noise: &mut Noise, p: u32, r: u32, count: u32) -> [u32; 5] {
     [c, d, e, f, position]
 }
 
-/// A base: most with a^r = 1, some without, some out of range.
-pub fn base(noise: &mut Noise, p: u32, r: u32) -> u32 {
-    match noise.below(16) {
-        0 => faulty_register(noise, p),
-        1 => 1,
-        2 => p.max(2) - 1,
-        3..=6 => unit(noise, p),
-        _ => allowed_base(noise, p, r),
-    }
-}
-
-/// A row of bases with a^r = 1; at times all are equal, and in half of the draws one or two are bad.
-pub fn bases(noise: &mut Noise, p: u32, r: u32) -> Vec<u32> {
-    let count = row_length(noise);
-    let mut row: Vec<u32> = (0..count).map(|_| allowed_base(noise, p, r)).collect();
-    if row.is_empty() {
-        return row;
-    }
-    match noise.below(16) {
-        0 => row.fill(base(noise, p, r)),
-        1 => row[place_in_row(noise, count)] = p.max(2) - 1,
-        2..=4 => row[place_in_row(noise, count)] = faulty_register(noise, p),
-        5..=7 => row[place_in_row(noise, count)] = foreign_base(noise, p, r),
-        8 | 9 => {
-            // Either may come first, which gives the refusal.
-            row[place_in_row(noise, count)] = faulty_register(noise, p);
-            row[place_in_row(noise, count)] = foreign_base(noise, p, r);
-        }
-        _ => {}
-    }
-    row
-}
-
-/// Most rows are short, some have 63 to 66 bases; 64 are the most that a row may have.
-fn row_length(noise: &mut Noise) -> usize {
-    match noise.below(16) {
-        0 => 0,
-        1..=4 => noise.pick(&[63, 64, 65, 66]),
-        5 => noise.index(67),
-        _ => 1 + noise.index(6),
-    }
-}
-
-/// A place of a row, its ends as often as all of it.
-fn place_in_row(noise: &mut Noise, count: usize) -> usize {
-    match noise.below(4) {
-        0 => 0,
-        1 => count - 1,
-        _ => noise.index(count),
-    }
-}
-
-/// A base with a^r = 1, if p and r are those of a named program.
-fn allowed_base(noise: &mut Noise, p: u32, r: u32) -> u32 {
-    if p < 3 || r == 0 {
-        return unit(noise, p);
-    }
-    power(unit(noise, p), (p - 1) / r, p)
-}
-
-/// A base from 1 to p − 1 without a^r = 1, if one is soon found.
-fn foreign_base(noise: &mut Noise, p: u32, r: u32) -> u32 {
-    let p = p.max(2);
-    (0..TRIES)
-        .map(|_| unit(noise, p))
-        .find(|&base| power(base, r, p) != 1)
-        .unwrap_or(p - 1)
-}
-
-fn faulty_register(noise: &mut Noise, p: u32) -> u32 {
+pub(super) fn faulty_register(noise: &mut Noise, p: u32) -> u32 {
     match noise.below(5) {
         0 => 0,
         1 => p,
@@ -324,6 +253,6 @@ fn faulty_register(noise: &mut Noise, p: u32) -> u32 {
     }
 }
 
-fn unit(noise: &mut Noise, p: u32) -> u32 {
+pub(super) fn unit(noise: &mut Noise, p: u32) -> u32 {
     noise.between(1, p.max(2) - 1)
 }

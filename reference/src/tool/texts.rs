@@ -6,7 +6,7 @@ use crate::refusal;
 /// Each complaint and each refusal begins with the tool's name.
 pub(super) const NAME: &str = "fibexp: ";
 
-pub(super) const VERSION: &str = "fibexp 2.1.0\n";
+pub(super) const VERSION: &str = "fibexp 3.0.0\n";
 
 pub(super) const USAGE: &str = "\
 usage: fibexp VERB PARAMETER..
@@ -73,7 +73,7 @@ fn common_reason(number: u32) -> &'static str {
         refusal::STRANGER => "the steps aren't those built for the tape's p, r, k and variant",
         refusal::REGISTER => "the base must be from 1 to p-1",
         refusal::POSITION => "a position is outside 0 to the step count",
-        refusal::BASE => "the base's power r isn't 1",
+        refusal::BASE => "the base's order isn't r",
         refusal::RANGE => "an exponent leaves -2^62 to 2^62",
         refusal::INDEX => "not the places of a Zeckendorf form, from 92 down to 1",
         _ => "a row has at most 64 bases",

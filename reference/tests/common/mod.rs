@@ -64,6 +64,13 @@ pub fn gcd(a: u32, b: u32) -> u32 {
     }
 }
 
+/// The divisors of a number from 1 on, its square root twice.
+pub fn divisors(n: u32) -> Vec<u32> {
+    let small = (1..).take_while(|d| d * d <= n);
+    let small = small.filter(|&d| n.is_multiple_of(d));
+    small.flat_map(|d| [d, n / d]).collect()
+}
+
 /// Trial division.
 pub fn is_prime(n: u32) -> bool {
     n >= 2

@@ -8,7 +8,7 @@ use native.Mathlib.Omega.{arith}
 use lib.Dec.{leb, eqb}
 use lib.ListN.{length, set, take, drop}
 use lib.Seq.{sets, length-slice}
-use borrow.Author.Tests.{leb-false, eqb-false}
+use borrow.Author.Tests.{leb-false, eqb-false, ne-eqb, lt-leb}
 use Rattle.refusal.specs.Outcomes.{Outcome, Rule, answered, refusalNumber, after}
 use Rattle.refusal.proofs.Laws.Rules.{passed, refused-where, zero-answered, other-refused}
 use Rattle.modular.specs.Primes.{Prime}
@@ -43,6 +43,10 @@ good-register p x good =
     let n = neither (eqb x 0) (leb p x) good in
     record { low = omega (arith, eqb-false x 0 (n .0)); high = leb-false p x (n .1) }
 
+pub residue-good : (p x : ℕ) → Residue p x → badRegister p x ≡ false
+unfolding badRegister
+residue-good p x r = rw (ne-eqb x 0 (λ e. omega arith), lt-leb p x (r .high))
+
 pub residues-registers : (p c d e f : ℕ) → badRegisters p (c ∷ d ∷ e ∷ f ∷ []) ≡ false → Residues p (c ∷ d ∷ e ∷ f ∷ [])
 unfolding badRegisters
 residues-registers p c d e f good =
@@ -62,7 +66,7 @@ prime-of tape e = accepted-prime tape (accepted 0 tape e)
 pub record Loaded (tape : List ℕ) (a : ℕ) (s : Record) : Type 0 where
   pub accepted : acceptOutcome tape ≡ answered (headerOf tape)
   pub base : Residue (headerOf tape .modulus) a
-  pub power : badBase (headerOf tape) a ≡ false
+  pub allowed : badBase (headerOf tape) a ≡ false
   pub record-is : s ≡ startRecord a
 
 pub load-answered : (tape : List ℕ) (a : ℕ) (s : Record) → loadOutcome tape a ≡ answered s → Loaded tape a s
@@ -72,7 +76,7 @@ load-answered tape a s e =
     record {
       accepted = answered-tape tape _ (startRecord a) e;
       base = good-register _ a (register .0);
-      power = passed _ _ _ _ _ (register .1) .0;
+      allowed = passed _ _ _ _ _ (register .1) .0;
       record-is = answered-with tape _ (startRecord a) e;
     }
 

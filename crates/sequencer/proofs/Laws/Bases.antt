@@ -2,14 +2,16 @@
 -- run forward from end to end, which of a named program is the power.
 use mathlib.Core.Path.{_≡_, refl, sym, ap, ap₂, _∙_}
 use mathlib.Core.Bool.{true}
-use mathlib.Core.List.{List, [], _∷_, map}
+use mathlib.Core.List.{List, [], _∷_, _++_, map, append-nil}
 use Prim.Native.Nat.{ℕ, zero, suc, _%_, _^_, _≤_, _<_}
 use native.Mathlib.Nat.{not-suc-le-zero, le-of-suc-le-suc}
 use native.Mathlib.Omega.{arith}
 use borrow.Author.Tests.{lt-ltb, le-ltb, eq-eqb, ne-eqb, eqb-false, not-true, not-false}
 use lib.ListN.{length, getD}
-use Rattle.refusal.specs.Outcomes.{refused, answered, outcome, after, gives, passes, answers}
+use Rattle.refusal.specs.Outcomes.{Rule, refused, answered, outcome, after, gives, passes, answers}
 use Rattle.refusal.proofs.Laws.Rules.{passed, refused-before, passed-before, answered-before, still-refused, still-answered}
+use Rattle.modular.specs.Residues.{Residue}
+use Rattle.orders.specs.Orders.{OrderOf}
 use Rattle.tape.specs.declared.Header.{Header}
 use Rattle.tape.specs.Layout.{headerOf, stepsOf}
 use Rattle.machine.specs.Machine.{reg, doAll, start}
@@ -20,6 +22,7 @@ use Rattle.program.proofs.Laws.Door.{tape-refused, tape-accepted, answered-tape
 use Rattle.sequencer.specs.Services.{startRecord, baseRules, loadOutcome, forwardOutcome}
 use Rattle.sequencer.specs.Bases.{maxBases, rowRules, raiseRules, raised, onRow, raiseOutcome, raisedBases}
 use Rattle.sequencer.proofs.Laws.Cases.{load-rules}
+use Rattle.sequencer.proofs.Laws.Orders.{base-taken, base-refused, load-order}
 use Rattle.sequencer.proofs.Laws.Forward.{endRecord, forward-done, forward-power}
 
 -- ---- its own rules by cases
@@ -82,6 +85,11 @@ module _ {A : Type 0} (h : Header) (a : ℕ) (bases : List ℕ) (x : A) where
 pub row-none : {A : Type 0} (h : Header) (x : A) → outcome (rowRules h []) x ≡ answered x
 unfolding rowRules
 row-none h x = answers x
+
+-- a row of one
+pub row-one : {A : Type 0} (h : Header) (a : ℕ) (x : A) → outcome (rowRules h (a ∷ [])) x ≡ outcome (baseRules h a) x
+unfolding rowRules
+row-one h a x = ap (λ (l : List Rule). outcome l x) (append-nil (baseRules h a))
 
 -- ---- a base that load answers
 
@@ -152,6 +160,45 @@ module _ (tape bases : List ℕ) (e : raiseOutcome tape bases ≡ answered 0) wh
       let a : ℕ = getD bases j 0 in
       forward-power tape a (row-loaded tape (headerOf tape) (all .accepted) bases (all .row) j less) (all .named)
       ∙ ap (λ (x : ℕ). answered (endRecord tape (start x))) (sym (ap (λ (l : List ℕ). getD l j 0) raise-powers ∙ getD-map _ bases j 0 0 less))
+
+  -- DOCUMENT 02, T-06. Each base of the row has order r.
+  pub raise-orders : (j : ℕ) → j < length bases → OrderOf p (getD bases j 0) (headerOf tape .order)
+  raise-orders j less =
+      let all = raise-answered tape bases e in
+      load-order tape (getD bases j 0) (row-loaded tape (headerOf tape) (all .accepted) bases (all .row) j less) (all .named)
+
+-- The other way round: a row of up to 64 bases of order r is answered, and the first base from 1 to p - 1 of another order gives 11.
+module _ (tape : List ℕ) (accepted : checkOutcome tape ≡ answered 0) (named : isNamed (headerOf tape) ≡ true) where
+  abbrev h : Header
+  h = headerOf tape
+
+  abbrev Taken : List ℕ → Type 0
+  Taken bases = (j : ℕ) → j < length bases → Residue (h .modulus) (getD bases j 0) × OrderOf (h .modulus) (getD bases j 0) (h .order)
+
+  row-taken : (bases : List ℕ) → Taken bases → outcome {A = ℕ} (rowRules h bases) 0 ≡ answered 0
+  row-taken [] all = row-none h 0
+  row-taken (a ∷ bases) all =
+      let first = all 0 (omega arith) in
+      row-passed h a bases 0 (base-taken h a 0 (first .0) named (first .1)) ∙ row-taken bases (λ j less. all (suc j) (omega arith))
+
+  row-stopped : (good : List ℕ) (a : ℕ) (bases : List ℕ) → Taken good → Residue (h .modulus) a → ¬ (OrderOf (h .modulus) a (h .order))
+      → outcome {A = ℕ} (rowRules h (good ++ a ∷ bases)) 0 ≡ refused 11
+  row-stopped [] a bases all base other = row-refused h a bases 0 (base-refused h a 0 base named other)
+  row-stopped (b ∷ good) a bases all base other =
+      let first = all 0 (omega arith) in
+      row-passed h b (good ++ a ∷ bases) 0 (base-taken h b 0 (first .0) named (first .1))
+      ∙ row-stopped good a bases (λ j less. all (suc j) (omega arith)) base other
+
+  on-row : (bases : List ℕ) → length bases ≤ maxBases → raiseOutcome tape bases ≡ outcome (rowRules h bases) 0
+  on-row bases few =
+      raise-rules tape bases h (still-answered 0 h (checkRules tape) accepted) ∙ raise-row h bases 0 (eqb-false (h .variant) 0 (not-true _ named)) few
+
+  pub orders-raise : (bases : List ℕ) → length bases ≤ maxBases → Taken bases → raiseOutcome tape bases ≡ answered 0
+  orders-raise bases few all = on-row bases few ∙ row-taken bases all
+
+  pub order-stops : (good : List ℕ) (a : ℕ) (bases : List ℕ) → length (good ++ a ∷ bases) ≤ maxBases → Taken good → Residue (h .modulus) a
+      → ¬ (OrderOf (h .modulus) a (h .order)) → raiseOutcome tape (good ++ a ∷ bases) ≡ refused 11
+  order-stops good a bases few all base other = on-row (good ++ a ∷ bases) few ∙ row-stopped good a bases all base other
 
 -- An empty row succeeds, and remains empty.
 pub raise-empty : (tape : List ℕ) → checkOutcome tape ≡ answered 0 → isNamed (headerOf tape) ≡ true

@@ -2,9 +2,9 @@
 use mathlib.Core.Path.{_≡_, refl, sym, ap, _∙_}
 use mathlib.Core.Bool.{true, false, not, _||_, or-false}
 use mathlib.Core.List.{List, [], _∷_}
-use Prim.Native.Nat.{ℕ, _≤_, _<_, _%_, _^_}
+use Prim.Native.Nat.{ℕ, _≤_, _<_, _%_}
 use native.Mathlib.Omega.{arith}
-use lib.Dec.{leb, ltb, eqb}
+use lib.Dec.{leb, ltb}
 use lib.ListN.{length, take}
 use borrow.Author.Tests.{ltb-false, lt-ltb, le-ltb, eq-eqb, ne-eqb}
 use Rattle.refusal.specs.declared.Refusal.the-variants.{Position}
@@ -12,6 +12,7 @@ use Rattle.refusal.specs.Refusals.{numberOf}
 use Rattle.refusal.specs.Outcomes.{Outcome, refused, answered, outcome, refusalNumber, gives, passes}
 use Rattle.refusal.proofs.Laws.Tests.{neither}
 use Rattle.modular.specs.Primes.{Prime}
+use Rattle.orders.specs.Orders.{isOrder}
 use Rattle.tape.specs.declared.Header.{Header}
 use Rattle.tape.specs.declared.Step.{Step}
 use Rattle.tape.specs.Layout.{headerOf, stepIndex, stepWords, stepWordsOf, part, stepsOf, allSteps}
@@ -60,7 +61,7 @@ module _ (h : Header) (a : ℕ) where
   unfolding badBase
   base-free e = rw (eq-eqb (h .variant) 0 e)
 
-  pub base-named : ¬ (h .variant ≡ 0) → badBase h a ≡ not (eqb (a ^ (h .order) % h .modulus) 1)
+  pub base-named : ¬ (h .variant ≡ 0) → badBase h a ≡ not (isOrder (h .modulus) a (h .order))
   unfolding badBase allowed
   base-named ne = rw (ne-eqb (h .variant) 0 ne)
 

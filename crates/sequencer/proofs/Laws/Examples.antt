@@ -12,13 +12,14 @@ use Rattle.modular.specs.Search.{greatest}
 use Rattle.modular.specs.Primes.{isPrime}
 use Rattle.modular.specs.Residues.{Residue, remainder, times}
 use Rattle.modular.specs.Inverses.{gcd, inverse, badExponent}
+use Rattle.orders.specs.Orders.{isOrder}
 use Rattle.fibonacci.specs.Fibonacci.{fib, lucas}
 use Rattle.fibonacci.specs.Forms.{pad, greedy, zeckendorf}
 use Rattle.fibonacci.specs.Height.{reaches, firstFrom, height, oddHeight}
 use Rattle.tape.specs.declared.Step.the-variants.{Mul, Div, Swp}
 use Rattle.tape.specs.Words.{headingIn, actionIn, swapIn, decoded, stepWord, encoded}
 use Rattle.tape.specs.Layout.{part, isLength, isHeader, isFreeOrNamed, allSteps, isEnd, laidOut, programWords}
-use Rattle.machine.specs.Machine.{apply, inverseStep, doAll, undoAll, run, inverted}
+use Rattle.machine.specs.Machine.{start, apply, inverseStep, doAll, undoAll, run, inverted}
 use Rattle.machine.specs.Ways.{way, countWhere, isMul, isDiv, isSwp, countsOf}
 use Rattle.machine.proofs.Laws.Steps.{residues-four}
 use Rattle.named.specs.Generators.{ascend, descend, basic, dual, hybrid, drawn}
@@ -110,31 +111,49 @@ chain-runs = (
   refl,
 )
 
--- the load may be on any accepted program of that p: one of the chain's own, one with another r, one made by hand
+-- programs of that p with another r, and made by hand
 abbrev pub another-r : List ℕ
 another-r = namedWords 11 10 3 1
 
 abbrev pub by-hand-11 : List ℕ
 by-hand-11 = programWords (record { variant = 0; modulus = 11; order = 0; exponent = 0; steps = Mul 2 1 ∷ [] })
 
+-- In order: 4 has order 5, and a program for 10 doesn't load it, though 10 gives 1 too; 2 has order 10; 1 has order 1; a program made by hand
+-- loads any of them; 9 comes before 11.
+pub bases-load : (loadOutcome figure-4 4 ≡ answered (startRecord 4))
+    × (loadOutcome another-r 4 ≡ refused 11)
+    × (loadOutcome another-r 2 ≡ answered (startRecord 2))
+    × (loadOutcome figure-4 2 ≡ refused 11)
+    × (loadOutcome figure-4 1 ≡ refused 11)
+    × (loadOutcome by-hand-11 4 ≡ answered (startRecord 4))
+    × (loadOutcome by-hand-11 1 ≡ answered (startRecord 1))
+    × (loadOutcome figure-4 12 ≡ refused 9)
+unfolding programWords encoded stepWord namedSteps formsIn basicForms dualForms drawn basic dual ascend inverted inverseStep pad zeckendorf greedy height firstFrom reaches lucas fib inverse greatest decoded headingIn actionIn swapIn outcome checkRules isLength isHeader isFreeOrNamed allSteps isEnd laidOut badModulus isPrime badOrder badExponent gcd isOneOf sameSteps sameStep badRegister allowed isOrder badBase onTape baseRules loadOutcome
+bases-load = (refl, refl, refl, refl, refl, refl, refl, refl)
+
 pub chain-exists : Chain 11 5 4 chained (startRecord 4)
-unfolding programWords encoded stepWord namedSteps formsIn basicForms dualForms drawn basic dual ascend inverted inverseStep pad zeckendorf greedy height firstFrom reaches lucas fib inverse greatest decoded headingIn actionIn swapIn outcome checkRules isLength isHeader isFreeOrNamed allSteps isEnd laidOut badModulus isPrime badOrder badExponent gcd isOneOf sameSteps sameStep badRegister allowed badBase onTape baseRules loadOutcome
+unfolding programWords encoded stepWord namedSteps formsIn basicForms dualForms drawn basic dual ascend inverted inverseStep pad zeckendorf greedy height firstFrom reaches lucas fib inverse greatest decoded headingIn actionIn swapIn outcome checkRules isLength isHeader isFreeOrNamed allSteps isEnd laidOut badModulus isPrime badOrder badExponent gcd isOneOf sameSteps sameStep badRegister allowed isOrder badBase onTape baseRules loadOutcome
 chain-exists = turned-chain 11 5 4 chained figure-4 refl refl refl refl (chain-runs .0)
 
-pub chain-from-another-r : Chain 11 5 4 chained (startRecord 4)
-unfolding programWords encoded stepWord namedSteps formsIn basicForms dualForms drawn basic dual ascend inverted inverseStep pad zeckendorf greedy height firstFrom reaches lucas fib inverse greatest decoded headingIn actionIn swapIn outcome checkRules isLength isHeader isFreeOrNamed allSteps isEnd laidOut badModulus isPrime badOrder badExponent gcd isOneOf sameSteps sameStep badRegister allowed badBase onTape baseRules loadOutcome
-chain-from-another-r = turned-chain 11 5 4 chained another-r refl refl refl refl (chain-runs .0)
+-- A base of smaller order than r, which is 10: 4^10 is 1, and E is 3. It is loaded on the program made by hand here, and `figure-4`, for its own
+-- order, loads it as well.
+abbrev pub through-10 : List Request
+through-10 = record { tape = another-r; turn = to 0; goal = 32 } ∷ []
 
-pub chain-from-by-hand : Chain 11 5 4 chained (startRecord 4)
-unfolding programWords encoded stepWord namedSteps formsIn basicForms dualForms drawn basic dual ascend inverted inverseStep pad zeckendorf greedy height firstFrom reaches lucas fib inverse greatest decoded headingIn actionIn swapIn outcome checkRules isLength isHeader isFreeOrNamed allSteps isEnd laidOut badModulus isPrime badOrder badExponent gcd isOneOf sameSteps sameStep badRegister allowed badBase onTape baseRules loadOutcome
-chain-from-by-hand = turned-chain 11 5 4 chained by-hand-11 refl refl refl refl (chain-runs .0)
+pub chain-of-smaller-order : Chain 11 10 4 through-10 (startRecord 4) × (afterAll through-10 (startRecord 4) .registers ≡ start 9)
+unfolding programWords encoded stepWord namedSteps formsIn basicForms dualForms drawn basic dual ascend inverted inverseStep pad zeckendorf greedy height firstFrom reaches lucas fib inverse greatest decoded headingIn actionIn swapIn outcome checkRules isLength isHeader isFreeOrNamed allSteps isEnd laidOut badModulus isPrime badOrder badExponent gcd isOneOf sameSteps sameStep badRegister allowed isOrder badBase onTape baseRules loadOutcome TurnedOrRefused afterAll runOutcome goalRules recordRules badRegisters run doAll apply times remainder
+chain-of-smaller-order = (
+  turned-chain 11 10 4 through-10 by-hand-11 refl refl refl refl
+      (inr (0, (refl, record { accepted = refl; named = refl; modulus = refl; order = refl; ends = inl (refl, refl) })), tt),
+  refl,
+)
 
 -- a chain without turns: from position 0, where load put it, there and back; E is 2 × 3 modulo 5
 abbrev pub there-and-back : List Request
 there-and-back = record { tape = figure-2; turn = none; goal = 23 } ∷ record { tape = figure-2; turn = none; goal = 0 } ∷ []
 
 pub chain-without-turns : Chain 11 5 4 there-and-back (startRecord 4)
-unfolding programWords encoded stepWord namedSteps formsIn basicForms dualForms hybridForms drawn basic dual hybrid ascend descend inverted inverseStep pad zeckendorf greedy height oddHeight firstFrom reaches lucas fib inverse greatest decoded headingIn actionIn swapIn outcome checkRules isLength isHeader isFreeOrNamed allSteps isEnd laidOut badModulus isPrime badOrder badExponent gcd isOneOf sameSteps sameStep badRegister badRegisters onTape recordRules goalRules runOutcome run doAll undoAll apply times remainder performed AllEndToEnd badBase allowed baseRules loadOutcome
+unfolding programWords encoded stepWord namedSteps formsIn basicForms dualForms hybridForms drawn basic dual hybrid ascend descend inverted inverseStep pad zeckendorf greedy height oddHeight firstFrom reaches lucas fib inverse greatest decoded headingIn actionIn swapIn outcome checkRules isLength isHeader isFreeOrNamed allSteps isEnd laidOut badModulus isPrime badOrder badExponent gcd isOneOf sameSteps sameStep badRegister badRegisters onTape recordRules goalRules runOutcome run doAll undoAll apply times remainder performed AllEndToEnd badBase allowed isOrder baseRules loadOutcome
 chain-without-turns =
     record {
       tape = figure-2;
@@ -235,7 +254,8 @@ abbrev many : List ℕ
 many = 0 ∷ replicate 64 4
 
 -- In order: four bases; none; 2 to the power 5 isn't 1 modulo 11; 11 isn't below p; the first bad base decides the refusal, whichever
--- number it has; a bad base behind good ones, which stay as they are; too many come before a bad one, and 64 are not too many; a free
+-- number it has; a bad base behind good ones, which stay as they are; one between them,
+-- of which a smaller power is 1; too many come before a bad one, and 64 are not too many; a free
 -- program comes before too many; and a tape that check refuses before all of these.
 pub rows-raised : Raises figure-2 (4 ∷ 3 ∷ 5 ∷ 9 ∷ []) (answered 0) (5 ∷ 9 ∷ 3 ∷ 4 ∷ [])
     × Raises figure-6 [] (answered 0) []
@@ -244,13 +264,15 @@ pub rows-raised : Raises figure-2 (4 ∷ 3 ∷ 5 ∷ 9 ∷ []) (answered 0) (5 �
     × Raises figure-2 (2 ∷ 0 ∷ []) (refused 11) (2 ∷ 0 ∷ [])
     × Raises figure-2 (0 ∷ 2 ∷ []) (refused 9) (0 ∷ 2 ∷ [])
     × Raises figure-4 (4 ∷ 3 ∷ 2 ∷ []) (refused 11) (4 ∷ 3 ∷ 2 ∷ [])
+    × Raises figure-4 (4 ∷ 1 ∷ 3 ∷ []) (refused 11) (4 ∷ 1 ∷ 3 ∷ [])
     × Raises figure-4 many (refused 14) many
     × (raiseOutcome figure-4 (replicate 64 4) ≡ answered 0)
     × Raises by-hand many (refused 4) many
     × Raises by-hand [] (refused 4) []
     × Raises [] many (refused 6) many
-unfolding programWords encoded stepWord namedSteps formsIn basicForms dualForms hybridForms drawn basic dual hybrid ascend descend inverted inverseStep pad zeckendorf greedy height oddHeight firstFrom reaches lucas fib inverse greatest decoded headingIn actionIn swapIn outcome checkRules isLength isHeader isFreeOrNamed allSteps isEnd laidOut badModulus isPrime badOrder badExponent gcd isOneOf sameSteps sameStep badRegister badRegisters allowed badBase onTape baseRules recordRules goalRules loadOutcome runOutcome forwardOutcome run doAll undoAll apply times remainder rowRules raiseRules raised onRow raiseOutcome raisedBases
+unfolding programWords encoded stepWord namedSteps formsIn basicForms dualForms hybridForms drawn basic dual hybrid ascend descend inverted inverseStep pad zeckendorf greedy height oddHeight firstFrom reaches lucas fib inverse greatest decoded headingIn actionIn swapIn outcome checkRules isLength isHeader isFreeOrNamed allSteps isEnd laidOut badModulus isPrime badOrder badExponent gcd isOneOf sameSteps sameStep badRegister badRegisters allowed isOrder badBase onTape baseRules recordRules goalRules loadOutcome runOutcome forwardOutcome run doAll undoAll apply times remainder rowRules raiseRules raised onRow raiseOutcome raisedBases
 rows-raised = (
+  (refl, refl),
   (refl, refl),
   (refl, refl),
   (refl, refl),

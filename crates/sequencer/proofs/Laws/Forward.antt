@@ -5,7 +5,7 @@ use mathlib.Core.Bool.{true, false}
 use mathlib.Core.List.{List}
 use Prim.Native.Nat.{ℕ, _%_, _^_}
 use native.Mathlib.Omega.{arith}
-use borrow.Author.Tests.{le-ltb, lt-leb, ne-eqb, eqb-true, eqb-false, not-true, not-false}
+use borrow.Author.Tests.{le-ltb, eqb-false, not-true}
 use Rattle.refusal.specs.Outcomes.{refused, answered, passes, answers}
 use Rattle.modular.specs.Primes.{Prime}
 use Rattle.modular.specs.Residues.{Residue}
@@ -19,9 +19,10 @@ use Rattle.program.specs.Services.{isNamed}
 use Rattle.program.proofs.Laws.Checking.{accepted-named}
 use Rattle.program.proofs.Laws.Accepting.{accepted-program}
 use Rattle.sequencer.specs.Records.{Record}
-use Rattle.sequencer.specs.Services.{badRegister, badRegisters, startRecord, recordRules, goalRules, loadOutcome, runOutcome, forwardOutcome}
-use Rattle.sequencer.proofs.Laws.Cases.{modulus-prime, base-named, registers-others, registers-last, run-rules}
-use Rattle.sequencer.proofs.Laws.Answers.{steps-sound, load-answered}
+use Rattle.sequencer.specs.Services.{badRegisters, startRecord, recordRules, goalRules, loadOutcome, runOutcome, forwardOutcome}
+use Rattle.sequencer.proofs.Laws.Cases.{modulus-prime, registers-others, registers-last, run-rules}
+use Rattle.sequencer.proofs.Laws.Answers.{residue-good, steps-sound, load-answered}
+use Rattle.sequencer.proofs.Laws.Orders.{load-order}
 
 -- ---- the two outcomes of load
 
@@ -35,10 +36,6 @@ module _ (tape : List ℕ) (a : ℕ) where
   forward-loaded e = rw e
 
 -- ---- run is not refused then
-
-residue-good : (p x : ℕ) → Residue p x → badRegister p x ≡ false
-unfolding badRegister
-residue-good p x r = rw (ne-eqb x 0 (λ e. omega arith), lt-leb p x (r .high))
 
 start-residues : (p : ℕ) → Prime p → (a : ℕ) → Residue p a → badRegisters p (start a) ≡ false
 start-residues p pr a r =
@@ -81,7 +78,6 @@ module _ (tape : List ℕ) (a : ℕ) {s : Record} (e : loadOutcome tape a ≡ an
       let h = headerOf tape in
       let load = load-answered tape a s e in
       let some = eqb-false (h .variant) 0 (not-true _ is) in
-      let power = eqb-true _ 1 (not-false _ (sym (base-named h a some) ∙ load .power)) in
       forward-done
       ∙ ap (λ (v : List ℕ). answered (endRecord tape v))
-      (accepted-program tape (accepted-named h tape (load .accepted) some) .raises (h .modulus) (modulus-prime tape h (load .accepted)) a (load .base) power)
+      (accepted-program tape (accepted-named h tape (load .accepted) some) .raises (h .modulus) (modulus-prime tape h (load .accepted)) a (load .base) (load-order tape a e is .one))

@@ -12,6 +12,7 @@ use Rattle.modular.specs.Search.{greatest}
 use Rattle.modular.specs.Primes.{isPrime}
 use Rattle.modular.specs.Residues.{remainder, times}
 use Rattle.modular.specs.Inverses.{gcd, inverse, badExponent, inverseOutcome}
+use Rattle.orders.specs.Orders.{isOrder}
 use Rattle.fibonacci.specs.Fibonacci.{fib, lucas}
 use Rattle.fibonacci.specs.Forms.{pad, greedy, zeckendorf, placesFrom, weight, arePlaces}
 use Rattle.fibonacci.specs.Height.{reaches, firstFrom, height}
@@ -79,7 +80,7 @@ examples =
     replies ("build" ∷ "7" ∷ "3" ∷ "2" ∷ "free" ∷ []) (refuses 4 4)
     ∷ replies ("script" ∷ []) (complains scriptLine)
     ∷ replies ("help" ∷ []) (answers usage)
-    ∷ prints ("version" ∷ []) "fibexp 2.1.0\n"
+    ∷ prints ("version" ∷ []) "fibexp 3.0.0\n"
     ∷ tape-prints ("check" ∷ []) "0\n"
     ∷ tape-prints ("list" ∷ []) "free p=7 r=0 k=0 steps=1\n1 mul 0 1\n"
     ∷ tape-prints ("load" ∷ "3" ∷ []) "1 3 1 1 0\n"
@@ -106,5 +107,5 @@ examples =
     ∷ []
 
 pub examples-hold : AllHold examples
-unfolding reply askedBy numbersFrom parameterIn variantIn rowNamed indexIn names rows entries built tapeReply numberReply digitOf allDigits valueFrom numberFrom inBase isHexadecimal parseNumber sameWords onTape decimalWithin decimal whole line outcome tapeIn noTape tapeOf bytesOf isLength isHeader isFreeOrNamed allSteps isEnd laidOut part programWords encoded stepWord decoded headingIn actionIn swapIn namedSteps formsIn basicForms drawn basic ascend inverted inverseStep isOneOf sameSteps sameStep checkRules buildOutcome badModulus badOrder badVariant isPrime greatest gcd badExponent inverse inverseOutcome remainder times badRegister badRegisters allowed badBase loadOutcome baseRules recordRules goalRules traceRules runOutcome forwardOutcome traceOutcome badCut cutRules cutOutcome rowRules raiseRules raised onRow raiseOutcome raisedBases tableRules tableOutcome tableOf tableStays neighbour pastEnd stepRules stepOutcome previewOutcome way countsOf countWhere isMul isDiv isSwp afterAll numbersAll requestsOf run doAll undoAll apply staysInRange allInRange inRange shiftAll shift stepLines fib lucas pad greedy zeckendorf placesFrom weight arePlaces reaches firstFrom height hofstadterTo G fibonacciOutcome numberOutcome
+unfolding reply askedBy numbersFrom parameterIn variantIn rowNamed indexIn names rows entries built tapeReply numberReply digitOf allDigits valueFrom numberFrom inBase isHexadecimal parseNumber sameWords onTape decimalWithin decimal whole line outcome tapeIn noTape tapeOf bytesOf isLength isHeader isFreeOrNamed allSteps isEnd laidOut part programWords encoded stepWord decoded headingIn actionIn swapIn namedSteps formsIn basicForms drawn basic ascend inverted inverseStep isOneOf sameSteps sameStep checkRules buildOutcome badModulus badOrder badVariant isPrime greatest gcd badExponent inverse inverseOutcome remainder times badRegister badRegisters allowed isOrder badBase loadOutcome baseRules recordRules goalRules traceRules runOutcome forwardOutcome traceOutcome badCut cutRules cutOutcome rowRules raiseRules raised onRow raiseOutcome raisedBases tableRules tableOutcome tableOf tableStays neighbour pastEnd stepRules stepOutcome previewOutcome way countsOf countWhere isMul isDiv isSwp afterAll numbersAll requestsOf run doAll undoAll apply staysInRange allInRange inRange shiftAll shift stepLines fib lucas pad greedy zeckendorf placesFrom weight arePlaces reaches firstFrom height hofstadterTo G fibonacciOutcome numberOutcome
 examples-hold = (refl, (refl, (refl, (refl, (refl, (refl, (refl, (refl, (refl, (refl, (refl, (refl, (refl, (refl, (refl, (refl, (refl, (refl, (refl, (refl, (refl, (refl, (refl, (refl, (refl, (refl, (refl, tt)))))))))))))))))))))))))))

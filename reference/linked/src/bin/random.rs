@@ -16,14 +16,16 @@
 //! header that belongs to other steps, one is any words; then three in eight are damaged. Half of the
 //! single steps begin beside an end of the tape. A preview goes from end to end in a quarter of the draws,
 //! in an eighth to where its record stands, and in a quarter to an end, one past it, or the largest number.
-//! A row has 0 to 66 bases, and half of the rows have one or two that are drawn to be bad. Half of the
-//! builds have a fault in p, r, k, the variant or all of them. The primes are those at the ends and 6000
-//! drawn ones of every size up to 2^28.
+//! Of the bases to load eleven in sixteen have order r and two a smaller one. A row has 0 to 66 bases of
+//! order r, but half of the rows have one or two that are drawn to be bad: out of range, of smaller order, or
+//! without a^r = 1. Half of the builds have a fault in p, r, k, the variant or all of them. The primes are
+//! those at the ends and 6000 drawn ones of every size up to 2^28.
 
 use linked::lent::{inner, Canaries, Lent};
 use linked::proved;
 use linked::tally::{Service, Tally};
 use reference as services;
+use reference::drawing::bases;
 use reference::drawing::commands::commands;
 use reference::drawing::noise::Noise;
 use reference::drawing::parameters::{inverse_call, Fields, Parameters};
@@ -207,7 +209,7 @@ impl Comparison {
 
     fn load(&mut self, tape: &[u32]) {
         let (p, r) = modulus_and_order(tape);
-        let base = draw::base(&mut self.noise, p, r);
+        let base = bases::base(&mut self.noise, p, r);
         let lent = Lent::new(&mut self.noise, five_words);
         let mut record = lent;
         let (number, row) = lend(tape, |tape| proved::load(tape, base, &mut record.value));
@@ -281,7 +283,7 @@ impl Comparison {
 
     fn raise(&mut self, tape: &[u32]) {
         let (p, r) = modulus_and_order(tape);
-        let bases = draw::bases(&mut self.noise, p, r);
+        let bases = bases::bases(&mut self.noise, p, r);
         let mut before = self.canaries.row(&mut self.noise, bases.len());
         inner(&mut before, bases.len()).copy_from_slice(&bases);
         let (mut row, mut expected) = (before.clone(), before);

@@ -2,6 +2,7 @@
 
 use crate::inputs::{Inputs, Variant, EVERY, NONE};
 use crate::latency::{by_montgomery, by_remainder, Chains};
+use crate::orders;
 use crate::services::{Service, SERVICES};
 use crate::timing::Pair;
 
@@ -33,8 +34,13 @@ pub fn rows() -> impl Iterator<Item = (&'static Service, &'static Variant)> {
 }
 
 impl<'a> Board<'a> {
-    /// The worked example's p and the largest have every service, the others those that grow.
-    pub fn new(small: &'a Inputs, growing: &'a [Inputs; 4]) -> Board<'a> {
+    /// The worked example's p and the largest have every service, others those that grow, and those with other
+    /// orders the services that test one. No two have the same p.
+    pub fn new(
+        small: &'a Inputs,
+        growing: &'a [Inputs; 4],
+        with_orders: &'a [Inputs; 3],
+    ) -> Board<'a> {
         let [.., large] = growing;
         let mut entries = Vec::new();
         for (service, variant) in rows() {
@@ -42,6 +48,10 @@ impl<'a> Board<'a> {
                 if service.grows || inputs.p == small.p || inputs.p == large.p {
                     entries.push(Entry::new(service, variant, inputs));
                 }
+            }
+            if orders::is_told(service, variant) {
+                let others = with_orders.iter();
+                entries.extend(others.map(|inputs| Entry::new(service, variant, inputs)));
             }
         }
         let limits = |inputs: &Inputs| Limits {

@@ -3,8 +3,9 @@
 
 use linked::proved;
 use reference as services;
+use reference::drawing::bases::many_proper;
 use reference::drawing::noise::Noise;
-use reference::drawing::parameters::{common_divisor, power, Parameters, PAYLOADS};
+use reference::drawing::parameters::{common_divisor, Parameters, PAYLOADS};
 use reference::drawing::tapes::{named, step, steps};
 
 pub const INPUTS: usize = 64;
@@ -58,11 +59,22 @@ pub const SMALL: Size = Size {
 /// The largest primes below 2^8, 2^16, 2^24 and 2^28.
 pub const GROWING: [Size; 4] = [full(251), full(65_521), full(16_777_213), full(268_435_399)];
 
+/// Other orders near the largest: a prime, two primes that are hard to find, and as many primes as there can be.
+pub const ORDERS: [Size; 3] = [
+    of_order(268_435_019, 134_217_509),
+    of_order(268_331_747, 11_579 * 11_587),
+    full(232_792_561),
+];
+
 /// A prime with the largest order it has, and numbers of 64 bits.
 const fn full(p: u32) -> Size {
+    of_order(p, p - 1)
+}
+
+const fn of_order(p: u32, r: u32) -> Size {
     Size {
         p,
-        r: p - 1,
+        r,
         most: u64::MAX,
     }
 }
@@ -87,7 +99,7 @@ impl Size {
         let mut noise = Noise::new(SEED);
         let exponents = drawn(|| coprime(&mut noise, r));
         let numbers = drawn(|| noise.number() % most + 1);
-        let bases = drawn(|| power(noise.between(2, p - 2), (p - 1) / r, p));
+        let bases = many_proper(&mut noise, p, r, INPUTS);
         let registers = drawn(|| [0; 4].map(|_| noise.between(1, p - 1)));
         let tapes = [0, 1, 2, 3].map(|variant: u32| match variant {
             0 => drawn(|| hand_made(&mut noise, p)),

@@ -12,13 +12,14 @@ mod board;
 mod growth;
 mod inputs;
 mod latency;
+mod orders;
 mod overview;
 mod pin;
 mod services;
 mod timing;
 
 use board::Board;
-use inputs::{Inputs, Size, GROWING, SMALL};
+use inputs::{Inputs, Size, GROWING, ORDERS, SMALL};
 use std::num::NonZeroUsize;
 
 /// They take less than a minute.
@@ -29,13 +30,16 @@ fn main() {
     let core = pin::stay();
     let small = SMALL.inputs();
     let growing: [Inputs; 4] = GROWING.each_ref().map(Size::inputs);
-    let mut board = Board::new(&small, &growing);
+    let with_orders: [Inputs; 3] = ORDERS.each_ref().map(Size::inputs);
+    let mut board = Board::new(&small, &growing, &with_orders);
     for _ in 0..rounds {
         board.round();
     }
     println!("Processor: {}. {}\n", pin::processor(), told(core));
     let [.., large] = &growing;
     overview::print(&board, rounds, &small, large);
+    println!();
+    orders::print(&board, large, &with_orders);
     println!();
     growth::print(&board, &growing);
 }

@@ -42,26 +42,30 @@ const fn service(
 }
 
 const PROGRAM: &str = "primes, forms, inverse";
+const LOAD: &str = "primes, forms, inverse, order";
 const RUN: &str = "primes, forms, inverse, product";
+const RAISE: &str = "primes, forms, inverse, order, product";
 const PREVIEW: &str = "primes, forms, inverse, product, counts";
 const STEP: &str = "primes, forms, inverse, one step";
 const TABLE: &str = "primes, forms, inverse, passes";
 const LOADS_AND_RUNS: &str = "both sides proved; the other is 64 loads and 64 runs";
 
 pub const CHECK: &str = "check";
+pub const LOADS: &str = "load";
 pub const RUNS: [&str; 2] = ["run forward", "run backward"];
+pub const RAISES: &str = "raise, 64 bases";
 
 /// The rows of the tables, in their order.
 pub static SERVICES: &[Service] = &[
     service("build", NAMED, true, PROGRAM, build),
     service(CHECK, EVERY, true, PROGRAM, check),
-    service("load", NAMED, false, PROGRAM, load),
+    service(LOADS, NAMED, false, LOAD, load),
     service(RUNS[0], EVERY, true, RUN, run_forward),
     service(RUNS[1], EVERY, true, RUN, run_backward),
     service("step", NAMED, false, STEP, step),
     service("preview forward", EVERY, true, PREVIEW, preview_forward),
     service("preview backward", EVERY, true, PREVIEW, preview_backward),
-    service("raise, 64 bases", NAMED, false, RUN, raise),
+    service(RAISES, NAMED, false, RAISE, raise),
     service(
         "64 bases: raise / loads and runs",
         NAMED,
