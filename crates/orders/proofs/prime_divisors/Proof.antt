@@ -1,6 +1,6 @@
 -- `prime_divisors` meets its contract: a round finds the last prime divisor again, or the next one (Laws/Finding).
 use mathlib.Core.Logic.{⊎-elim}
-use Prim.Native.Nat.{_<_}
+use Prim.Native.Nat.{_≤_, _<_}
 use native.Mathlib.Nat.{div-lt-self}
 use native.Mathlib.Omega.{arith}
 use Rattle.orders.proofs.Laws.Finding.{Finding, finding-starts, finding-room, finding-again, finding-more, finding-ends}
@@ -16,12 +16,16 @@ abbrev μ-loop : tie.MeasureT-loop
 loop-holds : tie.Need-loop-holds Inv-loop μ-loop
 loop-holds c = finding-starts _
 
+-- something is left
+two : (c : tie.In-loop Inv-loop μ-loop) → 2 ≤ c .before .loop .rest
+two c = omega (arith, c .loop-test .taken)
+
 least-divisor-requires : tie.Need-least-divisor-requires Inv-loop μ-loop
-least-divisor-requires c κs = c .loop-test .taken
+least-divisor-requires c κs = two c
 
 -- a prime divisor that is found finds room
 room : (c : tie.Then1 Inv-loop μ-loop) → c .before .before .before .loop .count < 32
-room c = let in-loop = c .before .before in finding-room (in-loop .before .loop .inv) (in-loop .loop-test .taken) (omega arith)
+room c = finding-room (c .before .before .before .loop .inv) (two (c .before .before)) (omega arith)
 
 mul-primes : tie.Need-mul-primes Inv-loop μ-loop
 mul-primes c = omega (arith, room c)
@@ -36,15 +40,14 @@ div-rest : tie.Need-div-rest Inv-loop μ-loop
 div-rest c = omega (arith, c .before .least-divisor .ensures .low)
 
 loop-less : tie.Need-loop-less Inv-loop μ-loop
-loop-less c = div-lt-self (omega (arith, c .before .before .loop-test .taken)) (c .before .least-divisor .ensures .low)
+loop-less c = div-lt-self (omega (arith, two (c .before .before))) (c .before .least-divisor .ensures .low)
 
 loop-again : tie.Need-loop-again Inv-loop μ-loop
 loop-again c =
     let was = c .before .before .before .loop .inv in
-    let two = c .before .before .loop-test .taken in
     let d = c .before .least-divisor .ensures in
     ⊎-elim
-    (λ w. rw (w .1, w .2, w .3) (finding-more was _ d (omega arith) two (w .0 .taken)))
+    (λ w. rw (w .1, w .2, w .3) (finding-more was _ d (omega arith) (two (c .before .before)) (w .0 .taken)))
     (λ w. rw (w .1, w .2, w .3) (finding-again was _ d (w .0 .left)))
     (c .if1 .came)
 
