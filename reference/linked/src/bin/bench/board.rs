@@ -15,6 +15,7 @@ struct Entry<'a> {
     service: &'static str,
     variant: &'static str,
     p: u32,
+    r: u32,
     pair: Pair<'a>,
 }
 
@@ -35,11 +36,11 @@ pub fn rows() -> impl Iterator<Item = (&'static Service, &'static Variant)> {
 
 impl<'a> Board<'a> {
     /// The worked example's p and the largest have every service, others those that grow, and those with other
-    /// orders the services that test one. No two have the same p.
+    /// orders the services that test one. No two have the same p and r.
     pub fn new(
         small: &'a Inputs,
         growing: &'a [Inputs; 4],
-        with_orders: &'a [Inputs; 3],
+        with_orders: &'a [Inputs; 4],
     ) -> Board<'a> {
         let [.., large] = growing;
         let mut entries = Vec::new();
@@ -74,8 +75,10 @@ impl<'a> Board<'a> {
         }
     }
 
-    pub fn pair(&self, service: &str, variant: &Variant, p: u32) -> &Pair<'a> {
-        let is_it = |e: &&Entry| e.service == service && e.variant == variant.name && e.p == p;
+    pub fn pair(&self, service: &str, variant: &Variant, at: &Inputs) -> &Pair<'a> {
+        let is_it = |e: &&Entry| {
+            e.service == service && e.variant == variant.name && (e.p, e.r) == (at.p, at.r)
+        };
         let found = self.entries.iter().find(is_it);
         &found.expect("the tables tell of what is measured").pair
     }
@@ -92,6 +95,7 @@ impl<'a> Entry<'a> {
             service: service.name,
             variant: variant.name,
             p: inputs.p,
+            r: inputs.r,
             pair: (service.pair)(inputs, variant.number),
         }
     }

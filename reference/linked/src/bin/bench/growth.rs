@@ -50,7 +50,7 @@ fn times(board: &Board, growing: &[Inputs], variant: &Variant) {
     );
     for (service, _) in rows().filter(|(service, of)| service.grows && *of == variant) {
         let time = |at: &Inputs| {
-            let pair = board.pair(service.name, variant, at.p);
+            let pair = board.pair(service.name, variant, at);
             let (proved, reference) = (pair.proved.least(), pair.reference.least());
             format!("{proved:.1} / {reference:.1} = {:.2}", proved / reference)
         };
@@ -62,7 +62,7 @@ fn times(board: &Board, growing: &[Inputs], variant: &Variant) {
 fn speeds(board: &Board, growing: &[Inputs], variant: &Variant, run: &str) {
     for (share, told) in [(0.0, "whole"), (1.0, "without check")] {
         let cell = |(at, limits): (&Inputs, &Limits)| {
-            let [run, check] = [run, CHECK].map(|service| board.pair(service, variant, at.p));
+            let [run, check] = [run, CHECK].map(|service| board.pair(service, variant, at));
             let speed = |run: &Side, check: &Side| {
                 let time = run.least() - share * check.least();
                 at.mean_steps(variant) * PER_MICROSECOND / time
@@ -90,7 +90,7 @@ fn limits_without_swaps(board: &Board, growing: &[Inputs], variant: &Variant) {
 fn largest_spread(board: &Board, at: &Inputs) -> String {
     let mut largest = [1.0f64; 2];
     for (service, variant) in rows().filter(|(service, _)| service.grows) {
-        let pair = board.pair(service.name, variant, at.p);
+        let pair = board.pair(service.name, variant, at);
         let spreads = [pair.proved.spread(), pair.reference.spread()];
         largest = [0, 1].map(|side| largest[side].max(spreads[side]));
     }

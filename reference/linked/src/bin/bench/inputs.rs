@@ -59,8 +59,10 @@ pub const SMALL: Size = Size {
 /// The largest primes below 2^8, 2^16, 2^24 and 2^28.
 pub const GROWING: [Size; 4] = [full(251), full(65_521), full(16_777_213), full(268_435_399)];
 
-/// Other orders near the largest: a prime, two primes that are hard to find, and as many primes as there can be.
-pub const ORDERS: [Size; 3] = [
+/// Other orders: the largest prime of the largest p, a prime near 2^27, two primes that are hard to find, and as many
+/// primes as there can be.
+pub const ORDERS: [Size; 4] = [
+    of_order(268_435_399, 581_029),
     of_order(268_435_019, 134_217_509),
     of_order(268_331_747, 11_579 * 11_587),
     full(232_792_561),

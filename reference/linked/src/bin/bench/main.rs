@@ -22,7 +22,7 @@ use board::Board;
 use inputs::{Inputs, Size, GROWING, ORDERS, SMALL};
 use std::num::NonZeroUsize;
 
-/// They take less than a minute.
+/// They take about two minutes.
 const ROUNDS: usize = 400;
 
 fn main() {
@@ -30,7 +30,7 @@ fn main() {
     let core = pin::stay();
     let small = SMALL.inputs();
     let growing: [Inputs; 4] = GROWING.each_ref().map(Size::inputs);
-    let with_orders: [Inputs; 3] = ORDERS.each_ref().map(Size::inputs);
+    let with_orders: [Inputs; 4] = ORDERS.each_ref().map(Size::inputs);
     let mut board = Board::new(&small, &growing, &with_orders);
     for _ in 0..rounds {
         board.round();

@@ -22,7 +22,7 @@ pub fn print(board: &Board, large: &Inputs, others: &[Inputs]) {
     for (service, variant) in rows().filter(|(service, variant)| is_told(service, variant)) {
         let cells = all
             .iter()
-            .map(|at| cell(board.pair(service.name, variant, at.p)));
+            .map(|at| cell(board.pair(service.name, variant, at)));
         let cells: Vec<String> = cells.collect();
         println!(
             "| {} | {} | {} |",

@@ -16,7 +16,7 @@ pub fn print(board: &Board, rounds: usize, small: &Inputs, large: &Inputs) {
     );
     println!("|---|---|---:|---:|---:|---:|---:|---:|---:|---:|---|");
     for (service, variant) in rows() {
-        let cells = [small, large].map(|at| cells(board.pair(service.name, variant, at.p)));
+        let cells = [small, large].map(|at| cells(board.pair(service.name, variant, at)));
         println!(
             "| {} | {} | {} | {} | {} |",
             service.name, variant.name, cells[0], cells[1], service.differences
