@@ -116,8 +116,10 @@ drop-zeros (suc n) (suc m) = rw (suc-sub-suc n m) (drop-zeros n m)
 pub finding-ends : {r : ℕ} {row : List ℕ} {count rest last : ℕ} → Finding r row count rest last → rest ≤ 1
     → (count ≡ length (primesOf r)) × (row ≡ primeRow r)
 finding-ends {r} {row} {count} {rest} {last} f done =
-    let wrote : Wrote (replicate maxPrimes 0) 0 (primesOf r) count row = subst (λ (l : List ℕ). Wrote (replicate maxPrimes 0) 0 l count row) all (f .wrote) in
-    (wrote .next-is ∙ zero-add (length (primesOf r)), wrote-front wrote (omega (arith, f .room, wrote .next-is, length-replicate {A = ℕ} maxPrimes 0)) ∙ ap (λ (l : List ℕ). primesOf r ++ l) (drop-zeros maxPrimes (length (primesOf r))))
+    let wrote = subst (λ (l : List ℕ). Wrote (replicate maxPrimes 0) 0 l count row) all (f .wrote) in
+    let count-is : count ≡ length (primesOf r) = wrote .next-is ∙ zero-add (length (primesOf r)) in
+    let fits : length (primesOf r) ≤ length (replicate {A = ℕ} maxPrimes 0) = omega (arith, f .room, length-replicate {A = ℕ} maxPrimes 0) in
+    (count-is, wrote-front wrote fits ∙ ap (λ (l : List ℕ). primesOf r ++ l) (drop-zeros maxPrimes (length (primesOf r))))
   where
     none-above : (e : ℕ) → last < e → e ≤ r → ¬ (Divisor r e)
     none-above e low high is =
