@@ -1,10 +1,10 @@
 // Check: a tape is accepted where it is laid out, its numbers are allowed and, for a named program, its steps are those that build writes.
 ghost use Rattle.std.specs.Prelude.{◌≡◌, true};
-ghost use Rattle.refusal.specs.Outcomes.{numberOutcomeOf, answered};
-ghost use Rattle.tape.specs.Layout.{headerOf, headerOutcome, headerOutcomeOf};
-ghost use Rattle.named.specs.Parameters.{badVariant};
-ghost use Rattle.program.specs.Services.{checkOutcome, acceptOutcome};
-ghost use Rattle.program.specs.Inner.Building.{refusedPast};
+ghost use Rattle.refusal.specs.Outcomes.{number_outcome_of, answered};
+ghost use Rattle.tape.specs.Layout.{header_of, header_outcome, header_outcome_of};
+ghost use Rattle.named.specs.Parameters.{bad_variant};
+ghost use Rattle.program.specs.Services.{check_outcome, accept_outcome};
+ghost use Rattle.program.specs.Inner.Building.{refused_past};
 ghost use Rattle.program.specs.Same.{same_words};
 
 use building::build;
@@ -14,7 +14,7 @@ use tape::{Header, HeaderAnswer, MAX_WORDS};
 
 // Accepts a tape: 6, 7, 4, 1 and, for named programs, 2, 3, 8, else 0.
 pub fn check(tape: &[u32]) -> NumberAnswer
-    ensures { numberOutcomeOf result ≡ checkOutcome tape.now }
+    ensures { number_outcome_of result ≡ check_outcome tape.now }
 {
     match accept(tape) {
         HeaderAnswer::Refused(e) => NumberAnswer::Refused(e),
@@ -24,7 +24,7 @@ pub fn check(tape: &[u32]) -> NumberAnswer
 
 // Check for the services that go on from there: an accepted tape's header.
 pub fn accept(tape: &[u32]) -> HeaderAnswer
-    ensures { headerOutcomeOf result ≡ acceptOutcome tape.now }
+    ensures { header_outcome_of result ≡ accept_outcome tape.now }
 {
     match layout::read_header(tape) {
         HeaderAnswer::Refused(e) => HeaderAnswer::Refused(e),
@@ -35,8 +35,8 @@ pub fn accept(tape: &[u32]) -> HeaderAnswer
 // A tape whose words are those that build writes for its numbers is laid out, so nothing of it is decoded but the header. Only where
 // they differ are the rules gone through in their order.
 fn accept_measured(tape: &[u32], header: Header) -> HeaderAnswer
-    requires { headerOutcome tape.now ≡ answered header }
-    ensures { headerOutcomeOf result ≡ acceptOutcome tape.now }
+    requires { header_outcome tape.now ≡ answered header }
+    ensures { header_outcome_of result ≡ accept_outcome tape.now }
 {
     if is_bad_variant(header.variant) {
         return accept_not_named(tape);
@@ -62,7 +62,7 @@ fn accept_measured(tape: &[u32], header: Header) -> HeaderAnswer
 
 // A refusal that comes after those of the layout.
 fn refuse(tape: &[u32], e: Refusal) -> HeaderAnswer
-    ensures { headerOutcomeOf result ≡ refusedPast tape.now e }
+    ensures { header_outcome_of result ≡ refused_past tape.now e }
 {
     match layout::read(tape) {
         HeaderAnswer::Refused(first) => HeaderAnswer::Refused(first),
@@ -72,8 +72,8 @@ fn refuse(tape: &[u32], e: Refusal) -> HeaderAnswer
 
 // A tape that isn't a named program's: 7, 4, 1.
 fn accept_not_named(tape: &[u32]) -> HeaderAnswer
-    requires { badVariant (headerOf tape.now).variant ≡ true }
-    ensures { headerOutcomeOf result ≡ acceptOutcome tape.now }
+    requires { bad_variant (header_of tape.now).variant ≡ true }
+    ensures { header_outcome_of result ≡ accept_outcome tape.now }
 {
     match layout::read(tape) {
         HeaderAnswer::Refused(e) => HeaderAnswer::Refused(e),

@@ -1,13 +1,13 @@
 // What a call comes to in a script: the verbs that only a script has, those that look at the room, and all others as in the tool.
 ghost use Rattle.std.specs.Prelude.{◌≡◌, cond};
-ghost use Rattle.scripting.specs.Script.{isPlaces, isListing};
-ghost use Rattle.scripting.specs.Inner.Acts.{actBy, actOf, count_of};
+ghost use Rattle.scripting.specs.Script.{is_places, is_listing};
+ghost use Rattle.scripting.specs.Inner.Acts.{act_by, act_of, count_of};
 
 use scripting::Act;
 use tool::{Call, NumberVerb, TapeVerb, Verb};
 
 pub fn act_of(call: Call, roomed: bool) -> Act
-    ensures { result ≡ actOf call roomed }
+    ensures { result ≡ act_of call roomed }
 {
     match call {
         Call::Known { row, count } => {
@@ -22,7 +22,7 @@ pub fn act_of(call: Call, roomed: bool) -> Act
 }
 
 fn act_by(verb: Verb, roomed: bool, own: u32) -> Act
-    ensures { result ≡ actBy verb roomed own }
+    ensures { result ≡ act_by verb roomed own }
 {
     match verb {
         Verb::InScript(v) => Act::Edit(v),
@@ -48,7 +48,7 @@ fn in_room(roomed: bool, act: Act) -> Act
 
 // Of the verbs on numbers only places looks at the room.
 fn on_numbers(verb: NumberVerb, act: Act) -> Act
-    ensures { result ≡ cond (isPlaces verb) act Act.Reply }
+    ensures { result ≡ cond (is_places verb) act Act.Reply }
 {
     match verb {
         NumberVerb::Places => act,
@@ -67,7 +67,7 @@ fn on_numbers(verb: NumberVerb, act: Act) -> Act
 
 // Of the verbs on a tape only list does.
 fn on_tape(verb: TapeVerb, act: Act) -> Act
-    ensures { result ≡ cond (isListing verb) act Act.Reply }
+    ensures { result ≡ cond (is_listing verb) act Act.Reply }
 {
     match verb {
         TapeVerb::Listing => act,

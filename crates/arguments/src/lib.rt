@@ -1,9 +1,9 @@
 // A command line is read: its verb and its parameters; whether it reads a tape or a script, and whether it answers a tape.
 ghost use Rattle.std.specs.Prelude.{◌≡◌, ◌+◌, ◌<◌, get_or};
-ghost use Rattle.text.specs.Reading.{splitWords};
-ghost use Rattle.tool.specs.Verbs.{indexIn, no_row, rowNamed, variantIn, parameterIn};
-ghost use Rattle.tool.specs.Replies.{verbIn, readsTape, readsScript, writesTape};
-ghost use Rattle.tool.specs.Inner.Kinds.{plainCount, tapeCount, numberCount, scriptCount, kindRows};
+ghost use Rattle.text.specs.Reading.{split_words};
+ghost use Rattle.tool.specs.Verbs.{index_in, no_row, row_named, variant_in, parameter_in};
+ghost use Rattle.tool.specs.Replies.{verb_in, reads_tape, reads_script, writes_tape};
+ghost use Rattle.tool.specs.Inner.Kinds.{plain_count, tape_count, number_count, script_count, kind_rows};
 ghost use Rattle.tool.specs.Inner.Understood.{Understood, Bare, Countable, Gathered};
 
 use named::VARIANT_NAMES;
@@ -17,7 +17,7 @@ use verbs::{gives_tape, is_hidden, is_variant, takes_lines, takes_tape};
 
 // What the words ask for, in a script or outside, with its parameters.
 pub fn understand(arguments: &[u8], in_script: bool) -> CommandLine
-    ensures { Understood in_script (splitWords arguments.now) result.call result.values }
+    ensures { Understood in_script (split_words arguments.now) result.call result.values }
 {
     let words = word_count(arguments);
     if words == 0 {
@@ -40,28 +40,28 @@ pub fn understand(arguments: &[u8], in_script: bool) -> CommandLine
 
 // Whether the tool reads a tape from standard input for a command line.
 pub fn reads_tape(arguments: &[u8]) -> bool
-    ensures { result ≡ readsTape (splitWords arguments.now) }
+    ensures { result ≡ reads_tape (split_words arguments.now) }
 {
     takes_tape(verb_in(arguments))
 }
 
 // Whether it reads a script.
 pub fn reads_script(arguments: &[u8]) -> bool
-    ensures { result ≡ readsScript (splitWords arguments.now) }
+    ensures { result ≡ reads_script (split_words arguments.now) }
 {
     takes_lines(verb_in(arguments))
 }
 
 // Whether its reply, where it is answered, is the bytes of a tape.
 pub fn writes_tape(arguments: &[u8]) -> bool
-    ensures { result ≡ writesTape (splitWords arguments.now) }
+    ensures { result ≡ writes_tape (split_words arguments.now) }
 {
     gives_tape(verb_in(arguments))
 }
 
 // The verb of a command line that is understood; else `Unknown`.
 fn verb_in(arguments: &[u8]) -> Verb
-    ensures { result ≡ verbIn (splitWords arguments.now) }
+    ensures { result ≡ verb_in (split_words arguments.now) }
 {
     let line = understand(arguments, false);
     let call = line.call;
@@ -82,8 +82,8 @@ fn without_parameters(call: Call) -> CommandLine
 
 // The numbers of the words after the verb, up to the first that is none.
 fn parameters(arguments: &[u8], row: Row, count: usize) -> CommandLine
-    requires { Countable row (splitWords arguments.now) count }
-    ensures { Gathered row (splitWords arguments.now) result.call result.values }
+    requires { Countable row (split_words arguments.now) count }
+    ensures { Gathered row (split_words arguments.now) result.call result.values }
 {
     let mut values = [0u64; MAX_PARAMETERS];
     let mut i: usize = 0;
@@ -108,7 +108,7 @@ fn parameters(arguments: &[u8], row: Row, count: usize) -> CommandLine
 
 // A parameter: a number, and for build a variant by its name or number.
 fn parameter(row: Row, place: usize, word: &[u8]) -> Parsed
-    ensures { result ≡ parameterIn row place word.now }
+    ensures { result ≡ parameter_in row place word.now }
 {
     let verb = row.verb;
     if is_variant(verb, place) {
@@ -119,7 +119,7 @@ fn parameter(row: Row, place: usize, word: &[u8]) -> Parsed
 
 // A variant by its name or its number.
 fn variant(word: &[u8]) -> Parsed
-    ensures { result ≡ variantIn word.now }
+    ensures { result ≡ variant_in word.now }
 {
     let variant = find(word, &VARIANT_NAMES);
     if variant < word_count(&VARIANT_NAMES) {
@@ -130,7 +130,7 @@ fn variant(word: &[u8]) -> Parsed
 
 // The row of a verb by its name.
 fn row_named(name: &[u8]) -> Row
-    ensures { result ≡ rowNamed name.now }
+    ensures { result ≡ row_named name.now }
 {
     let index = find(name, &NAMES);
     if index < PLAIN_ROWS {
@@ -153,36 +153,36 @@ fn row_named(name: &[u8]) -> Row
 
 // A row by its place among those of its kind: a function for each, because a body that builds the whole table takes the prover twelve seconds.
 fn plain_verb_row(place: usize) -> Row
-    requires { place < plainCount }
-    ensures { result ≡ get_or (kindRows 0 plainCount) place no_row }
+    requires { place < plain_count }
+    ensures { result ≡ get_or (kind_rows 0 plain_count) place no_row }
 {
     PLAIN_TABLE[place]
 }
 
 fn tape_verb_row(place: usize) -> Row
-    requires { place < tapeCount }
-    ensures { result ≡ get_or (kindRows plainCount tapeCount) place no_row }
+    requires { place < tape_count }
+    ensures { result ≡ get_or (kind_rows plain_count tape_count) place no_row }
 {
     TAPE_TABLE[place]
 }
 
 fn number_verb_row(place: usize) -> Row
-    requires { place < numberCount }
-    ensures { result ≡ get_or (kindRows (plainCount + tapeCount) numberCount) place no_row }
+    requires { place < number_count }
+    ensures { result ≡ get_or (kind_rows (plain_count + tape_count) number_count) place no_row }
 {
     NUMBER_TABLE[place]
 }
 
 fn script_verb_row(place: usize) -> Row
-    requires { place < scriptCount }
-    ensures { result ≡ get_or (kindRows (plainCount + tapeCount + numberCount) scriptCount) place no_row }
+    requires { place < script_count }
+    ensures { result ≡ get_or (kind_rows (plain_count + tape_count + number_count) script_count) place no_row }
 {
     SCRIPT_TABLE[place]
 }
 
 // The index of the first name that is the word; past the last where there is none.
 fn find(word: &[u8], names: &[u8]) -> usize
-    ensures { result ≡ indexIn word.now (splitWords names.now) }
+    ensures { result ≡ index_in word.now (split_words names.now) }
 {
     let count = word_count(names);
     let mut i: usize = 0;

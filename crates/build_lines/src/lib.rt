@@ -1,14 +1,14 @@
 // Build in a script, which leaves its tape at hand: it prints the tape's words, or, in a room, the whole buffer that it got, so that what it left
 // of it is seen.
 ghost use Rattle.std.specs.Prelude.{◌≡◌, ◌++◌, length, take, drop};
-ghost use Rattle.refusal.specs.Outcomes.{numberOutcomeOf};
-ghost use Rattle.text.specs.Text.{numberLine, numbersLine};
-ghost use Rattle.tape.specs.Layout.{maxWords};
-ghost use Rattle.tool.specs.Verbs.{largest32, maxRoom};
+ghost use Rattle.refusal.specs.Outcomes.{number_outcome_of};
+ghost use Rattle.text.specs.Text.{number_line, numbers_line};
+ghost use Rattle.tape.specs.Layout.{max_words};
+ghost use Rattle.tool.specs.Verbs.{largest32, max_room};
 ghost use Rattle.tool.specs.Replies.{printed};
-ghost use Rattle.tool.specs.Inner.Held.{heldTo};
-ghost use Rattle.scripting.specs.Script.{withTape, builtAs, buildInto, buildLine, buildIn, buildBy};
-ghost use Rattle.scripting.specs.States.{roomIn, stateIn, Inside, capacityOf, insideOf, countIn, Did};
+ghost use Rattle.tool.specs.Inner.Held.{held_to};
+ghost use Rattle.scripting.specs.Script.{with_tape, built_as, build_into, build_line, build_in, build_by};
+ghost use Rattle.scripting.specs.States.{room_in, state_in, Inside, capacity_of, inside_of, count_in, Did};
 ghost use Rattle.scripting.specs.Inner.Leaving.{ShortRow, WrittenRow};
 
 use lines::{number_line, numbers_line};
@@ -26,8 +26,8 @@ const HELD: u32 = 255;
 // Build on its parameters, of which none counts for more than 32 bits. Of the row of tapes the first `MAX_TAPES` words are used, and the
 // marks are brought into them.
 pub fn build(own: u32, values: &[u64], tapes: &mut [u32], marks: Marks, text: &mut [u8]) -> Printed
-    ensures did { Did (buildBy (capacityOf tapes.old) (roomIn (insideOf marks (capacityOf tapes.old))) own (heldTo largest32 values.now) (stateIn (insideOf marks (capacityOf tapes.old)) tapes.old)) text.old result (take (capacityOf tapes.old) tapes.new) text.new }
-    ensures tapes_unchanged { drop (capacityOf tapes.old) tapes.new ≡ drop (capacityOf tapes.old) tapes.old }
+    ensures did { Did (build_by (capacity_of tapes.old) (room_in (inside_of marks (capacity_of tapes.old))) own (held_to largest32 values.now) (state_in (inside_of marks (capacity_of tapes.old)) tapes.old)) text.old result (take (capacity_of tapes.old) tapes.new) text.new }
+    ensures tapes_unchanged { drop (capacity_of tapes.old) tapes.new ≡ drop (capacity_of tapes.old) tapes.old }
 {
     let capacity = least(tapes.len(), MAX_TAPES);
     build_inside(
@@ -48,7 +48,7 @@ fn build_inside(
     text: &mut [u8],
 ) -> Printed
     requires { Inside marks tapes.old }
-    ensures { Did (buildBy (length tapes.old) (roomIn marks) own (heldTo largest32 values.now) (stateIn marks tapes.old)) text.old result tapes.new text.new }
+    ensures { Did (build_by (length tapes.old) (room_in marks) own (held_to largest32 values.now) (state_in marks tapes.old)) text.old result tapes.new text.new }
 {
     if marks.roomed {
         return build_in(own, values, tapes, marks, text);
@@ -59,7 +59,7 @@ fn build_inside(
 // Build's tape at hand, and its words.
 fn build_line(own: u32, values: &[u64], tapes: &mut [u32], marks: Marks, text: &mut [u8]) -> Printed
     requires { Inside marks tapes.old }
-    ensures { Did (buildLine (length tapes.old) own (heldTo largest32 values.now) (stateIn marks tapes.old)) text.old result tapes.new text.new }
+    ensures { Did (build_line (length tapes.old) own (held_to largest32 values.now) (state_in marks tapes.old)) text.old result tapes.new text.new }
 {
     let mut row = [0u32; MAX_WORDS];
     let p = small(values, 0);
@@ -78,8 +78,8 @@ fn built(
     marks: Marks,
     text: &mut [u8],
 ) -> Printed
-    requires { WrittenRow maxWords marks tapes.old row.now answer }
-    ensures { Did (builtAs (length tapes.old) (stateIn marks tapes.old) (numberOutcomeOf answer) (take (countIn answer) row.now) (printed own (numberOutcomeOf answer) numberLine).text (numbersLine (take (countIn answer) row.now))) text.old result tapes.new text.new }
+    requires { WrittenRow max_words marks tapes.old row.now answer }
+    ensures { Did (built_as (length tapes.old) (state_in marks tapes.old) (number_outcome_of answer) (take (count_in answer) row.now) (printed own (number_outcome_of answer) number_line).text (numbers_line (take (count_in answer) row.now))) text.old result tapes.new text.new }
 {
     match answer {
         NumberAnswer::Answered(n) => {
@@ -95,8 +95,8 @@ fn built(
 
 // Words that are the tape at hand from now on, printed.
 fn leave(words: &[u32], tapes: &mut [u32], marks: Marks, text: &mut [u8]) -> Printed
-    requires { ShortRow maxWords marks tapes.old words.now }
-    ensures { Did (withTape (length tapes.old) (stateIn marks tapes.old) words.now (numbersLine words.now)) text.old result tapes.new text.new }
+    requires { ShortRow max_words marks tapes.old words.now }
+    ensures { Did (with_tape (length tapes.old) (state_in marks tapes.old) words.now (numbers_line words.now)) text.old result tapes.new text.new }
 {
     let begin = marks.begin;
     if tapes.len() - begin < words.len() {
@@ -115,7 +115,7 @@ fn leave(words: &[u32], tapes: &mut [u32], marks: Marks, text: &mut [u8]) -> Pri
 // Build into a buffer: the count of words or the refusal, and the buffer. Its tape is at hand then.
 fn build_in(own: u32, values: &[u64], tapes: &mut [u32], marks: Marks, text: &mut [u8]) -> Printed
     requires { Inside marks tapes.old }
-    ensures { Did (buildIn (length tapes.old) marks.room own (heldTo largest32 values.now) (stateIn marks tapes.old)) text.old result tapes.new text.new }
+    ensures { Did (build_in (length tapes.old) marks.room own (held_to largest32 values.now) (state_in marks tapes.old)) text.old result tapes.new text.new }
 {
     let mut row = [HELD; MAX_ROOM];
     let room = marks.room;
@@ -130,8 +130,8 @@ fn build_into(
     marks: Marks,
     text: &mut [u8],
 ) -> Printed
-    requires { ShortRow maxRoom marks tapes.old row.old }
-    ensures { Did (buildInto (length tapes.old) row.old own (heldTo largest32 values.now) (stateIn marks tapes.old)) text.old result tapes.new text.new }
+    requires { ShortRow max_room marks tapes.old row.old }
+    ensures { Did (build_into (length tapes.old) row.old own (held_to largest32 values.now) (state_in marks tapes.old)) text.old result tapes.new text.new }
 {
     let p = small(values, 0);
     let r = small(values, 1);
@@ -149,8 +149,8 @@ fn show(
     marks: Marks,
     text: &mut [u8],
 ) -> Printed
-    requires { WrittenRow maxRoom marks tapes.old row.now answer }
-    ensures { Did (builtAs (length tapes.old) (stateIn marks tapes.old) (numberOutcomeOf answer) (take (countIn answer) row.now) ((printed own (numberOutcomeOf answer) numberLine).text ++ numbersLine row.now) ((printed own (numberOutcomeOf answer) numberLine).text ++ numbersLine row.now)) text.old result tapes.new text.new }
+    requires { WrittenRow max_room marks tapes.old row.now answer }
+    ensures { Did (built_as (length tapes.old) (state_in marks tapes.old) (number_outcome_of answer) (take (count_in answer) row.now) ((printed own (number_outcome_of answer) number_line).text ++ numbers_line row.now) ((printed own (number_outcome_of answer) number_line).text ++ numbers_line row.now)) text.old result tapes.new text.new }
 {
     match answer {
         NumberAnswer::Answered(n) => {

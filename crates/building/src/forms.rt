@@ -2,10 +2,10 @@
 ghost use Rattle.std.specs.Prelude.{◌≡◌, false, ◌*◌, ◌≤◌, length};
 ghost use Rattle.modular.specs.Residues.{remainder};
 ghost use Rattle.fibonacci.specs.Forms.{pad, zeckendorf};
-ghost use Rattle.fibonacci.specs.Services.{lastPlace};
-ghost use Rattle.named.specs.Generators.{lone, stepsFrom};
-ghost use Rattle.named.specs.Named.{dualForms, hybridForms, modularForms};
-ghost use Rattle.named.specs.Parameters.{badVariant};
+ghost use Rattle.fibonacci.specs.Services.{last_place};
+ghost use Rattle.named.specs.Generators.{lone, steps_from};
+ghost use Rattle.named.specs.Named.{dual_forms, hybrid_forms, modular_forms};
+ghost use Rattle.named.specs.Parameters.{bad_variant};
 ghost use Rattle.program.specs.Inner.Forms.{Invertible, BitsOf, rows_of, Few, RowsFromTable};
 
 use fibonacci::BitString;
@@ -19,7 +19,7 @@ use zeckendorf::bit_string;
 // The forms of a named program, from r, k and the inverse of k.
 pub(crate) fn forms(variant: u32, r: u32, k: u32, inverse: u32) -> FormRows
     requires invertible { Invertible r k inverse }
-    requires variant_value { badVariant variant ≡ false }
+    requires variant_value { bad_variant variant ≡ false }
     ensures { RowsFromTable variant r k result }
 {
     match variant {
@@ -34,7 +34,7 @@ pub(crate) fn forms(variant: u32, r: u32, k: u32, inverse: u32) -> FormRows
 // for each that is set, and the swaps. Figure 2 goes along its chains twice.
 pub(crate) fn step_count(figure: Figure, first: usize, last: usize, count: usize) -> usize
     requires { Few first last count }
-    ensures { result ≡ stepsFrom figure first last count }
+    ensures { result ≡ steps_from figure first last count }
 {
     let chains = 2 * (first + last);
     let loops = chains + count;
@@ -69,7 +69,7 @@ fn basic_forms(k: u32, inverse: u32) -> FormRows
 // Variant 2: four forms padded to h.
 fn dual_forms(r: u32, k: u32, inverse: u32) -> FormRows
     requires { Invertible r k inverse }
-    ensures { result ≡ rows_of (dualForms r k) }
+    ensures { result ≡ rows_of (dual_forms r k) }
 {
     let h = golden::height(r);
     let low = fibonacci_or_zero(h) as u32;
@@ -106,7 +106,7 @@ fn residue(x: u32, weight: u32, r: u32) -> BitString
 // Variant 3: v = k × F_(ℓ'+1), not reduced; ℓ' is h or h + 1, whichever is odd.
 fn hybrid_forms(r: u32, k: u32, inverse: u32) -> FormRows
     requires { Invertible r k inverse }
-    ensures { result ≡ rows_of (hybridForms r k) }
+    ensures { result ≡ rows_of (hybrid_forms r k) }
 {
     let h = golden::height(r);
     let l = h + 1 - h % 2;
@@ -116,7 +116,7 @@ fn hybrid_forms(r: u32, k: u32, inverse: u32) -> FormRows
 // Variant 4: a v with G(v) = k × F_h and v = k × F_(h+1) modulo r; ℓ' is h.
 fn modular_forms(r: u32, k: u32, inverse: u32) -> FormRows
     requires { Invertible r k inverse }
-    ensures { result ≡ rows_of (modularForms r k) }
+    ensures { result ≡ rows_of (modular_forms r k) }
 {
     let h = golden::height(r);
     let s = product(k, fibonacci_or_zero(h) as u32, r);
@@ -127,7 +127,7 @@ fn modular_forms(r: u32, k: u32, inverse: u32) -> FormRows
 // Those of figure 6: the form of v, and the form of K padded to ℓ'.
 fn six_forms(v: u64, inverse: u32, l: u32) -> FormRows
     requires inverse_len_bound { length (zeckendorf inverse) ≤ l }
-    requires l_le_last_place { l ≤ lastPlace }
+    requires l_le_last_place { l ≤ last_place }
     ensures { result ≡ rows_of (lone Figure.Six (zeckendorf v) (pad l (zeckendorf inverse))) }
 {
     let vs = bit_string(v);

@@ -5,10 +5,10 @@ mod words;
 mod writer;
 
 ghost use Rattle.std.specs.Prelude.{◌≡◌, ◌≤◌, length};
-ghost use Rattle.refusal.specs.Outcomes.{numberOutcomeOf};
-ghost use Rattle.named.specs.Named.{namedWords};
+ghost use Rattle.refusal.specs.Outcomes.{number_outcome_of};
+ghost use Rattle.named.specs.Named.{named_words};
 ghost use Rattle.named.specs.Parameters.{bad_order};
-ghost use Rattle.program.specs.Services.{buildOutcome, buildBuffer};
+ghost use Rattle.program.specs.Services.{build_outcome, build_buffer};
 ghost use Rattle.program.specs.Inner.Forms.{RowsFromTable};
 ghost use Rattle.program.specs.Inner.Building.{Writable, Built};
 
@@ -21,8 +21,8 @@ use tape::Header;
 
 // Writes the named program for p, r, k and the variant into the buffer: 1, 2, 3, 4, 5, else the word count.
 pub fn build(p: u32, r: u32, k: u32, variant: u32, buffer: &mut [u32]) -> NumberAnswer
-    ensures result_value { numberOutcomeOf result ≡ buildOutcome p r k variant (length buffer.old) }
-    ensures buffer_after { buffer.new ≡ buildBuffer p r k variant buffer.old }
+    ensures result_value { number_outcome_of result ≡ build_outcome p r k variant (length buffer.old) }
+    ensures buffer_after { buffer.new ≡ build_buffer p r k variant buffer.old }
 {
     if is_bad_modulus(p) {
         return NumberAnswer::Refused(Refusal::Modulus);
@@ -44,7 +44,7 @@ pub fn build(p: u32, r: u32, k: u32, variant: u32, buffer: &mut [u32]) -> Number
 fn write(p: u32, r: u32, k: u32, variant: u32, forms: FormRows, buffer: &mut [u32]) -> NumberAnswer
     requires writable { Writable p r k variant }
     requires rows_from_table { RowsFromTable variant r k forms }
-    ensures { Built (namedWords p r k variant) buffer.old result buffer.new }
+    ensures { Built (named_words p r k variant) buffer.old result buffer.new }
 {
     let figure = forms.figure;
     let steps = step_count(figure, forms.first_length, forms.last_length, forms.count);

@@ -1,4 +1,4 @@
-// The words of the steps that the programs are made of (`stepWord`).
+// The words of the steps that the programs are made of (`step_word`).
 pub(crate) const MUL_0_1: u32 = 0x5000_0004;
 
 pub(crate) const MUL_1_2: u32 = 0x5000_0009;

@@ -2,7 +2,7 @@
 // past what it wrote.
 ghost use Rattle.std.specs.Prelude.{◌≡◌, ◌+◌, ◌≤◌, ◌<◌, [], ◌∷◌, length};
 ghost use Rattle.refusal.specs.Rows.{Wrote};
-ghost use Rattle.program.specs.Inner.Writing.{chosen, upWords, backWords, downWords, ascendWords, ascendBackWords, descendWords};
+ghost use Rattle.program.specs.Inner.Writing.{chosen, up_words, back_words, down_words, ascend_words, ascend_back_words, descend_words};
 
 use crate::words::{
     DIV_0_1, DIV_2_1, DIV_3_1, MUL_0_1, MUL_1_2, MUL_2_0, MUL_2_1, MUL_3_1, SWP_0_1, SWP_1_2,
@@ -30,8 +30,8 @@ fn put_if(buffer: &mut [u32], at: usize, bit: u8, word: u32) -> usize
 
 // A place going up: a chain step, then the selected multiplications.
 fn place_up(buffer: &mut [u32], at: usize, first: u8, second: u8) -> usize
-    requires { at + length (upWords first second) ≤ length buffer.old }
-    ensures { Wrote buffer.old at (upWords first second) result buffer.new }
+    requires { at + length (up_words first second) ≤ length buffer.old }
+    ensures { Wrote buffer.old at (up_words first second) result buffer.new }
 {
     let b = put(buffer, at, MUL_0_1);
     let c = put(buffer, b, SWP_0_1);
@@ -41,8 +41,8 @@ fn place_up(buffer: &mut [u32], at: usize, first: u8, second: u8) -> usize
 
 // The same place taken back.
 fn place_back(buffer: &mut [u32], at: usize, first: u8, second: u8) -> usize
-    requires { at + length (backWords first second) ≤ length buffer.old }
-    ensures { Wrote buffer.old at (backWords first second) result buffer.new }
+    requires { at + length (back_words first second) ≤ length buffer.old }
+    ensures { Wrote buffer.old at (back_words first second) result buffer.new }
 {
     let b = put_if(buffer, at, second, DIV_3_1);
     let c = put_if(buffer, b, first, DIV_2_1);
@@ -52,8 +52,8 @@ fn place_back(buffer: &mut [u32], at: usize, first: u8, second: u8) -> usize
 
 // A place of the first loop of the hybrid program.
 fn place_down(buffer: &mut [u32], at: usize, bit: u8) -> usize
-    requires { at + length (downWords bit) ≤ length buffer.old }
-    ensures { Wrote buffer.old at (downWords bit) result buffer.new }
+    requires { at + length (down_words bit) ≤ length buffer.old }
+    ensures { Wrote buffer.old at (down_words bit) result buffer.new }
 {
     let b = put_if(buffer, at, bit, MUL_2_0);
     let c = put(buffer, b, MUL_1_2);
@@ -63,8 +63,8 @@ fn place_down(buffer: &mut [u32], at: usize, bit: u8) -> usize
 // Two forms going up, of as many bits each.
 pub(crate) fn ascend(buffer: &mut [u32], at: usize, firsts: &[u8], seconds: &[u8]) -> usize
     requires firsts_len { length firsts.now ≡ length seconds.now }
-    requires seconds_in_bounds { at + length (ascendWords firsts.now seconds.now) ≤ length buffer.old }
-    ensures { Wrote buffer.old at (ascendWords firsts.now seconds.now) result buffer.new }
+    requires seconds_in_bounds { at + length (ascend_words firsts.now seconds.now) ≤ length buffer.old }
+    ensures { Wrote buffer.old at (ascend_words firsts.now seconds.now) result buffer.new }
 {
     let mut next = at;
     let mut i: usize = 0;
@@ -78,8 +78,8 @@ pub(crate) fn ascend(buffer: &mut [u32], at: usize, firsts: &[u8], seconds: &[u8
 // Two forms taken back, highest place first.
 pub(crate) fn ascend_back(buffer: &mut [u32], at: usize, firsts: &[u8], seconds: &[u8]) -> usize
     requires firsts_len { length firsts.now ≡ length seconds.now }
-    requires seconds_in_bounds { at + length (ascendBackWords firsts.now seconds.now) ≤ length buffer.old }
-    ensures { Wrote buffer.old at (ascendBackWords firsts.now seconds.now) result buffer.new }
+    requires seconds_in_bounds { at + length (ascend_back_words firsts.now seconds.now) ≤ length buffer.old }
+    ensures { Wrote buffer.old at (ascend_back_words firsts.now seconds.now) result buffer.new }
 {
     let mut next = at;
     let mut i = firsts.len();
@@ -92,8 +92,8 @@ pub(crate) fn ascend_back(buffer: &mut [u32], at: usize, firsts: &[u8], seconds:
 
 // A form coming down, highest place first.
 pub(crate) fn descend(buffer: &mut [u32], at: usize, bits: &[u8]) -> usize
-    requires { at + length (descendWords bits.now) ≤ length buffer.old }
-    ensures { Wrote buffer.old at (descendWords bits.now) result buffer.new }
+    requires { at + length (descend_words bits.now) ≤ length buffer.old }
+    ensures { Wrote buffer.old at (descend_words bits.now) result buffer.new }
 {
     let mut next = at;
     let mut i = bits.len();

@@ -3,25 +3,25 @@
 // number, 0 on success, and writes through its references only then; `fibexp_listing` writes the line of a refused tape too.
 // `fibexp_reply` and `fibexp_reads` are the tool.
 ghost use Rattle.std.specs.Prelude.{◌≡◌, ℕ, ◌≤◌, ◌^◌, ◌<◌, length, take, drop};
-ghost use Rattle.refusal.specs.Outcomes.{answered, numberOutcomeOf, refusalNumber, after};
-ghost use Rattle.modular.specs.Inverses.{inverseOutcome};
+ghost use Rattle.refusal.specs.Outcomes.{answered, number_outcome_of, refusal_number, after};
+ghost use Rattle.modular.specs.Inverses.{inverse_outcome};
 ghost use Rattle.fibonacci.specs.Hofstadter.{G};
 ghost use Rattle.fibonacci.specs.Height.{height};
-ghost use Rattle.fibonacci.specs.Services.{fibonacciOutcome, placesOutcome, placesBuffer, numberOutcome, bit};
-ghost use Rattle.fibonacci.specs.Solutions.{Solves, isSolution, solutionOutcome};
-ghost use Rattle.tables.specs.Tables.{listOutcome};
-ghost use Rattle.program.specs.Services.{roomOutcome, buildOutcome, buildBuffer, checkOutcome};
-ghost use Rattle.sequencer.specs.Records.{rowOutcome, recordIn};
-ghost use Rattle.sequencer.specs.Services.{loadOutcome, runOutcome, traceOutcome, cutOutcome, cutPart, cutStart, cutCount};
-ghost use Rattle.sequencer.specs.Bases.{raiseOutcome, raisedBases};
-ghost use Rattle.sequencer.specs.Sessions.{stepOutcome, isBackward};
-ghost use Rattle.sequencer.specs.Previews.{previewOutcome, registersOutcome, countsOutcome};
-ghost use Rattle.sequencer.specs.Tables.{tableOutcome};
-ghost use Rattle.listing.specs.Listing.{listingOf, listingAnswer, listingBuffer};
-ghost use Rattle.text.specs.Reading.{splitWords};
+ghost use Rattle.fibonacci.specs.Services.{fibonacci_outcome, places_outcome, places_buffer, number_outcome, bit};
+ghost use Rattle.fibonacci.specs.Solutions.{Solves, is_solution, solution_outcome};
+ghost use Rattle.tables.specs.Tables.{list_outcome};
+ghost use Rattle.program.specs.Services.{room_outcome, build_outcome, build_buffer, check_outcome};
+ghost use Rattle.sequencer.specs.Records.{row_outcome, record_in};
+ghost use Rattle.sequencer.specs.Services.{load_outcome, run_outcome, trace_outcome, cut_outcome, cut_part, cut_start, cut_count};
+ghost use Rattle.sequencer.specs.Bases.{raise_outcome, raised_bases};
+ghost use Rattle.sequencer.specs.Sessions.{step_outcome, is_backward};
+ghost use Rattle.sequencer.specs.Previews.{preview_outcome, registers_outcome, counts_outcome};
+ghost use Rattle.sequencer.specs.Tables.{table_outcome};
+ghost use Rattle.listing.specs.Listing.{listing_of, listing_answer, listing_buffer};
+ghost use Rattle.text.specs.Reading.{split_words};
 ghost use Rattle.text.specs.Rows.{Put};
-ghost use Rattle.tool.specs.Replies.{reply, readsTape};
-ghost use Rattle.tool.specs.Rows.{maxText};
+ghost use Rattle.tool.specs.Replies.{reply, reads_tape};
+ghost use Rattle.tool.specs.Rows.{max_text};
 
 use memory::{
     bit, number_of, record_in, store_exponents, store_preview, store_record, store_table, store_u64,
@@ -31,8 +31,8 @@ use refusal::NumberAnswer;
 // A Fibonacci number by its index: 13.
 #[unsafe(no_mangle)]
 pub extern "C" fn fibexp_fibonacci(index: u32, value: &mut u64) -> u32
-    ensures value { result ≡ refusalNumber (fibonacciOutcome index) }
-    ensures value_after { value.new ≡ after (fibonacciOutcome index) value.old }
+    ensures value { result ≡ refusal_number (fibonacci_outcome index) }
+    ensures value_after { value.new ≡ after (fibonacci_outcome index) value.old }
 {
     store_u64(golden::fibonacci(index), value)
 }
@@ -40,9 +40,9 @@ pub extern "C" fn fibexp_fibonacci(index: u32, value: &mut u64) -> u32
 // Number to list: 5.
 #[unsafe(no_mangle)]
 pub extern "C" fn fibexp_places(n: u64, places: &mut [u8], count: &mut u32) -> u32
-    ensures value { result ≡ refusalNumber (placesOutcome n (length places.old)) }
-    ensures places_after { places.new ≡ placesBuffer n places.old }
-    ensures count_after { count.new ≡ after (placesOutcome n (length places.old)) count.old }
+    ensures value { result ≡ refusal_number (places_outcome n (length places.old)) }
+    ensures places_after { places.new ≡ places_buffer n places.old }
+    ensures count_after { count.new ≡ after (places_outcome n (length places.old)) count.old }
 {
     store_u32(places::places(n, places), count)
 }
@@ -50,8 +50,8 @@ pub extern "C" fn fibexp_places(n: u64, places: &mut [u8], count: &mut u32) -> u
 // List to number: 13, 12.
 #[unsafe(no_mangle)]
 pub extern "C" fn fibexp_number(places: &[u8], n: &mut u64) -> u32
-    ensures value { result ≡ refusalNumber (numberOutcome places.now) }
-    ensures n_after { n.new ≡ after (numberOutcome places.now) n.old }
+    ensures value { result ≡ refusal_number (number_outcome places.now) }
+    ensures n_after { n.new ≡ after (number_outcome places.now) n.old }
 {
     store_u64(places::number_of_places(places), n)
 }
@@ -75,8 +75,8 @@ pub extern "C" fn fibexp_height(r: u32) -> u32
 // The open service, a solution of the modular Hofstadter G problem: 2, 15. Which one it is stays open; on success it is one.
 #[unsafe(no_mangle)]
 pub extern "C" fn fibexp_solution(r: u32, s: u32, t: u32, v: &mut u64) -> u32
-    ensures value { result ≡ refusalNumber (solutionOutcome r s t) }
-    ensures v_after { v.new ≡ after (solutionOutcome r s t) v.old }
+    ensures value { result ≡ refusal_number (solution_outcome r s t) }
+    ensures v_after { v.new ≡ after (solution_outcome r s t) v.old }
     ensures solves { result ≡ 0 → Solves r s t v.new }
 {
     store_u64(solving::solution(r, s, t), v)
@@ -85,7 +85,7 @@ pub extern "C" fn fibexp_solution(r: u32, s: u32, t: u32, v: &mut u64) -> u32
 // The small test, for whoever proposes v: 1 where v is a solution, else 0.
 #[unsafe(no_mangle)]
 pub extern "C" fn fibexp_is_solution(r: u32, s: u32, t: u32, v: u64) -> u32
-    ensures { result ≡ bit (isSolution r s t v) }
+    ensures { result ≡ bit (is_solution r s t v) }
 {
     bit(solving::is_solution(r, s, t, v))
 }
@@ -93,8 +93,8 @@ pub extern "C" fn fibexp_is_solution(r: u32, s: u32, t: u32, v: u64) -> u32
 // The inverse of k modulo r: 2, 3.
 #[unsafe(no_mangle)]
 pub extern "C" fn fibexp_inverse(k: u32, r: u32, inverse: &mut u32) -> u32
-    ensures value { result ≡ refusalNumber (inverseOutcome k r) }
-    ensures inverse_after { inverse.new ≡ after (inverseOutcome k r) inverse.old }
+    ensures value { result ≡ refusal_number (inverse_outcome k r) }
+    ensures inverse_after { inverse.new ≡ after (inverse_outcome k r) inverse.old }
 {
     store_u32(modular::inverse(k, r), inverse)
 }
@@ -109,9 +109,9 @@ pub extern "C" fn fibexp_build(
     words: &mut [u32],
     count: &mut u32,
 ) -> u32
-    ensures value { result ≡ refusalNumber (buildOutcome p r k variant (length words.old)) }
-    ensures words_after { words.new ≡ buildBuffer p r k variant words.old }
-    ensures count_after { count.new ≡ after (buildOutcome p r k variant (length words.old)) count.old }
+    ensures value { result ≡ refusal_number (build_outcome p r k variant (length words.old)) }
+    ensures words_after { words.new ≡ build_buffer p r k variant words.old }
+    ensures count_after { count.new ≡ after (build_outcome p r k variant (length words.old)) count.old }
 {
     store_u32(building::build(p, r, k, variant, words), count)
 }
@@ -119,7 +119,7 @@ pub extern "C" fn fibexp_build(
 // Check: 6, 7, 4, 1 and, for named programs, 2, 3, 8.
 #[unsafe(no_mangle)]
 pub extern "C" fn fibexp_check(tape: &[u32]) -> u32
-    ensures { result ≡ refusalNumber (checkOutcome tape.now) }
+    ensures { result ≡ refusal_number (check_outcome tape.now) }
 {
     number_of(accepting::check(tape))
 }
@@ -127,8 +127,8 @@ pub extern "C" fn fibexp_check(tape: &[u32]) -> u32
 // Load, a record of the four registers and the position: check's refusals, 9, 11.
 #[unsafe(no_mangle)]
 pub extern "C" fn fibexp_load(tape: &[u32], base: u32, row: &mut [u32; 5]) -> u32
-    ensures value { result ≡ refusalNumber (loadOutcome tape.now base) }
-    ensures row_after { row.new ≡ after (rowOutcome (loadOutcome tape.now base)) row.old }
+    ensures value { result ≡ refusal_number (load_outcome tape.now base) }
+    ensures row_after { row.new ≡ after (row_outcome (load_outcome tape.now base)) row.old }
 {
     store_record(running::load(tape, base), row)
 }
@@ -136,8 +136,8 @@ pub extern "C" fn fibexp_load(tape: &[u32], base: u32, row: &mut [u32; 5]) -> u3
 // Run, in place: check's refusals, 9, 10.
 #[unsafe(no_mangle)]
 pub extern "C" fn fibexp_run(tape: &[u32], row: &mut [u32; 5], to: u32) -> u32
-    ensures value { result ≡ refusalNumber (runOutcome tape.now (recordIn row.old) to) }
-    ensures row_after { row.new ≡ after (rowOutcome (runOutcome tape.now (recordIn row.old) to)) row.old }
+    ensures value { result ≡ refusal_number (run_outcome tape.now (record_in row.old) to) }
+    ensures row_after { row.new ≡ after (row_outcome (run_outcome tape.now (record_in row.old) to)) row.old }
 {
     let held = record_in(*row);
     store_record(running::run(tape, held, to), row)
@@ -146,8 +146,8 @@ pub extern "C" fn fibexp_run(tape: &[u32], row: &mut [u32; 5], to: u32) -> u32
 // A single step, in place, forward where `backward` is 0: check's refusals, 9, 10.
 #[unsafe(no_mangle)]
 pub extern "C" fn fibexp_step(tape: &[u32], row: &mut [u32; 5], backward: u32) -> u32
-    ensures value { result ≡ refusalNumber (stepOutcome tape.now (recordIn row.old) (isBackward backward)) }
-    ensures row_after { row.new ≡ after (rowOutcome (stepOutcome tape.now (recordIn row.old) (isBackward backward))) row.old }
+    ensures value { result ≡ refusal_number (step_outcome tape.now (record_in row.old) (is_backward backward)) }
+    ensures row_after { row.new ≡ after (row_outcome (step_outcome tape.now (record_in row.old) (is_backward backward))) row.old }
 {
     let held = record_in(*row);
     store_record(running::step(tape, held, backward != 0), row)
@@ -162,9 +162,9 @@ pub extern "C" fn fibexp_preview(
     registers: &mut [u32; 4],
     counts: &mut [u32; 3],
 ) -> u32
-    ensures value { result ≡ refusalNumber (previewOutcome tape.now (recordIn row.now) to) }
-    ensures registers_after { registers.new ≡ after (registersOutcome (previewOutcome tape.now (recordIn row.now) to)) registers.old }
-    ensures counts_after { counts.new ≡ after (countsOutcome (previewOutcome tape.now (recordIn row.now) to)) counts.old }
+    ensures value { result ≡ refusal_number (preview_outcome tape.now (record_in row.now) to) }
+    ensures registers_after { registers.new ≡ after (registers_outcome (preview_outcome tape.now (record_in row.now) to)) registers.old }
+    ensures counts_after { counts.new ≡ after (counts_outcome (preview_outcome tape.now (record_in row.now) to)) counts.old }
 {
     let held = record_in(*row);
     store_preview(previewing::preview(tape, held, to), registers, counts)
@@ -173,8 +173,8 @@ pub extern "C" fn fibexp_preview(
 // Many bases in one pass, in place: check's refusals, 4, 14, then 9 and 11 of each base.
 #[unsafe(no_mangle)]
 pub extern "C" fn fibexp_raise(tape: &[u32], bases: &mut [u32]) -> u32
-    ensures value { result ≡ refusalNumber (raiseOutcome tape.now bases.old) }
-    ensures bases_after { bases.new ≡ raisedBases tape.now bases.old }
+    ensures value { result ≡ refusal_number (raise_outcome tape.now bases.old) }
+    ensures bases_after { bases.new ≡ raised_bases tape.now bases.old }
 {
     number_of(raising::raise(tape, bases))
 }
@@ -182,8 +182,8 @@ pub extern "C" fn fibexp_raise(tape: &[u32], bases: &mut [u32]) -> u32
 // Trace: check's refusals, 10, 12.
 #[unsafe(no_mangle)]
 pub extern "C" fn fibexp_trace(tape: &[u32], position: u32, exponents: &mut [i64; 4]) -> u32
-    ensures value { result ≡ refusalNumber (traceOutcome tape.now position) }
-    ensures exponents_after { exponents.new ≡ after (traceOutcome tape.now position) exponents.old }
+    ensures value { result ≡ refusal_number (trace_outcome tape.now position) }
+    ensures exponents_after { exponents.new ≡ after (trace_outcome tape.now position) exponents.old }
 {
     store_exponents(inspecting::trace(tape, position), exponents)
 }
@@ -191,8 +191,8 @@ pub extern "C" fn fibexp_trace(tape: &[u32], position: u32, exponents: &mut [i64
 // The table at a position, row by row: check's refusals, 10, 12.
 #[unsafe(no_mangle)]
 pub extern "C" fn fibexp_table(tape: &[u32], position: u32, table: &mut [i64; 16]) -> u32
-    ensures value { result ≡ refusalNumber (tableOutcome tape.now position) }
-    ensures table_after { table.new ≡ after (listOutcome (tableOutcome tape.now position)) table.old }
+    ensures value { result ≡ refusal_number (table_outcome tape.now position) }
+    ensures table_after { table.new ≡ after (list_outcome (table_outcome tape.now position)) table.old }
 {
     store_table(inspecting::table(tape, position), table)
 }
@@ -206,10 +206,10 @@ pub extern "C" fn fibexp_cut(
     start: &mut u32,
     count: &mut u32,
 ) -> u32
-    ensures value { result ≡ refusalNumber (cutOutcome tape.now first last) }
-    ensures start_after { start.new ≡ after (cutStart tape.now first last) start.old }
-    ensures count_after { count.new ≡ after (cutCount tape.now first last) count.old }
-    ensures tape_after { result ≡ 0 → take count.new (drop start.new tape.now) ≡ cutPart (cutOutcome tape.now first last) }
+    ensures value { result ≡ refusal_number (cut_outcome tape.now first last) }
+    ensures start_after { start.new ≡ after (cut_start tape.now first last) start.old }
+    ensures count_after { count.new ≡ after (cut_count tape.now first last) count.old }
+    ensures tape_after { result ≡ 0 → take count.new (drop start.new tape.now) ≡ cut_part (cut_outcome tape.now first last) }
 {
     let mut number: u32 = 0;
     let part = inspecting::cut(tape, first, last, &mut number);
@@ -225,9 +225,9 @@ pub extern "C" fn fibexp_cut(
 // is 6 or one of check's where its line is that of a refusal.
 #[unsafe(no_mangle)]
 pub extern "C" fn fibexp_listing(bytes: &[u8], lines: &mut [u8], written: &mut u32) -> u32
-    ensures value { result ≡ (listingAnswer bytes.now (length lines.old)).number }
-    ensures lines_after { lines.new ≡ listingBuffer bytes.now lines.old }
-    ensures written_after { written.new ≡ after (roomOutcome (listingOf bytes.now) (length lines.old)) written.old }
+    ensures value { result ≡ (listing_answer bytes.now (length lines.old)).number }
+    ensures lines_after { lines.new ≡ listing_buffer bytes.now lines.old }
+    ensures written_after { written.new ≡ after (room_outcome (listing_of bytes.now) (length lines.old)) written.old }
 {
     let listed = lister::listing(bytes, lines);
     // no listing is empty
@@ -248,9 +248,9 @@ pub extern "C" fn fibexp_reply(
     text: &mut [u8],
     written: &mut usize,
 ) -> u32
-    ensures value { result ≡ (reply (splitWords arguments.now) input.now).status }
-    ensures put { Put text.old 0 (reply (splitWords arguments.now) input.now).text written.new text.new }
-    ensures input_len_bound { length (reply (splitWords arguments.now) input.now).text ≤ maxText }
+    ensures value { result ≡ (reply (split_words arguments.now) input.now).status }
+    ensures put { Put text.old 0 (reply (split_words arguments.now) input.now).text written.new text.new }
+    ensures input_len_bound { length (reply (split_words arguments.now) input.now).text ≤ max_text }
 {
     let told = command::reply(arguments, input, text);
     *written = told.length;
@@ -260,16 +260,16 @@ pub extern "C" fn fibexp_reply(
 // 1 where the tool reads a tape from standard input for a command line, else 0.
 #[unsafe(no_mangle)]
 pub extern "C" fn fibexp_reads(arguments: &[u8]) -> u32
-    ensures { result ≡ bit (readsTape (splitWords arguments.now)) }
+    ensures { result ≡ bit (reads_tape (split_words arguments.now)) }
 {
     bit(arguments::reads_tape(arguments))
 }
 
 // Stores an answer that fits 32 bits.
 fn store_u32(answer: NumberAnswer, place: &mut u32) -> u32
-    requires { (x : ℕ) → numberOutcomeOf answer ≡ answered x → x < 2 ^ 32 }
-    ensures value { result ≡ refusalNumber (numberOutcomeOf answer) }
-    ensures place_after { place.new ≡ after (numberOutcomeOf answer) place.old }
+    requires { (x : ℕ) → number_outcome_of answer ≡ answered x → x < 2 ^ 32 }
+    ensures value { result ≡ refusal_number (number_outcome_of answer) }
+    ensures place_after { place.new ≡ after (number_outcome_of answer) place.old }
 {
     match answer {
         NumberAnswer::Answered(x) => {

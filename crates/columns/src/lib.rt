@@ -1,10 +1,10 @@
 // What the steps of some words make of the start values' exponents: of one start value, a column; of all four, the table.
 ghost use Rattle.std.specs.Prelude.{◌≡◌, true, [], ◌∷◌};
-ghost use Rattle.tape.specs.Inner.Operations.{rawSteps};
+ghost use Rattle.tape.specs.Inner.Operations.{raw_steps};
 ghost use Rattle.matrices.specs.Matrices.{transposed};
-ghost use Rattle.machine.specs.Exponents.{exponentsOf, exponentsOutcomeOf, allInRange, staysInRange, shiftAll};
-ghost use Rattle.tables.specs.Tables.{unit, matrixOf, tableOutcomeOf};
-ghost use Rattle.tables.specs.Inner.Columns.{columnOutcome, columnsOutcome};
+ghost use Rattle.machine.specs.Exponents.{exponents_of, exponents_outcome_of, all_in_range, stays_in_range, shift_all};
+ghost use Rattle.tables.specs.Tables.{unit, matrix_of, table_outcome_of};
+ghost use Rattle.tables.specs.Inner.Columns.{column_outcome, columns_outcome};
 
 use decoding::operation_of;
 use exponent_steps::{exponents_of, shift};
@@ -14,7 +14,7 @@ use tables::{Table, TableAnswer};
 
 // Start value j's exponents after the steps that some words have in their digits; 12 where one leaves the range at any position.
 pub fn column(words: &[u32], j: u32) -> ExponentsAnswer
-    ensures { exponentsOutcomeOf result ≡ columnOutcome (rawSteps words.now) j }
+    ensures { exponents_outcome_of result ≡ column_outcome (raw_steps words.now) j }
 {
     let mut exponents = start_of(j);
     if !shift_all(words, &mut exponents) {
@@ -25,7 +25,7 @@ pub fn column(words: &[u32], j: u32) -> ExponentsAnswer
 
 // Those of all four start values, a row for each register; 12 where any leaves the range at any position.
 pub fn table(words: &[u32]) -> TableAnswer
-    ensures { tableOutcomeOf result ≡ columnsOutcome (rawSteps words.now) }
+    ensures { table_outcome_of result ≡ columns_outcome (raw_steps words.now) }
 {
     let ExponentsAnswer::Answered(first) = column(words, 0) else {
         return TableAnswer::Refused(Refusal::Range);
@@ -58,9 +58,9 @@ fn start_of(j: u32) -> [i64; 4]
 // The steps that some words have in their digits, on whole exponents: whether all stay in the range at every position. Where they do,
 // the row holds what the steps lead to.
 fn shift_all(words: &[u32], exponents: &mut [i64]) -> bool
-    requires { allInRange exponents.old ≡ true }
-    ensures value { result ≡ staysInRange (rawSteps words.now) exponents.old }
-    ensures exponents_after { result ≡ true → exponents.new ≡ shiftAll (rawSteps words.now) exponents.old }
+    requires { all_in_range exponents.old ≡ true }
+    ensures value { result ≡ stays_in_range (raw_steps words.now) exponents.old }
+    ensures exponents_after { result ≡ true → exponents.new ≡ shift_all (raw_steps words.now) exponents.old }
 {
     let mut i: usize = 0;
     while i < words.len() {
@@ -74,7 +74,7 @@ fn shift_all(words: &[u32], exponents: &mut [i64]) -> bool
 
 // Four columns' rows.
 fn rows(first: Exponents, second: Exponents, third: Exponents, fourth: Exponents) -> Table
-    ensures { matrixOf result ≡ transposed 4 (exponentsOf first ∷ exponentsOf second ∷ exponentsOf third ∷ exponentsOf fourth ∷ []) }
+    ensures { matrix_of result ≡ transposed 4 (exponents_of first ∷ exponents_of second ∷ exponents_of third ∷ exponents_of fourth ∷ []) }
 {
     Table {
         c: row(first.c, second.c, third.c, fourth.c),
@@ -85,7 +85,7 @@ fn rows(first: Exponents, second: Exponents, third: Exponents, fourth: Exponents
 }
 
 fn row(first: i64, second: i64, third: i64, fourth: i64) -> Exponents
-    ensures { exponentsOf result ≡ first ∷ second ∷ third ∷ fourth ∷ [] }
+    ensures { exponents_of result ≡ first ∷ second ∷ third ∷ fourth ∷ [] }
 {
     Exponents {
         c: first,

@@ -1,12 +1,12 @@
 // The command-line tool: its reply to a command line.
 ghost use Rattle.std.specs.Prelude.{◌≡◌, take};
-ghost use Rattle.text.specs.Reading.{splitWords};
-ghost use Rattle.tool.specs.Verbs.{largest32, maxParameters, limitOf};
-ghost use Rattle.tool.specs.Calls.{askedBy};
-ghost use Rattle.tool.specs.Replies.{tapeReply, means, ownIn, replyTo, reply, answers};
-ghost use Rattle.tool.specs.Texts.{usage, versionLine};
+ghost use Rattle.text.specs.Reading.{split_words};
+ghost use Rattle.tool.specs.Verbs.{largest32, max_parameters, limit_of};
+ghost use Rattle.tool.specs.Calls.{asked_by};
+ghost use Rattle.tool.specs.Replies.{tape_reply, means, own_in, reply_to, reply, answers};
+ghost use Rattle.tool.specs.Texts.{usage, version_line};
 ghost use Rattle.tool.specs.Rows.{Told};
-ghost use Rattle.tool.specs.Inner.Held.{Usable, heldTo};
+ghost use Rattle.tool.specs.Inner.Held.{Usable, held_to};
 
 use arguments::understand;
 use complaints::{put_no_verb, put_unread, put_usage, put_wrong_count};
@@ -24,7 +24,7 @@ use widths::words;
 // The tool's reply to a command line and standard input. The arguments are the words after the tool's name, a zero byte after each. The
 // text is put from the buffer's start; in a row of `tool::MAX_TEXT` bytes or more it stands whole.
 pub fn reply(arguments: &[u8], input: &[u8], text: &mut [u8]) -> Reply
-    ensures { Told text.old (reply (splitWords arguments.now) input.now) result text.new }
+    ensures { Told text.old (reply (split_words arguments.now) input.now) result text.new }
 {
     let mut row = [0u32; MAX_WORDS];
     let count = tape_words(input, &mut row);
@@ -43,7 +43,7 @@ pub fn reply_on(
     tapes: &[u32],
     text: &mut [u8],
 ) -> Reply
-    ensures { Told text.old (replyTo (askedBy in_script (splitWords arguments.now)) whole tape.now tapes.now) result text.new }
+    ensures { Told text.old (reply_to (asked_by in_script (split_words arguments.now)) whole tape.now tapes.now) result text.new }
 {
     let line = understand(arguments, in_script);
     let call = line.call;
@@ -79,8 +79,8 @@ fn perform(
     tapes: &[u32],
     text: &mut [u8],
 ) -> Reply
-    requires { Usable (limitOf row.verb) values.now }
-    ensures { Told text.old (means row.verb (ownIn row whole) values.now tape.now tapes.now) result text.new }
+    requires { Usable (limit_of row.verb) values.now }
+    ensures { Told text.old (means row.verb (own_in row whole) values.now tape.now tapes.now) result text.new }
 {
     let own = own_in(row, whole);
     let verb = row.verb;
@@ -109,7 +109,7 @@ fn perform_on_tape(
     tapes: &[u32],
     text: &mut [u8],
 ) -> Reply
-    ensures { Told text.old (tapeReply verb own (take maxParameters (heldTo largest32 values.now)) tape.now tapes.now) result text.new }
+    ensures { Told text.old (tape_reply verb own (take max_parameters (held_to largest32 values.now)) tape.now tapes.now) result text.new }
 {
     let mut row = [0u32; MAX_PARAMETERS];
     let count = words(values, &mut row, 0);
@@ -126,7 +126,7 @@ fn help(text: &mut [u8]) -> Reply
 }
 
 fn version(text: &mut [u8]) -> Reply
-    ensures { Told text.old (answers versionLine) result text.new }
+    ensures { Told text.old (answers version_line) result text.new }
 {
     Reply {
         status: ANSWERED,
@@ -136,7 +136,7 @@ fn version(text: &mut [u8]) -> Reply
 
 // The refusal whose reason is the verb's own: 6 where a tape was to come and its bytes weren't whole words.
 fn own_in(row: Row, whole: bool) -> u32
-    ensures { result ≡ ownIn row whole }
+    ensures { result ≡ own_in row whole }
 {
     if whole {
         return row.own;

@@ -1,6 +1,6 @@
 // What is said of a command line that isn't understood. Each function puts its line from the buffer's start.
 ghost use Rattle.text.specs.Rows.{Put};
-ghost use Rattle.tool.specs.Texts.{noVerbLine, fromText, countText, wrongCountLine, unreadLine, usage};
+ghost use Rattle.tool.specs.Texts.{no_verb_line, from_text, count_text, wrong_count_line, unread_line, usage};
 
 use putting::{put, put_number, put_number_then, put_then};
 use quoting::put_quoted;
@@ -19,7 +19,7 @@ pub fn put_usage(buffer: &mut [u8]) -> usize
 
 // A verb that is none.
 pub fn put_no_verb(buffer: &mut [u8], word: &[u8]) -> usize
-    ensures { Put buffer.old 0 (noVerbLine word.now) result buffer.new }
+    ensures { Put buffer.old 0 (no_verb_line word.now) result buffer.new }
 {
     let a = put(buffer, 0, &TOOL);
     let b = put_quoted(buffer, a, word);
@@ -33,7 +33,7 @@ pub fn put_no_verb(buffer: &mut [u8], word: &[u8]) -> usize
 
 // A count of parameters that the verb doesn't take.
 pub fn put_wrong_count(buffer: &mut [u8], name: &[u8], verb: Row, given: usize) -> usize
-    ensures { Put buffer.old 0 (wrongCountLine name.now verb given) result buffer.new }
+    ensures { Put buffer.old 0 (wrong_count_line name.now verb given) result buffer.new }
 {
     let a = put(buffer, 0, &TOOL);
     let b = put(buffer, a, name);
@@ -46,7 +46,7 @@ pub fn put_wrong_count(buffer: &mut [u8], name: &[u8], verb: Row, given: usize) 
 
 // How many parameters a verb takes.
 fn put_count(buffer: &mut [u8], at: usize, least: usize, most: usize) -> usize
-    ensures { Put buffer.old at (countText least most) result buffer.new }
+    ensures { Put buffer.old at (count_text least most) result buffer.new }
 {
     let a = put_from(buffer, at, least, most);
     let b = put_number(buffer, a, most as u64);
@@ -58,7 +58,7 @@ fn put_count(buffer: &mut [u8], at: usize, least: usize, most: usize) -> usize
 
 // The least count and "to", where there are several.
 fn put_from(buffer: &mut [u8], at: usize, least: usize, most: usize) -> usize
-    ensures { Put buffer.old at (fromText least most) result buffer.new }
+    ensures { Put buffer.old at (from_text least most) result buffer.new }
 {
     if least == most {
         return at;
@@ -69,7 +69,7 @@ fn put_from(buffer: &mut [u8], at: usize, least: usize, most: usize) -> usize
 
 // A word that isn't read as the parameter of its place.
 pub fn put_unread(buffer: &mut [u8], word: &[u8], verb: Row, place: usize) -> usize
-    ensures { Put buffer.old 0 (unreadLine word.now verb place) result buffer.new }
+    ensures { Put buffer.old 0 (unread_line word.now verb place) result buffer.new }
 {
     let a = put(buffer, 0, &TOOL);
     let b = put_quoted(buffer, a, word);

@@ -1,11 +1,11 @@
 // Whether registers and bases are allowed.
 ghost use Rattle.std.specs.Prelude.{◌≡◌, ◌≤◌};
-ghost use Rattle.refusal.specs.Outcomes.{outcome, numberOutcomeOf};
+ghost use Rattle.refusal.specs.Outcomes.{outcome, number_outcome_of};
 ghost use Rattle.orders.specs.Orders.{is_order};
-ghost use Rattle.orders.specs.PrimeDivisors.{primesOf};
+ghost use Rattle.orders.specs.PrimeDivisors.{primes_of};
 ghost use Rattle.machine.specs.Machine.{values_of};
-ghost use Rattle.sequencer.specs.Services.{badRegister, badRegisters, badBase, baseRules};
-ghost use Rattle.sequencer.specs.Bases.{rowRules};
+ghost use Rattle.sequencer.specs.Services.{bad_register, bad_registers, bad_base, base_rules};
+ghost use Rattle.sequencer.specs.Bases.{row_rules};
 
 use machine::Registers;
 use montgomery::power;
@@ -15,7 +15,7 @@ use tape::Header;
 
 // Refusal 9 for one of the four.
 pub fn is_some_bad(p: u32, registers: Registers) -> bool
-    ensures { result ≡ badRegisters p (values_of registers) }
+    ensures { result ≡ bad_registers p (values_of registers) }
 {
     if is_bad_register(p, registers.c) {
         return true;
@@ -31,7 +31,7 @@ pub fn is_some_bad(p: u32, registers: Registers) -> bool
 
 // A base's own refusals: 9, 11. It is a row of one.
 pub fn check_base(header: Header, base: u32) -> NumberAnswer
-    ensures { numberOutcomeOf result ≡ outcome (baseRules header base) 0 }
+    ensures { number_outcome_of result ≡ outcome (base_rules header base) 0 }
 {
     let row = [base];
     check_bases(header, &row)
@@ -39,7 +39,7 @@ pub fn check_base(header: Header, base: u32) -> NumberAnswer
 
 // The refusals of a row's bases: those of the first base that has one. The prime divisors of r, which decide an order, are found once.
 pub fn check_bases(header: Header, bases: &[u32]) -> NumberAnswer
-    ensures { numberOutcomeOf result ≡ outcome (rowRules header bases.now) 0 }
+    ensures { number_outcome_of result ≡ outcome (row_rules header bases.now) 0 }
 {
     let found = prime_divisors(header.order);
     let primes = found.primes;
@@ -48,8 +48,8 @@ pub fn check_bases(header: Header, bases: &[u32]) -> NumberAnswer
 
 // The same, given the prime divisors of r.
 fn check_all(header: Header, primes: &[u32], bases: &[u32]) -> NumberAnswer
-    requires { primes.now ≡ primesOf header.order }
-    ensures { numberOutcomeOf result ≡ outcome (rowRules header bases.now) 0 }
+    requires { primes.now ≡ primes_of header.order }
+    ensures { number_outcome_of result ≡ outcome (row_rules header bases.now) 0 }
 {
     let mut i: usize = 0;
     while i < bases.len() {
@@ -63,8 +63,8 @@ fn check_all(header: Header, primes: &[u32], bases: &[u32]) -> NumberAnswer
 
 // The refusals of one base, given these.
 fn check_one(header: Header, primes: &[u32], base: u32) -> NumberAnswer
-    requires { primes.now ≡ primesOf header.order }
-    ensures { numberOutcomeOf result ≡ outcome (baseRules header base) 0 }
+    requires { primes.now ≡ primes_of header.order }
+    ensures { number_outcome_of result ≡ outcome (base_rules header base) 0 }
 {
     if is_bad_register(header.modulus, base) {
         return NumberAnswer::Refused(Refusal::Register);
@@ -77,7 +77,7 @@ fn check_one(header: Header, primes: &[u32], base: u32) -> NumberAnswer
 
 // Refusal 9: a register or base is 0 or at least p.
 fn is_bad_register(p: u32, x: u32) -> bool
-    ensures { result ≡ badRegister p x }
+    ensures { result ≡ bad_register p x }
 {
     if x == 0 {
         return true;
@@ -88,8 +88,8 @@ fn is_bad_register(p: u32, x: u32) -> bool
 // Refusal 11: named program, r isn't the base's order.
 fn is_bad_base(header: Header, primes: &[u32], base: u32) -> bool
     requires le_modulus { 1 ≤ header.modulus }
-    requires primes_value { primes.now ≡ primesOf header.order }
-    ensures { result ≡ badBase header base }
+    requires primes_value { primes.now ≡ primes_of header.order }
+    ensures { result ≡ bad_base header base }
 {
     if header.variant == 0 {
         return false;
@@ -100,7 +100,7 @@ fn is_bad_base(header: Header, primes: &[u32], base: u32) -> bool
 // Whether r is the order of a modulo p: r gives 1, and for no prime divisor q of r does r / q give 1.
 fn has_order(p: u32, a: u32, r: u32, primes: &[u32]) -> bool
     requires le_p { 1 ≤ p }
-    requires primes_value { primes.now ≡ primesOf r }
+    requires primes_value { primes.now ≡ primes_of r }
     ensures { result ≡ is_order p a r }
 {
     if r == 0 {

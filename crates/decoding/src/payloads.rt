@@ -1,7 +1,7 @@
 // What a word's payload means, by its kind.
 ghost use Rattle.std.specs.Prelude.{◌≡◌};
 ghost use Rattle.tape.specs.declared.Step.TheVariants.{Mul, Div};
-ghost use Rattle.tape.specs.Words.{headingIn, areDistinct, actionIn, swapIn};
+ghost use Rattle.tape.specs.Words.{heading_in, are_distinct, action_in, swap_in};
 
 use tape::{Decoded, FORMAT, FORMATS, Step};
 
@@ -16,7 +16,7 @@ pub(crate) const REGISTER_PAIRS: u32 = 16;
 
 // Kind 1: the heading of a tape of this format.
 pub(crate) fn heading_in(payload: u32) -> Decoded
-    ensures { result ≡ headingIn payload }
+    ensures { result ≡ heading_in payload }
 {
     if payload % FORMATS != FORMAT {
         return Decoded::Bad;
@@ -29,7 +29,7 @@ pub(crate) fn heading_in(payload: u32) -> Decoded
 
 // Kind 5.
 pub(crate) fn multiplication_in(payload: u32) -> Decoded
-    ensures { result ≡ actionIn Mul payload }
+    ensures { result ≡ action_in Mul payload }
 {
     if !are_distinct(payload) {
         return Decoded::Bad;
@@ -39,7 +39,7 @@ pub(crate) fn multiplication_in(payload: u32) -> Decoded
 
 // Kind 6.
 pub(crate) fn division_in(payload: u32) -> Decoded
-    ensures { result ≡ actionIn Div payload }
+    ensures { result ≡ action_in Div payload }
 {
     if !are_distinct(payload) {
         return Decoded::Bad;
@@ -49,7 +49,7 @@ pub(crate) fn division_in(payload: u32) -> Decoded
 
 // Kind 7: the target is the smaller.
 pub(crate) fn swap_in(payload: u32) -> Decoded
-    ensures { result ≡ swapIn payload }
+    ensures { result ≡ swap_in payload }
 {
     if REGISTER_PAIRS <= payload {
         return Decoded::Bad;
@@ -62,7 +62,7 @@ pub(crate) fn swap_in(payload: u32) -> Decoded
 
 // A payload holds two registers that differ.
 fn are_distinct(payload: u32) -> bool
-    ensures { result ≡ areDistinct payload }
+    ensures { result ≡ are_distinct payload }
 {
     if REGISTER_PAIRS <= payload {
         return false;

@@ -1,9 +1,9 @@
 // The words of steps, told by arithmetic.
 ghost use Rattle.std.specs.Prelude.{◌≡◌, ◌-◌, eqb};
 ghost use Rattle.tape.specs.declared.Decoded.TheVariants.{Action};
-ghost use Rattle.tape.specs.Words.{decoded, kindsOf};
-ghost use Rattle.tape.specs.Layout.{sortOf};
-ghost use Rattle.tape.specs.Inner.Operations.{rawStep, stepFor};
+ghost use Rattle.tape.specs.Words.{decoded, kinds_of};
+ghost use Rattle.tape.specs.Layout.{sort_of};
+ghost use Rattle.tape.specs.Inner.Operations.{raw_step, step_for};
 
 use crate::payloads::{REGISTER_PAIRS, REGISTERS};
 use tape::{NUMBER_LIMIT, Operation, Step};
@@ -11,7 +11,7 @@ use tape::{NUMBER_LIMIT, Operation, Step};
 // Whether a word is a step's. Its kinds are told apart by arithmetic: a branch for each is mispredicted at most
 // steps.
 pub fn is_step(word: u32) -> bool
-    ensures { result ≡ eqb (sortOf (decoded word)) 5 }
+    ensures { result ≡ eqb (sort_of (decoded word)) 5 }
 {
     let payload = word % NUMBER_LIMIT;
     if REGISTER_PAIRS <= payload {
@@ -27,7 +27,7 @@ pub fn is_step(word: u32) -> bool
 
 // How many kinds from 5 on take a target and a source: none where they are equal, and swp where the target is the smaller.
 fn kinds_of(target: u32, source: u32) -> u32
-    ensures { result ≡ kindsOf target source }
+    ensures { result ≡ kinds_of target source }
 {
     if target < source {
         return 3;
@@ -40,7 +40,7 @@ fn kinds_of(target: u32, source: u32) -> u32
 
 // The step of a step's word.
 pub(crate) fn step_in(word: u32) -> Step
-    requires { sortOf (decoded word) ≡ 5 }
+    requires { sort_of (decoded word) ≡ 5 }
     ensures { Action result ≡ decoded word }
 {
     let payload = word % NUMBER_LIMIT;
@@ -56,7 +56,7 @@ pub(crate) fn step_in(word: u32) -> Step
 // The step that a word has in its digits, told by arithmetic alone. A run, a trace and a preview ask it of the words of an accepted tape,
 // where it is their meaning.
 pub fn operation_of(word: u32) -> Operation
-    ensures { stepFor result ≡ rawStep word }
+    ensures { step_for result ≡ raw_step word }
 {
     Operation {
         opcode: opcode_of(word / NUMBER_LIMIT),

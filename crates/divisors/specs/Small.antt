@@ -1,5 +1,5 @@
--- The small divisors of p, which the prime test asks for first: what one is, and the test whether there is one (`small-found` and
--- `small-test` of proofs/Laws/Small say that they agree).
+-- The small divisors of p, which the prime test asks for first: what one is, and the test whether there is one (`small_found` and
+-- `small_test` of proofs/Laws/Small say that they agree).
 use Rattle.std.specs.Prelude.{Bool, ◌&&◌, ℕ, ◌-◌, ◌≤◌, ◌<◌, leb, ltb}
 use Rattle.std.specs.Int.{◌∣◌}
 use Rattle.divisors.specs.Search.{greatest, divides}
@@ -16,5 +16,5 @@ pub record SmallDivisor (p d : ℕ) : Type 0 where
   pub divides : d ∣ p
 
 -- the greatest number up to 2^14, and below p, that divides p is above 1
-unfoldable pub hasSmallDivisor : ℕ → Bool
-hasSmallDivisor p = ltb 1 (greatest (λ (d : ℕ). leb d limit && divides d p) (p - 1))
+unfoldable pub has_small_divisor : ℕ → Bool
+has_small_divisor p = ltb 1 (greatest (λ (d : ℕ). leb d limit && divides d p) (p - 1))

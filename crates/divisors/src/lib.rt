@@ -2,8 +2,8 @@
 mod table;
 
 ghost use Rattle.std.specs.Prelude.{◌≡◌, ◌<◌};
-ghost use Rattle.divisors.specs.Small.{hasSmallDivisor};
-ghost use Rattle.divisors.specs.Inner.Inverted.{LeftFrom5, sumLimit, carryOf, HalfWordInverse, Table, LeftFrom4097, ZeroWhereDivided, DividedByOne};
+ghost use Rattle.divisors.specs.Small.{has_small_divisor};
+ghost use Rattle.divisors.specs.Inner.Inverted.{LeftFrom5, sum_limit, carry_of, HalfWordInverse, Table, LeftFrom4097, ZeroWhereDivided, DividedByOne};
 
 use table::{INVERSES_FROM_4097, INVERSES_TO_4096, PRIMES_FROM_4097, PRIMES_TO_4096};
 
@@ -16,7 +16,7 @@ const HALF_WORD: u32 = 65536;
 
 // Whether a number from 2 to 2^14, other than p, divides p.
 pub fn has_small_divisor(p: u32) -> bool
-    ensures { result ≡ hasSmallDivisor p }
+    ensures { result ≡ has_small_divisor p }
 {
     if p % 2 == 0 {
         return 2 < p;
@@ -45,7 +45,7 @@ pub fn has_small_divisor(p: u32) -> bool
 // out where its function begins.
 fn has_divisor_from_4097(p: u32) -> bool
     requires { LeftFrom4097 p }
-    ensures { result ≡ hasSmallDivisor p }
+    ensures { result ≡ has_small_divisor p }
 {
     has_divisor_among(p, &PRIMES_FROM_4097, &INVERSES_FROM_4097)
 }
@@ -71,7 +71,7 @@ fn has_divisor_among(p: u32, primes: &[u16], inverses: &[u16]) -> bool
 // Zero where d divides p, and only there: Montgomery's reduction with 2^16. p and 2^16 times `rest` differ by a multiple of d, so d divides both or neither; and
 // `rest` is below 2^16, so that d divides it only where no upper half is left.
 fn excess(p: u32, d: u16, inverse: u16) -> u16
-    requires p_lt_sum_limit { p < sumLimit }
+    requires p_lt_sum_limit { p < sum_limit }
     requires half_word_inverse { HalfWordInverse d inverse }
     ensures { ZeroWhereDivided p d result }
 {
@@ -83,7 +83,7 @@ fn excess(p: u32, d: u16, inverse: u16) -> u16
 
 // n times the inverse, modulo 2^16, is the quotient where d divides n. d times that has n for its lower half; this is the upper one.
 fn carry(n: u16, d: u16, inverse: u16) -> u16
-    ensures { result ≡ carryOf n d inverse }
+    ensures { result ≡ carry_of n d inverse }
 {
     let quotient = (n as u32) * (inverse as u32) % HALF_WORD;
     (quotient * (d as u32) / HALF_WORD) as u16
@@ -92,7 +92,7 @@ fn carry(n: u16, d: u16, inverse: u16) -> u16
 // The same by division, where neither 2 nor 3 divides p.
 fn has_divisor_from_5(p: u32) -> bool
     requires { LeftFrom5 p }
-    ensures { result ≡ hasSmallDivisor p }
+    ensures { result ≡ has_small_divisor p }
 {
     let mut d: u32 = 5;
     while d <= LIMIT {

@@ -1,7 +1,7 @@
 // Scripts from standard input: read piece by piece, done line by line.
 ghost use Rattle.std.specs.Prelude.{◌≡◌, ◌≤◌, length, take};
-ghost use Rattle.scripting.specs.Script.{maxPrinted, lineDone};
-ghost use Rattle.scripting.specs.States.{capacityOf, stateIn, insideOf};
+ghost use Rattle.scripting.specs.Script.{max_printed, line_done};
+ghost use Rattle.scripting.specs.States.{capacity_of, state_in, inside_of};
 
 use libc::STDIN_FILENO;
 use script::line;
@@ -118,8 +118,8 @@ fn end_line(held: &[u8], tapes: &mut [u32], pending: Pending) -> Pending
 
 // The line in a row that nothing it prints is too long for: nothing of it is dropped.
 fn whole_line(held: &[u8], tapes: &mut [u32], marks: Marks, text: &mut [u8]) -> Printed
-    requires { maxPrinted ≤ length text.old }
-    ensures text_after { take result.length text.new ≡ (lineDone (capacityOf tapes.old) held.now (stateIn (insideOf marks (capacityOf tapes.old)) tapes.old)).text }
+    requires { max_printed ≤ length text.old }
+    ensures text_after { take result.length text.new ≡ (line_done (capacity_of tapes.old) held.now (state_in (inside_of marks (capacity_of tapes.old)) tapes.old)).text }
     ensures length_in_bounds { result.length ≤ length text.new }
 {
     line(held, tapes, marks, text)

@@ -1,11 +1,11 @@
 // The verbs that only a script has: they change the tape at hand, and the room.
 ghost use Rattle.std.specs.Prelude.{◌≡◌, [], ◌++◌, ◌+◌, ◌-◌, ◌≤◌, length, take, drop};
-ghost use Rattle.text.specs.Text.{numberLine};
+ghost use Rattle.text.specs.Text.{number_line};
 ghost use Rattle.text.specs.Rows.{Put};
-ghost use Rattle.tool.specs.Verbs.{maxRoom, largest32, limitIn};
-ghost use Rattle.tool.specs.Inner.Held.{heldTo};
-ghost use Rattle.scripting.specs.Script.{edited, inScript};
-ghost use Rattle.scripting.specs.States.{capacityOf, stateIn, Inside, insideOf, Did};
+ghost use Rattle.tool.specs.Verbs.{max_room, largest32, limit_in};
+ghost use Rattle.tool.specs.Inner.Held.{held_to};
+ghost use Rattle.scripting.specs.Script.{edited, in_script};
+ghost use Rattle.scripting.specs.States.{capacity_of, state_in, Inside, inside_of, Did};
 ghost use Rattle.scripting.specs.Inner.Leaving.{Placed};
 
 use lines::number_line;
@@ -25,8 +25,8 @@ pub fn edit(
     marks: Marks,
     text: &mut [u8],
 ) -> Printed
-    ensures did { Did (inScript (capacityOf tapes.old) verb (heldTo (limitIn verb) values.now) (stateIn (insideOf marks (capacityOf tapes.old)) tapes.old)) text.old result (take (capacityOf tapes.old) tapes.new) text.new }
-    ensures tapes_unchanged { drop (capacityOf tapes.old) tapes.new ≡ drop (capacityOf tapes.old) tapes.old }
+    ensures did { Did (in_script (capacity_of tapes.old) verb (held_to (limit_in verb) values.now) (state_in (inside_of marks (capacity_of tapes.old)) tapes.old)) text.old result (take (capacity_of tapes.old) tapes.new) text.new }
+    ensures tapes_unchanged { drop (capacity_of tapes.old) tapes.new ≡ drop (capacity_of tapes.old) tapes.old }
 {
     let capacity = least(tapes.len(), MAX_TAPES);
     edit_inside(
@@ -46,7 +46,7 @@ fn edit_inside(
     text: &mut [u8],
 ) -> Printed
     requires { Inside marks tapes.old }
-    ensures { Did (inScript (length tapes.old) verb (heldTo (limitIn verb) values.now) (stateIn marks tapes.old)) text.old result tapes.new text.new }
+    ensures { Did (in_script (length tapes.old) verb (held_to (limit_in verb) values.now) (state_in marks tapes.old)) text.old result tapes.new text.new }
 {
     match verb {
         ScriptVerb::Tape => put_words(values, tapes, marks, marks.begin, text),
@@ -61,7 +61,7 @@ fn edit_inside(
 // The tape at hand keeps its words up to `at`, and has the given ones behind them.
 fn put_words(values: &[u64], tapes: &mut [u32], marks: Marks, at: usize, text: &mut [u8]) -> Printed
     requires { Placed marks tapes.old at }
-    ensures { Did (edited (length tapes.old) (stateIn marks tapes.old) (drop marks.begin (take at tapes.old) ++ heldTo largest32 values.now)) text.old result tapes.new text.new }
+    ensures { Did (edited (length tapes.old) (state_in marks tapes.old) (drop marks.begin (take at tapes.old) ++ held_to largest32 values.now)) text.old result tapes.new text.new }
 {
     if tapes.len() - at < values.len() {
         return Printed {
@@ -76,7 +76,7 @@ fn put_words(values: &[u64], tapes: &mut [u32], marks: Marks, at: usize, text: &
 // How many words the tape at hand has.
 fn count_words(marks: Marks, text: &mut [u8]) -> Printed
     requires { marks.begin ≤ marks.end }
-    ensures { (result.marks ≡ marks) × Put text.old 0 (numberLine (marks.end - marks.begin)) result.length text.new }
+    ensures { (result.marks ≡ marks) × Put text.old 0 (number_line (marks.end - marks.begin)) result.length text.new }
 {
     Printed {
         marks,
@@ -87,7 +87,7 @@ fn count_words(marks: Marks, text: &mut [u8]) -> Printed
 // One word of the tape at hand.
 fn change(values: &[u64], tapes: &mut [u32], marks: Marks, text: &mut [u8]) -> Printed
     requires { Inside marks tapes.old }
-    ensures { Did (inScript (length tapes.old) ScriptVerb.Change (heldTo largest32 values.now) (stateIn marks tapes.old)) text.old result tapes.new text.new }
+    ensures { Did (in_script (length tapes.old) ScriptVerb.Change (held_to largest32 values.now) (state_in marks tapes.old)) text.old result tapes.new text.new }
 {
     let index = small(values, 0) as usize;
     if marks.end - marks.begin <= index {
@@ -104,7 +104,7 @@ fn change(values: &[u64], tapes: &mut [u32], marks: Marks, text: &mut [u8]) -> P
 // The tape at hand without its last words.
 fn drop_words(values: &[u64], tapes: &[u32], marks: Marks, text: &mut [u8]) -> Printed
     requires { Inside marks tapes.now }
-    ensures { Did (inScript (length tapes.now) ScriptVerb.Drop (heldTo largest32 values.now) (stateIn marks tapes.now)) text.old result tapes.now text.new }
+    ensures { Did (in_script (length tapes.now) ScriptVerb.Drop (held_to largest32 values.now) (state_in marks tapes.now)) text.old result tapes.now text.new }
 {
     let count = small(values, 0) as usize;
     if marks.end - marks.begin < count {
@@ -116,7 +116,7 @@ fn drop_words(values: &[u64], tapes: &[u32], marks: Marks, text: &mut [u8]) -> P
 // Another tape behind this one, of no words.
 fn behind(tapes: &[u32], marks: Marks, text: &mut [u8]) -> Printed
     requires { Inside marks tapes.now }
-    ensures { Did (inScript (length tapes.now) ScriptVerb.Behind [] (stateIn marks tapes.now)) text.old result tapes.now text.new }
+    ensures { Did (in_script (length tapes.now) ScriptVerb.Behind [] (state_in marks tapes.now)) text.old result tapes.now text.new }
 {
     let next = Marks {
         begin: marks.end,
@@ -130,7 +130,7 @@ fn behind(tapes: &[u32], marks: Marks, text: &mut [u8]) -> Printed
 // The room from now on; without a parameter, none.
 fn room(values: &[u64], tapes: &[u32], marks: Marks, text: &mut [u8]) -> Printed
     requires { Inside marks tapes.now }
-    ensures { Did (inScript (length tapes.now) ScriptVerb.Room (heldTo maxRoom values.now) (stateIn marks tapes.now)) text.old result tapes.now text.new }
+    ensures { Did (in_script (length tapes.now) ScriptVerb.Room (held_to max_room values.now) (state_in marks tapes.now)) text.old result tapes.now text.new }
 {
     if values.len() == 0 {
         return Printed {

@@ -3,7 +3,7 @@ mod words;
 
 ghost use Rattle.std.specs.Prelude.{◌≡◌, [], ◌∷◌, ◌%◌};
 ghost use Rattle.text.specs.Rows.{Put};
-ghost use Rattle.encoding.specs.Encoding.{bytes_of, tapeIn};
+ghost use Rattle.encoding.specs.Encoding.{bytes_of, tape_in};
 
 use putting::put_byte;
 use tape::MAX_WORDS;
@@ -18,7 +18,7 @@ pub const MAX_BYTES: usize = WORD_BYTES * MAX_WORDS;
 // The words of a tape that is given as bytes, from the buffer's start: how many they are. Bytes that are no tape give none, and a tape
 // of no words gets refusal 6 from every service on a tape.
 pub fn tape_words(bytes: &[u8], buffer: &mut [u32; MAX_WORDS]) -> usize
-    ensures { Put buffer.old 0 (tapeIn bytes.now) result buffer.new }
+    ensures { Put buffer.old 0 (tape_in bytes.now) result buffer.new }
 {
     if MAX_BYTES < bytes.len() {
         return 0;

@@ -1,14 +1,14 @@
 // From bytes to the words of a tape.
 ghost use Rattle.std.specs.Prelude.{◌≡◌, ◌≤◌, ◌/◌, length};
 ghost use Rattle.text.specs.Rows.{Put};
-ghost use Rattle.encoding.specs.Encoding.{word_of, tapeOf};
+ghost use Rattle.encoding.specs.Encoding.{word_of, tape_of};
 
 use crate::WORD_BYTES;
 
 // Writes the words from the buffer's start, and answers how many they are; up to three bytes left over are no word.
 pub(crate) fn words(bytes: &[u8], buffer: &mut [u32]) -> usize
     requires { length bytes.now / 4 ≤ length buffer.old }
-    ensures { Put buffer.old 0 (tapeOf bytes.now) result buffer.new }
+    ensures { Put buffer.old 0 (tape_of bytes.now) result buffer.new }
 {
     let count = bytes.len() / WORD_BYTES;
     let mut i: usize = 0;

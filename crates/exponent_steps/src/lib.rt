@@ -3,8 +3,8 @@ mod whole;
 
 ghost use Rattle.std.specs.Prelude.{◌≡◌};
 ghost use Rattle.tape.specs.declared.Step.TheVariants.{Mul, Div, Swp};
-ghost use Rattle.tape.specs.Inner.Operations.{stepFor};
-ghost use Rattle.machine.specs.Exponents.{exponentsOf, firstExponents, makesInRange, shiftInRange};
+ghost use Rattle.tape.specs.Inner.Operations.{step_for};
+ghost use Rattle.machine.specs.Exponents.{exponents_of, first_exponents, makes_in_range, shift_in_range};
 
 use machine::Exponents;
 use tape::Operation;
@@ -12,7 +12,7 @@ use whole::{exponent, is_difference_in_range, is_sum_in_range, set_exponent};
 
 // The first four of some exponents; 0 stands for one that is missing.
 pub fn exponents_of(exponents: &[i64]) -> Exponents
-    ensures { exponentsOf result ≡ firstExponents exponents.now }
+    ensures { exponents_of result ≡ first_exponents exponents.now }
 {
     Exponents {
         c: exponent(exponents, 0),
@@ -25,8 +25,8 @@ pub fn exponents_of(exponents: &[i64]) -> Exponents
 // A step on whole exponents, in place: whether the number that it makes is in the range. Where it isn't, nothing changes. The other
 // exponents are not looked at: a step leaves them as they are.
 pub fn shift(exponents: &mut [i64], op: Operation) -> bool
-    ensures value { result ≡ makesInRange (stepFor op) exponents.old }
-    ensures exponents_after { exponents.new ≡ shiftInRange (stepFor op) exponents.old }
+    ensures value { result ≡ makes_in_range (step_for op) exponents.old }
+    ensures exponents_after { exponents.new ≡ shift_in_range (step_for op) exponents.old }
 {
     if op.opcode == 0 {
         return add(exponents, op.target, op.source);
@@ -39,8 +39,8 @@ pub fn shift(exponents: &mut [i64], op: Operation) -> bool
 
 // A mul.
 fn add(exponents: &mut [i64], target: u32, source: u32) -> bool
-    ensures value { result ≡ makesInRange (Mul target source) exponents.old }
-    ensures exponents_after { exponents.new ≡ shiftInRange (Mul target source) exponents.old }
+    ensures value { result ≡ makes_in_range (Mul target source) exponents.old }
+    ensures exponents_after { exponents.new ≡ shift_in_range (Mul target source) exponents.old }
 {
     let x = exponent(exponents, target);
     let y = exponent(exponents, source);
@@ -53,8 +53,8 @@ fn add(exponents: &mut [i64], target: u32, source: u32) -> bool
 
 // A div.
 fn subtract(exponents: &mut [i64], target: u32, source: u32) -> bool
-    ensures value { result ≡ makesInRange (Div target source) exponents.old }
-    ensures exponents_after { exponents.new ≡ shiftInRange (Div target source) exponents.old }
+    ensures value { result ≡ makes_in_range (Div target source) exponents.old }
+    ensures exponents_after { exponents.new ≡ shift_in_range (Div target source) exponents.old }
 {
     let x = exponent(exponents, target);
     let y = exponent(exponents, source);
@@ -67,8 +67,8 @@ fn subtract(exponents: &mut [i64], target: u32, source: u32) -> bool
 
 // A swp, which makes no number.
 fn exchange(exponents: &mut [i64], target: u32, source: u32) -> bool
-    ensures value { result ≡ makesInRange (Swp target source) exponents.old }
-    ensures exponents_after { exponents.new ≡ shiftInRange (Swp target source) exponents.old }
+    ensures value { result ≡ makes_in_range (Swp target source) exponents.old }
+    ensures exponents_after { exponents.new ≡ shift_in_range (Swp target source) exponents.old }
 {
     let x = exponent(exponents, target);
     let y = exponent(exponents, source);

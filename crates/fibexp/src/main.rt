@@ -1,9 +1,9 @@
 // The command-line tool: gathers its arguments, reads a tape or a script from standard input where the verb takes one, and writes the
 // reply.
 ghost use Rattle.std.specs.Prelude.{◌≡◌, ◌≤◌, length, take};
-ghost use Rattle.text.specs.Reading.{splitWords};
+ghost use Rattle.text.specs.Reading.{split_words};
 ghost use Rattle.tool.specs.Replies.{reply};
-ghost use Rattle.tool.specs.Rows.{maxText};
+ghost use Rattle.tool.specs.Rows.{max_text};
 
 use arguments::{reads_script, reads_tape, writes_tape};
 use command::reply;
@@ -105,10 +105,10 @@ fn write(arguments: &[u8], input: &[u8]) {
 
 // The reply in a row that no reply is too long for: nothing of it is dropped.
 fn whole_reply(arguments: &[u8], input: &[u8], text: &mut [u8]) -> Reply
-    requires { maxText ≤ length text.old }
-    ensures text_after { take result.length text.new ≡ (reply (splitWords arguments.now) input.now).text }
+    requires { max_text ≤ length text.old }
+    ensures text_after { take result.length text.new ≡ (reply (split_words arguments.now) input.now).text }
     ensures length_in_bounds { result.length ≤ length text.new }
-    ensures status_value { result.status ≡ (reply (splitWords arguments.now) input.now).status }
+    ensures status_value { result.status ≡ (reply (split_words arguments.now) input.now).status }
 {
     reply(arguments, input, text)
 }

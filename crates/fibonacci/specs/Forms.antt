@@ -3,13 +3,13 @@ use Rattle.std.specs.Prelude.{Bool, true, false, ◌&&◌, cond, List, [], ◌�
 use Rattle.fibonacci.specs.Fibonacci.{fib}
 
 -- A Fibonacci form is a list of bits, place 1 first. The sum of a form whose first bit is place i: place i weighs F_(i+1).
-unfoldable pub fibsumFrom : ℕ → List Bool → ℕ
-fibsumFrom i [] = 0
-fibsumFrom i (b ∷ bs) = cond b (fib (suc i)) 0 + fibsumFrom (suc i) bs
+unfoldable pub fibsum_from : ℕ → List Bool → ℕ
+fibsum_from i [] = 0
+fibsum_from i (b ∷ bs) = cond b (fib (suc i)) 0 + fibsum_from (suc i) bs
 
 -- the paper's FIBSUM
 abbrev pub fibsum : List Bool → ℕ
-fibsum bs = fibsumFrom 1 bs
+fibsum bs = fibsum_from 1 bs
 
 -- the first bit is not set
 abbrev pub Clear : List Bool → Type 0
@@ -41,26 +41,26 @@ pad (suc m) [] = false ∷ pad m []
 pad (suc m) (b ∷ bs) = b ∷ pad m bs
 
 -- Place m + 1 set above a form of at most m places.
-abbrev pub topAt : ℕ → List Bool → List Bool
-topAt m bs = pad m bs ++ true ∷ []
+abbrev pub top_at : ℕ → List Bool → List Bool
+top_at m bs = pad m bs ++ true ∷ []
 
 -- The greedy form of n: from place m down, each place set whose weight is left.
 unfoldable pub greedy : ℕ → ℕ → List Bool
 greedy zero n = []
 greedy (suc m) n =
-    elim (leb (fib (suc (suc m))) n) [ true ↦ topAt m (greedy m (n - fib (suc (suc m)))) | false ↦ greedy m n ]
+    elim (leb (fib (suc (suc m))) n) [ true ↦ top_at m (greedy m (n - fib (suc (suc m)))) | false ↦ greedy m n ]
 
--- The Zeckendorf form of n; place n is high enough (`zeckendorf-by` of proofs/Laws/Zeckendorf: any place that is gives the same form).
+-- The Zeckendorf form of n; place n is high enough (`zeckendorf_by` of proofs/Laws/Zeckendorf: any place that is gives the same form).
 unfoldable pub zeckendorf : ℕ → List Bool
 zeckendorf n = greedy n n
 
 -- the places that are set, highest first, of a form whose first bit is place i
-unfoldable pub placesFrom : ℕ → List Bool → List ℕ
-placesFrom i [] = []
-placesFrom i (b ∷ bs) = placesFrom (suc i) bs ++ cond b (i ∷ []) []
+unfoldable pub places_from : ℕ → List Bool → List ℕ
+places_from i [] = []
+places_from i (b ∷ bs) = places_from (suc i) bs ++ cond b (i ∷ []) []
 
 abbrev pub places : List Bool → List ℕ
-places bs = placesFrom 1 bs
+places bs = places_from 1 bs
 
 -- how many places are set
 unfoldable pub ones : List Bool → ℕ
@@ -77,7 +77,7 @@ abbrev pub Places : ℕ → List ℕ → Type 0
 Places m [] = Unit {0}
 Places m (i ∷ l) = (1 ≤ i) × (i ≤ m) × Places (i - 2) l
 
--- the same as a test (`test-places` and `places-test` of proofs/Laws/Places)
-unfoldable pub arePlaces : ℕ → List ℕ → Bool
-arePlaces m [] = true
-arePlaces m (i ∷ l) = leb 1 i && (leb i m && arePlaces (i - 2) l)
+-- the same as a test (`test_places` and `places_test` of proofs/Laws/Places)
+unfoldable pub are_places : ℕ → List ℕ → Bool
+are_places m [] = true
+are_places m (i ∷ l) = leb 1 i && (leb i m && are_places (i - 2) l)

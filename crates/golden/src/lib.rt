@@ -1,9 +1,9 @@
 // Numbers of the golden ratio: Fibonacci numbers, Hofstadter's G and h.
 ghost use Rattle.std.specs.Prelude.{◌≡◌};
-ghost use Rattle.refusal.specs.Outcomes.{numberOutcomeOf};
+ghost use Rattle.refusal.specs.Outcomes.{number_outcome_of};
 ghost use Rattle.fibonacci.specs.Hofstadter.{G};
 ghost use Rattle.fibonacci.specs.Height.{height};
-ghost use Rattle.fibonacci.specs.Services.{fibonacciOrZero, fibonacciOutcome};
+ghost use Rattle.fibonacci.specs.Services.{fibonacci_or_zero, fibonacci_outcome};
 ghost use Rattle.fibonacci.specs.Inner.Pairs.{PairAt};
 
 use refusal::{NumberAnswer, Refusal};
@@ -73,7 +73,7 @@ struct Neighbours(u64, u64);
 
 // A Fibonacci number by its index.
 pub fn fibonacci(index: u32) -> NumberAnswer
-    ensures { numberOutcomeOf result ≡ fibonacciOutcome index }
+    ensures { number_outcome_of result ≡ fibonacci_outcome index }
 {
     if 93 < index {
         return NumberAnswer::Refused(Refusal::Index);
@@ -114,7 +114,7 @@ pub fn height(r: u32) -> u32
 
 // F_index, and 0 where it does not fit.
 pub fn fibonacci_or_zero(index: u32) -> u64
-    ensures { result ≡ fibonacciOrZero index }
+    ensures { result ≡ fibonacci_or_zero index }
 {
     let pair = pair_at(index / 2);
     if index % 2 == 0 {

@@ -1,12 +1,12 @@
 // Trace, table and cut: what a tape shows without a run.
 ghost use Rattle.std.specs.Prelude.{◌≡◌};
-ghost use Rattle.refusal.specs.Outcomes.{answered, refusalNumber};
-ghost use Rattle.machine.specs.Exponents.{exponentsOutcomeOf};
-ghost use Rattle.tables.specs.Tables.{tableOutcomeOf};
-ghost use Rattle.program.specs.Services.{acceptOutcome};
-ghost use Rattle.sequencer.specs.Services.{traceOutcome, cutOutcome, cutPart, badCut};
+ghost use Rattle.refusal.specs.Outcomes.{answered, refusal_number};
+ghost use Rattle.machine.specs.Exponents.{exponents_outcome_of};
+ghost use Rattle.tables.specs.Tables.{table_outcome_of};
+ghost use Rattle.program.specs.Services.{accept_outcome};
+ghost use Rattle.sequencer.specs.Services.{trace_outcome, cut_outcome, cut_part, bad_cut};
 ghost use Rattle.sequencer.specs.Tracing.{NeverOutside, MeansPowers};
-ghost use Rattle.sequencer.specs.Tables.{tableOutcome, MeansProducts, HasSign};
+ghost use Rattle.sequencer.specs.Tables.{table_outcome, MeansProducts, HasSign};
 
 use machine::ExponentsAnswer;
 use parts::{part, step_words, steps};
@@ -16,9 +16,9 @@ use tape::{Header, HeaderAnswer};
 
 // Each register's whole exponent at a position: check's refusals, 10, 12; no named program gets 12.
 pub fn trace(tape: &[u32], position: u32) -> ExponentsAnswer
-    ensures result_value { exponentsOutcomeOf result ≡ traceOutcome tape.now position }
-    ensures never_outside { NeverOutside tape.now (exponentsOutcomeOf result) }
-    ensures means_powers { MeansPowers tape.now position (exponentsOutcomeOf result) }
+    ensures result_value { exponents_outcome_of result ≡ trace_outcome tape.now position }
+    ensures never_outside { NeverOutside tape.now (exponents_outcome_of result) }
+    ensures means_powers { MeansPowers tape.now position (exponents_outcome_of result) }
 {
     match accepting::accept(tape) {
         HeaderAnswer::Refused(e) => ExponentsAnswer::Refused(e),
@@ -28,9 +28,9 @@ pub fn trace(tape: &[u32], position: u32) -> ExponentsAnswer
 
 // The exponent of each start value in each register at a position: check's refusals, 10, 12.
 pub fn table(tape: &[u32], position: u32) -> TableAnswer
-    ensures result_value { tableOutcomeOf result ≡ tableOutcome tape.now position }
-    ensures means_products { MeansProducts tape.now position (tableOutcomeOf result) }
-    ensures has_sign { HasSign tape.now position (tableOutcomeOf result) }
+    ensures result_value { table_outcome_of result ≡ table_outcome tape.now position }
+    ensures means_products { MeansProducts tape.now position (table_outcome_of result) }
+    ensures has_sign { HasSign tape.now position (table_outcome_of result) }
 {
     match accepting::accept(tape) {
         HeaderAnswer::Refused(e) => TableAnswer::Refused(e),
@@ -41,8 +41,8 @@ pub fn table(tape: &[u32], position: u32) -> TableAnswer
 // The part of the tape with the step words numbered first + 1 to last, and 0 beside it; refused, the empty part beside its number:
 // check's refusals, 10.
 pub fn cut<'a>(tape: &'a [u32], first: u32, last: u32, number: &mut u32) -> &'a [u32]
-    ensures result_value { result.now ≡ cutPart (cutOutcome tape.now first last) }
-    ensures number_after { number.new ≡ refusalNumber (cutOutcome tape.now first last) }
+    ensures result_value { result.now ≡ cut_part (cut_outcome tape.now first last) }
+    ensures number_after { number.new ≡ refusal_number (cut_outcome tape.now first last) }
 {
     match accepting::accept(tape) {
         HeaderAnswer::Refused(e) => {
@@ -55,8 +55,8 @@ pub fn cut<'a>(tape: &'a [u32], first: u32, last: u32, number: &mut u32) -> &'a 
 
 // Trace of a program that is accepted: 10, 12.
 fn trace_accepted(tape: &[u32], header: Header, position: u32) -> ExponentsAnswer
-    requires { acceptOutcome tape.now ≡ answered header }
-    ensures { exponentsOutcomeOf result ≡ traceOutcome tape.now position }
+    requires { accept_outcome tape.now ≡ answered header }
+    ensures { exponents_outcome_of result ≡ trace_outcome tape.now position }
 {
     if header.steps < position {
         return ExponentsAnswer::Refused(Refusal::Position);
@@ -66,8 +66,8 @@ fn trace_accepted(tape: &[u32], header: Header, position: u32) -> ExponentsAnswe
 
 // The table of a program that is accepted: 10, 12.
 fn table_accepted(tape: &[u32], header: Header, position: u32) -> TableAnswer
-    requires { acceptOutcome tape.now ≡ answered header }
-    ensures { tableOutcomeOf result ≡ tableOutcome tape.now position }
+    requires { accept_outcome tape.now ≡ answered header }
+    ensures { table_outcome_of result ≡ table_outcome tape.now position }
 {
     if header.steps < position {
         return TableAnswer::Refused(Refusal::Position);
@@ -83,9 +83,9 @@ fn cut_accepted<'a>(
     last: u32,
     number: &mut u32,
 ) -> &'a [u32]
-    requires { acceptOutcome tape.now ≡ answered header }
-    ensures result_value { result.now ≡ cutPart (cutOutcome tape.now first last) }
-    ensures number_after { number.new ≡ refusalNumber (cutOutcome tape.now first last) }
+    requires { accept_outcome tape.now ≡ answered header }
+    ensures result_value { result.now ≡ cut_part (cut_outcome tape.now first last) }
+    ensures number_after { number.new ≡ refusal_number (cut_outcome tape.now first last) }
 {
     if is_bad_cut(header.steps, first, last) {
         *number = refusal::number(Refusal::Position);
@@ -97,7 +97,7 @@ fn cut_accepted<'a>(
 
 // Refusal 10 in a cut: a position above the step count, or first above last.
 fn is_bad_cut(steps: u32, first: u32, last: u32) -> bool
-    ensures { result ≡ badCut steps first last }
+    ensures { result ≡ bad_cut steps first last }
 {
     if steps < first {
         return true;

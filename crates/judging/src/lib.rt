@@ -3,7 +3,7 @@ ghost use Rattle.std.specs.Prelude.{◌≡◌, cond, [], ◌∷◌, ◌++◌, �
 ghost use Rattle.text.specs.Text.{blank, newline};
 ghost use Rattle.text.specs.Rows.{Put};
 ghost use Rattle.program.specs.Same.{same_words};
-ghost use Rattle.scripting.specs.Script.{argumentsOf, isEquals, equalsIn, isCopied, verdict};
+ghost use Rattle.scripting.specs.Script.{arguments_of, is_equals, equals_in, is_copied, verdict};
 
 use putting::{put, put_then};
 use text::{BLANK, NEWLINE};
@@ -17,7 +17,7 @@ const EQUALS_BYTES: usize = 3;
 
 // An empty line, or one that begins with #.
 pub fn is_copied(line: &[u8]) -> bool
-    ensures { result ≡ isCopied line.now }
+    ensures { result ≡ is_copied line.now }
 {
     if line.len() == 0 {
         return true;
@@ -27,7 +27,7 @@ pub fn is_copied(line: &[u8]) -> bool
 
 // Where a blank, an equals sign and a blank first stand; past the line, where they don't.
 pub fn equals_in(line: &[u8]) -> usize
-    ensures { result ≡ equalsIn line.now }
+    ensures { result ≡ equals_in line.now }
 {
     let mut i: usize = 0;
     while i < line.len() {
@@ -41,7 +41,7 @@ pub fn equals_in(line: &[u8]) -> usize
 
 fn is_equals(line: &[u8], at: usize) -> bool
     requires { at < length line.now }
-    ensures { result ≡ isEquals (drop at line.now) }
+    ensures { result ≡ is_equals (drop at line.now) }
 {
     if line.len() - at < EQUALS_BYTES {
         return false;
@@ -107,7 +107,7 @@ fn is_line(text: &[u8], line: &[u8]) -> bool
 
 // A line as arguments, as many of its bytes as the row has room for: a zero byte for each blank.
 pub fn to_arguments(line: &[u8], row: &mut [u8]) -> usize
-    ensures { Put row.old 0 (argumentsOf line.now) result row.new }
+    ensures { Put row.old 0 (arguments_of line.now) result row.new }
 {
     let mut i: usize = 0;
     while i < line.len() {

@@ -4,8 +4,8 @@
 mod rows;
 
 ghost use Rattle.std.specs.Prelude.{◌≡◌, length};
-ghost use Rattle.tape.specs.Inner.Operations.{rawSteps, stepFor};
-ghost use Rattle.lanes.specs.Inner.Lanes.{Rows, Between, BasesIn, Stepped, AllStepped, Unloaded, throughLanes};
+ghost use Rattle.tape.specs.Inner.Operations.{raw_steps, step_for};
+ghost use Rattle.lanes.specs.Inner.Lanes.{Rows, Between, BasesIn, Stepped, AllStepped, Unloaded, through_lanes};
 
 use decoding::operation_of;
 use montgomery::{Modulus, enter, invert, leave};
@@ -21,7 +21,7 @@ const BASES: usize = 1;
 // The steps that some words have in their digits, done on (1, a, 1, 1) for each base a; what is in register 1 then comes in the base's
 // place. A row of more bases than there are lanes stays as it is.
 pub fn run_lanes(words: &[u32], m: Modulus, bases: &mut [u32])
-    ensures { bases.new ≡ throughLanes m (rawSteps words.now) bases.old }
+    ensures { bases.new ≡ through_lanes m (raw_steps words.now) bases.old }
 {
     if LANES < bases.len() {
         return;
@@ -50,7 +50,7 @@ fn load_lanes(m: Modulus, bases: &[u32], rows: &mut [u32])
 // The steps of some words, from the first to the last, in the first `count` lanes.
 fn do_lanes(words: &[u32], m: Modulus, count: usize, rows: &mut [u32])
     requires { Rows count rows.old }
-    ensures { AllStepped m (rawSteps words.now) count rows.old rows.new }
+    ensures { AllStepped m (raw_steps words.now) count rows.old rows.new }
 {
     let mut i: usize = 0;
     while i < words.len() {
@@ -62,7 +62,7 @@ fn do_lanes(words: &[u32], m: Modulus, count: usize, rows: &mut [u32])
 // A step in the first `count` lanes. A division multiplies a register by the inverse of the other, and its inverse by the other.
 fn step_lanes(op: Operation, m: Modulus, count: usize, rows: &mut [u32])
     requires { Rows count rows.old × Between op }
-    ensures { Stepped m (stepFor op) count rows.old rows.new }
+    ensures { Stepped m (step_for op) count rows.old rows.new }
 {
     let t = op.target as usize;
     let s = op.source as usize;

@@ -1,6 +1,6 @@
 // A tape laid out in a lent buffer: every word but the steps'.
 ghost use Rattle.std.specs.Prelude.{◌≡◌, length};
-ghost use Rattle.tape.specs.Layout.{wordCount, numbersFit, layBegin, laidBuffer};
+ghost use Rattle.tape.specs.Layout.{word_count, numbers_fit, lay_begin, laid_buffer};
 
 use tape::{FORMAT, FORMATS, HEADER_WORDS, Header, NUMBER_LIMIT, OTHER_WORDS};
 
@@ -9,7 +9,7 @@ const VARIANT_LIMIT: u32 = 16;
 
 // How many words the tape of a header has.
 pub fn word_count(header: Header) -> usize
-    ensures { result ≡ wordCount header }
+    ensures { result ≡ word_count header }
 {
     header.steps as usize + OTHER_WORDS
 }
@@ -17,8 +17,8 @@ pub fn word_count(header: Header) -> usize
 // Lays a tape out: writes the words before the steps and the word past them, and answers the index of the first step's word. Where
 // the buffer is too short or a number doesn't fit its word, it writes nothing and answers 0.
 pub fn lay_out(buffer: &mut [u32], header: Header) -> usize
-    ensures value { result ≡ layBegin header (length buffer.old) }
-    ensures buffer_after { buffer.new ≡ laidBuffer header buffer.old }
+    ensures value { result ≡ lay_begin header (length buffer.old) }
+    ensures buffer_after { buffer.new ≡ laid_buffer header buffer.old }
 {
     if buffer.len() < word_count(header) {
         return 0;
@@ -36,7 +36,7 @@ pub fn lay_out(buffer: &mut [u32], header: Header) -> usize
 
 // Each number fits its word.
 fn numbers_fit(h: Header) -> bool
-    ensures { result ≡ numbersFit h }
+    ensures { result ≡ numbers_fit h }
 {
     if VARIANT_LIMIT <= h.variant {
         return false;

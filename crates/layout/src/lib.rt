@@ -2,7 +2,7 @@
 mod rules;
 
 ghost use Rattle.std.specs.Prelude.{◌≡◌};
-ghost use Rattle.tape.specs.Layout.{headerOutcome, readOutcome, headerOutcomeOf};
+ghost use Rattle.tape.specs.Layout.{header_outcome, read_outcome, header_outcome_of};
 
 use parts::steps;
 use refusal::Refusal;
@@ -11,7 +11,7 @@ use tape::HeaderAnswer;
 
 // Reads what a tape's header holds, without a test of the layout: 6.
 pub fn read_header(tape: &[u32]) -> HeaderAnswer
-    ensures { headerOutcomeOf result ≡ headerOutcome tape.now }
+    ensures { header_outcome_of result ≡ header_outcome tape.now }
 {
     if !is_length(tape) {
         return HeaderAnswer::Refused(Refusal::Length);
@@ -21,7 +21,7 @@ pub fn read_header(tape: &[u32]) -> HeaderAnswer
 
 // Reads a tape's header and tests its layout: 6, 7.
 pub fn read(tape: &[u32]) -> HeaderAnswer
-    ensures { headerOutcomeOf result ≡ readOutcome tape.now }
+    ensures { header_outcome_of result ≡ read_outcome tape.now }
 {
     if !is_length(tape) {
         return HeaderAnswer::Refused(Refusal::Length);

@@ -1,14 +1,14 @@
 // The rules of the layout, each tested by itself, and the header that a tape gives.
 ghost use Rattle.std.specs.Prelude.{◌≡◌, ◌≤◌, length};
 ghost use Rattle.tape.specs.Words.{decoded};
-ghost use Rattle.tape.specs.Layout.{maxWords, stepCount, end_at, sortOf, value_of, meansAt, headerOf, isLength, isHeader, isFreeOrNamed, allSteps, isEnd};
+ghost use Rattle.tape.specs.Layout.{max_words, step_count, end_at, sort_of, value_of, means_at, header_of, is_length, is_header, is_free_or_named, all_steps, is_end};
 
 use decoding::{decode, is_step};
 use tape::{Decoded, HEADER_WORDS, Header, MAX_WORDS, OTHER_WORDS};
 
 // 5 to 512 words.
 pub(crate) fn is_length(tape: &[u32]) -> bool
-    ensures { result ≡ isLength tape.now }
+    ensures { result ≡ is_length tape.now }
 {
     if tape.len() < OTHER_WORDS {
         return false;
@@ -18,7 +18,7 @@ pub(crate) fn is_length(tape: &[u32]) -> bool
 
 // Words of kind 1, 2, 3, 4 come first, in that order.
 pub(crate) fn is_header(tape: &[u32]) -> bool
-    ensures { result ≡ isHeader tape.now }
+    ensures { result ≡ is_header tape.now }
 {
     if sort_of(means_at(tape, 0)) != 1 {
         return false;
@@ -34,8 +34,8 @@ pub(crate) fn is_header(tape: &[u32]) -> bool
 
 // What a tape gives beside its steps.
 pub(crate) fn header_of(tape: &[u32]) -> Header
-    requires { length tape.now ≤ maxWords }
-    ensures { result ≡ headerOf tape.now }
+    requires { length tape.now ≤ max_words }
+    ensures { result ≡ header_of tape.now }
 {
     Header {
         variant: value_of(means_at(tape, 0)),
@@ -48,7 +48,7 @@ pub(crate) fn header_of(tape: &[u32]) -> Header
 
 // A free program has 0 for r and k.
 pub(crate) fn is_free_or_named(h: Header) -> bool
-    ensures { result ≡ isFreeOrNamed h }
+    ensures { result ≡ is_free_or_named h }
 {
     if h.variant != 0 {
         return true;
@@ -61,7 +61,7 @@ pub(crate) fn is_free_or_named(h: Header) -> bool
 
 // Each of the words is a step's.
 pub(crate) fn are_steps(words: &[u32]) -> bool
-    ensures { result ≡ allSteps words.now }
+    ensures { result ≡ all_steps words.now }
 {
     let mut i: usize = 0;
     while i < words.len() {
@@ -75,7 +75,7 @@ pub(crate) fn are_steps(words: &[u32]) -> bool
 
 // The word past the steps is the end, with their count.
 pub(crate) fn is_end(tape: &[u32]) -> bool
-    ensures { result ≡ isEnd (stepCount tape.now) (decoded (end_at tape.now)) }
+    ensures { result ≡ is_end (step_count tape.now) (decoded (end_at tape.now)) }
 {
     let count = step_count(tape);
     let end = means_at(tape, HEADER_WORDS + count);
@@ -87,7 +87,7 @@ pub(crate) fn is_end(tape: &[u32]) -> bool
 
 // The count of steps that a tape of this length has room for.
 fn step_count(tape: &[u32]) -> usize
-    ensures { result ≡ stepCount tape.now }
+    ensures { result ≡ step_count tape.now }
 {
     if tape.len() < OTHER_WORDS {
         return 0;
@@ -97,7 +97,7 @@ fn step_count(tape: &[u32]) -> usize
 
 // What the word at an index means; past the tape, nothing.
 pub(crate) fn means_at(tape: &[u32], i: usize) -> Decoded
-    ensures { result ≡ meansAt tape.now i }
+    ensures { result ≡ means_at tape.now i }
 {
     if tape.len() <= i {
         return Decoded::Bad;
@@ -107,7 +107,7 @@ pub(crate) fn means_at(tape: &[u32], i: usize) -> Decoded
 
 // The kind of word that a meaning is of; 5 for every step, 0 for none.
 pub(crate) fn sort_of(d: Decoded) -> u32
-    ensures { result ≡ sortOf d }
+    ensures { result ≡ sort_of d }
 {
     match d {
         Decoded::Heading(_) => 1,

@@ -1,6 +1,6 @@
 // Lines of numbers, put into a lent buffer.
 ghost use Rattle.std.specs.Prelude.{◌+◌, ◌*◌, ◌≤◌, length};
-ghost use Rattle.text.specs.Text.{decimal, numberLine, numbersLine};
+ghost use Rattle.text.specs.Text.{decimal, number_line, numbers_line};
 ghost use Rattle.text.specs.Rows.{Put};
 
 use putting::{put_byte, put_number, put_number_then};
@@ -8,16 +8,16 @@ use text::{BLANK, NEWLINE};
 
 // A number on a line of its own.
 pub fn number_line(buffer: &mut [u8], at: usize, n: u64) -> usize
-    ensures put { Put buffer.old at (numberLine n) result buffer.new }
-    ensures n_len_bound { length (numberLine n) ≤ 21 }
+    ensures put { Put buffer.old at (number_line n) result buffer.new }
+    ensures n_len_bound { length (number_line n) ≤ 21 }
 {
     put_number_then(buffer, at, n, NEWLINE)
 }
 
 // Numbers on one line.
 pub fn numbers_line(buffer: &mut [u8], at: usize, values: &[u32]) -> usize
-    ensures put { Put buffer.old at (numbersLine values.now) result buffer.new }
-    ensures values_len_bound { length (numbersLine values.now) ≤ 11 * length values.now + 1 }
+    ensures put { Put buffer.old at (numbers_line values.now) result buffer.new }
+    ensures values_len_bound { length (numbers_line values.now) ≤ 11 * length values.now + 1 }
 {
     if values.len() == 0 {
         return put_byte(buffer, at, NEWLINE);
@@ -34,8 +34,8 @@ pub fn numbers_line(buffer: &mut [u8], at: usize, values: &[u32]) -> usize
 
 // Bytes' numbers on one line.
 pub fn bytes_line(buffer: &mut [u8], at: usize, values: &[u8]) -> usize
-    ensures put { Put buffer.old at (numbersLine values.now) result buffer.new }
-    ensures values_len_bound { length (numbersLine values.now) ≤ 4 * length values.now + 1 }
+    ensures put { Put buffer.old at (numbers_line values.now) result buffer.new }
+    ensures values_len_bound { length (numbers_line values.now) ≤ 4 * length values.now + 1 }
 {
     if values.len() == 0 {
         return put_byte(buffer, at, NEWLINE);

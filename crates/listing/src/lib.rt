@@ -10,5 +10,5 @@ pub struct Listed {
     pub number: u32,
 }
 
-// The most bytes of a listing (`tape-listing-most`).
+// The most bytes of a listing (`tape_listing_most`).
 pub const MAX_WRITTEN: usize = 47 + LONGEST_NAME + 12 * MAX_STEPS;

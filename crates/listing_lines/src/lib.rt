@@ -1,11 +1,11 @@
 // The lines of a listing. Each function writes from `at` on and answers the index past what it wrote.
 ghost use Rattle.std.specs.Prelude.{[], ◌∷◌, ◌++◌};
 ghost use Rattle.tape.specs.Steps.{Distinct, Sound};
-ghost use Rattle.tape.specs.Layout.{stepsIn};
+ghost use Rattle.tape.specs.Layout.{steps_in};
 ghost use Rattle.text.specs.Text.{decimal, blank, line};
 ghost use Rattle.text.specs.Rows.{Put};
-ghost use Rattle.named.specs.Named.{variantName};
-ghost use Rattle.listing.specs.Listing.{refusedLine, firstLine, stepLine, stepLines};
+ghost use Rattle.named.specs.Named.{variant_name};
+ghost use Rattle.listing.specs.Listing.{refused_line, first_line, step_line, step_lines};
 
 use decoding::nth_step;
 use named::VARIANT_NAMES;
@@ -32,7 +32,7 @@ const SWP: [u8; 3] = *b"swp";
 
 // The line of a refusal, with its number.
 pub fn refused_line(buffer: &mut [u8], at: usize, n: u32) -> usize
-    ensures { Put buffer.old at (refusedLine n) result buffer.new }
+    ensures { Put buffer.old at (refused_line n) result buffer.new }
 {
     let b = put_then(buffer, at, &REFUSED, BLANK);
     put_number_then(buffer, b, n as u64, NEWLINE)
@@ -40,7 +40,7 @@ pub fn refused_line(buffer: &mut [u8], at: usize, n: u32) -> usize
 
 // The first line: the variant's name, p, r, k and the step count.
 pub fn first_line(buffer: &mut [u8], at: usize, header: Header) -> usize
-    ensures { Put buffer.old at (firstLine header) result buffer.new }
+    ensures { Put buffer.old at (first_line header) result buffer.new }
 {
     let b = variant_name(buffer, at, header.variant);
     let c = labelled(buffer, b, &P, header.modulus, BLANK);
@@ -51,7 +51,7 @@ pub fn first_line(buffer: &mut [u8], at: usize, header: Header) -> usize
 
 // A line for each step, numbered from 1.
 pub fn step_lines(buffer: &mut [u8], at: usize, words: &[u32]) -> usize
-    ensures { Put buffer.old at (stepLines 1 (stepsIn words.now)) result buffer.new }
+    ensures { Put buffer.old at (step_lines 1 (steps_in words.now)) result buffer.new }
 {
     let mut next = at;
     let mut i: usize = 0;
@@ -65,7 +65,7 @@ pub fn step_lines(buffer: &mut [u8], at: usize, words: &[u32]) -> usize
 // A step's line.
 fn step_line(buffer: &mut [u8], at: usize, n: u64, step: Step) -> usize
     requires { Sound step }
-    ensures { Put buffer.old at (stepLine n step) result buffer.new }
+    ensures { Put buffer.old at (step_line n step) result buffer.new }
 {
     let b = put_count(buffer, at, n);
     let c = put_byte(buffer, b, BLANK);
@@ -120,7 +120,7 @@ fn put_name(buffer: &mut [u8], at: usize, name: [u8; 3]) -> usize
 
 // The name of a variant, and a blank.
 fn variant_name(buffer: &mut [u8], at: usize, variant: u32) -> usize
-    ensures { Put buffer.old at (variantName variant ++ blank ∷ []) result buffer.new }
+    ensures { Put buffer.old at (variant_name variant ++ blank ∷ []) result buffer.new }
 {
     put_then(
         buffer,

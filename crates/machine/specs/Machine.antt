@@ -23,28 +23,28 @@ apply p (Div t s) v = set v t (times p (reg v t) (inverse p (reg v s)))
 apply p (Swp t s) v = set (set v t (reg v s)) s (reg v t)
 
 -- undone, mul is div, div is mul, swp is swp
-unfoldable pub inverseStep : Step → Step
-inverseStep (Mul t s) = Div t s
-inverseStep (Div t s) = Mul t s
-inverseStep (Swp t s) = Swp t s
+unfoldable pub inverse_step : Step → Step
+inverse_step (Mul t s) = Div t s
+inverse_step (Div t s) = Mul t s
+inverse_step (Swp t s) = Swp t s
 
 -- the steps of a list done one after another, and undone from the last to the first
-unfoldable pub doAll : ℕ → List Step → List ℕ → List ℕ
-doAll p [] v = v
-doAll p (x ∷ xs) v = doAll p xs (apply p x v)
+unfoldable pub do_all : ℕ → List Step → List ℕ → List ℕ
+do_all p [] v = v
+do_all p (x ∷ xs) v = do_all p xs (apply p x v)
 
-unfoldable pub undoAll : ℕ → List Step → List ℕ → List ℕ
-undoAll p [] v = v
-undoAll p (x ∷ xs) v = apply p (inverseStep x) (undoAll p xs v)
+unfoldable pub undo_all : ℕ → List Step → List ℕ → List ℕ
+undo_all p [] v = v
+undo_all p (x ∷ xs) v = apply p (inverse_step x) (undo_all p xs v)
 
 -- From position i to position j: the steps numbered i + 1 to j done, or those numbered j + 1 to i undone.
 unfoldable pub run : ℕ → List Step → ℕ → ℕ → List ℕ → List ℕ
-run p xs i j v = cond (leb i j) (doAll p (slice i j xs) v) (undoAll p (slice j i xs) v)
+run p xs i j v = cond (leb i j) (do_all p (slice i j xs) v) (undo_all p (slice j i xs) v)
 
 -- a list of steps taken back: the opposite steps in reverse order
 unfoldable pub inverted : List Step → List Step
 inverted [] = []
-inverted (x ∷ xs) = inverted xs ++ inverseStep x ∷ []
+inverted (x ∷ xs) = inverted xs ++ inverse_step x ∷ []
 
 -- four residues
 pub record Residues (p : ℕ) (v : List ℕ) : Type 0 where

@@ -11,29 +11,29 @@ unfoldable pub way : List Step → ℕ → ℕ → List Step
 way xs i j = cond (leb i j) (slice i j xs) (inverted (slice j i xs))
 
 -- how many steps pass a test
-unfoldable pub countWhere : (Step → Bool) → List Step → ℕ
-countWhere test [] = 0
-countWhere test (x ∷ xs) = cond (test x) (suc (countWhere test xs)) (countWhere test xs)
+unfoldable pub count_where : (Step → Bool) → List Step → ℕ
+count_where test [] = 0
+count_where test (x ∷ xs) = cond (test x) (suc (count_where test xs)) (count_where test xs)
 
-unfoldable pub isMul : Step → Bool
-isMul (Mul t s) = true
-isMul (Div t s) = false
-isMul (Swp t s) = false
+unfoldable pub is_mul : Step → Bool
+is_mul (Mul t s) = true
+is_mul (Div t s) = false
+is_mul (Swp t s) = false
 
-unfoldable pub isDiv : Step → Bool
-isDiv (Mul t s) = false
-isDiv (Div t s) = true
-isDiv (Swp t s) = false
+unfoldable pub is_div : Step → Bool
+is_div (Mul t s) = false
+is_div (Div t s) = true
+is_div (Swp t s) = false
 
-unfoldable pub isSwp : Step → Bool
-isSwp (Mul t s) = false
-isSwp (Div t s) = false
-isSwp (Swp t s) = true
+unfoldable pub is_swp : Step → Bool
+is_swp (Mul t s) = false
+is_swp (Div t s) = false
+is_swp (Swp t s) = true
 
 -- how many are mul, div and swp, in this order
-unfoldable pub countsOf : List Step → List ℕ
-countsOf xs = countWhere isMul xs ∷ countWhere isDiv xs ∷ countWhere isSwp xs ∷ []
+unfoldable pub counts_of : List Step → List ℕ
+counts_of xs = count_where is_mul xs ∷ count_where is_div xs ∷ count_where is_swp xs ∷ []
 
 -- the three numbers of the code's `Counts`, in the same order
-abbrev pub countNumbers : Counts → List ℕ
-countNumbers counts = counts.mul ∷ counts.div ∷ counts.swp ∷ []
+abbrev pub count_numbers : Counts → List ℕ
+count_numbers counts = counts.mul ∷ counts.div ∷ counts.swp ∷ []

@@ -1,7 +1,7 @@
 // What a tape's word means.
 ghost use Rattle.std.specs.Prelude.{[], ◌∷◌, ◌≤◌, length};
 ghost use Rattle.text.specs.Text.{decimal, line};
-ghost use Rattle.tool.specs.Texts.{stepMeaning, meaning};
+ghost use Rattle.tool.specs.Texts.{step_meaning, meaning};
 ghost use Rattle.tool.specs.Replies.{answers};
 ghost use Rattle.tool.specs.Rows.{Told};
 
@@ -26,7 +26,7 @@ pub fn meaning(buffer: &mut [u8], word: Decoded) -> Reply
 }
 
 fn step_meaning(buffer: &mut [u8], step: Step) -> Reply
-    ensures { Told buffer.old (answers (stepMeaning step)) result buffer.new }
+    ensures { Told buffer.old (answers (step_meaning step)) result buffer.new }
 {
     match step {
         Step::Mul(target, source) => two(buffer, b"mul", target, source),

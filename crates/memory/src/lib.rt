@@ -1,12 +1,12 @@
 // Between the caller's memory and the services' values: an answer is stored and 0 comes back, a refusal stores nothing and its number
 // comes back.
 ghost use Rattle.std.specs.Prelude.{◌≡◌};
-ghost use Rattle.refusal.specs.Outcomes.{numberOutcomeOf, refusalNumber, after};
+ghost use Rattle.refusal.specs.Outcomes.{number_outcome_of, refusal_number, after};
 ghost use Rattle.fibonacci.specs.Services.{bit};
-ghost use Rattle.machine.specs.Exponents.{exponentsOutcomeOf};
-ghost use Rattle.tables.specs.Tables.{tableOutcomeOf, listOutcome};
-ghost use Rattle.sequencer.specs.Records.{rowOutcome, recordIn, recordOf, stateOutcomeOf};
-ghost use Rattle.sequencer.specs.Previews.{registersOutcome, countsOutcome, previewOutcomeOf};
+ghost use Rattle.machine.specs.Exponents.{exponents_outcome_of};
+ghost use Rattle.tables.specs.Tables.{table_outcome_of, list_outcome};
+ghost use Rattle.sequencer.specs.Records.{row_outcome, record_in, record_of, state_outcome_of};
+ghost use Rattle.sequencer.specs.Previews.{registers_outcome, counts_outcome, preview_outcome_of};
 
 use machine::{ExponentsAnswer, Registers};
 use refusal::NumberAnswer;
@@ -15,7 +15,7 @@ use tables::TableAnswer;
 
 // The number of a service whose answer is stored nowhere.
 pub fn number_of(answer: NumberAnswer) -> u32
-    ensures { result ≡ refusalNumber (numberOutcomeOf answer) }
+    ensures { result ≡ refusal_number (number_outcome_of answer) }
 {
     match answer {
         NumberAnswer::Answered(accepted) => 0,
@@ -34,8 +34,8 @@ pub fn bit(truth: bool) -> u32
 }
 
 pub fn store_u64(answer: NumberAnswer, place: &mut u64) -> u32
-    ensures value { result ≡ refusalNumber (numberOutcomeOf answer) }
-    ensures place_after { place.new ≡ after (numberOutcomeOf answer) place.old }
+    ensures value { result ≡ refusal_number (number_outcome_of answer) }
+    ensures place_after { place.new ≡ after (number_outcome_of answer) place.old }
 {
     match answer {
         NumberAnswer::Answered(x) => {
@@ -47,8 +47,8 @@ pub fn store_u64(answer: NumberAnswer, place: &mut u64) -> u32
 }
 
 pub fn store_record(answer: StateAnswer, row: &mut [u32; 5]) -> u32
-    ensures value { result ≡ refusalNumber (stateOutcomeOf answer) }
-    ensures row_after { row.new ≡ after (rowOutcome (stateOutcomeOf answer)) row.old }
+    ensures value { result ≡ refusal_number (state_outcome_of answer) }
+    ensures row_after { row.new ≡ after (row_outcome (state_outcome_of answer)) row.old }
 {
     match answer {
         StateAnswer::Answered(state) => {
@@ -61,9 +61,9 @@ pub fn store_record(answer: StateAnswer, row: &mut [u32; 5]) -> u32
 }
 
 pub fn store_preview(answer: PreviewAnswer, registers: &mut [u32; 4], counts: &mut [u32; 3]) -> u32
-    ensures value { result ≡ refusalNumber (previewOutcomeOf answer) }
-    ensures registers_after { registers.new ≡ after (registersOutcome (previewOutcomeOf answer)) registers.old }
-    ensures counts_after { counts.new ≡ after (countsOutcome (previewOutcomeOf answer)) counts.old }
+    ensures value { result ≡ refusal_number (preview_outcome_of answer) }
+    ensures registers_after { registers.new ≡ after (registers_outcome (preview_outcome_of answer)) registers.old }
+    ensures counts_after { counts.new ≡ after (counts_outcome (preview_outcome_of answer)) counts.old }
 {
     match answer {
         PreviewAnswer::Answered(preview) => {
@@ -78,8 +78,8 @@ pub fn store_preview(answer: PreviewAnswer, registers: &mut [u32; 4], counts: &m
 }
 
 pub fn store_exponents(answer: ExponentsAnswer, row: &mut [i64; 4]) -> u32
-    ensures value { result ≡ refusalNumber (exponentsOutcomeOf answer) }
-    ensures row_after { row.new ≡ after (exponentsOutcomeOf answer) row.old }
+    ensures value { result ≡ refusal_number (exponents_outcome_of answer) }
+    ensures row_after { row.new ≡ after (exponents_outcome_of answer) row.old }
 {
     match answer {
         ExponentsAnswer::Answered(x) => {
@@ -91,8 +91,8 @@ pub fn store_exponents(answer: ExponentsAnswer, row: &mut [i64; 4]) -> u32
 }
 
 pub fn store_table(answer: TableAnswer, row: &mut [i64; 16]) -> u32
-    ensures value { result ≡ refusalNumber (tableOutcomeOf answer) }
-    ensures row_after { row.new ≡ after (listOutcome (tableOutcomeOf answer)) row.old }
+    ensures value { result ≡ refusal_number (table_outcome_of answer) }
+    ensures row_after { row.new ≡ after (list_outcome (table_outcome_of answer)) row.old }
 {
     match answer {
         TableAnswer::Answered(x) => {
@@ -108,7 +108,7 @@ pub fn store_table(answer: TableAnswer, row: &mut [i64; 16]) -> u32
 
 // The record that a row of five holds. It comes by value, because the length of an array behind a reference isn't known to a proof.
 pub fn record_in(row: [u32; 5]) -> State
-    ensures { recordOf result ≡ recordIn row }
+    ensures { record_of result ≡ record_in row }
 {
     State {
         registers: Registers {

@@ -2,7 +2,7 @@
 use Rattle.std.specs.Prelude.{◌≡◌, Bool, ◌&&◌, ◌||◌, [], ◌∷◌, ℕ, ◌*◌, ◌-◌, ◌%◌, ◌≤◌, ◌<◌, leb, ltb, eqb}
 use Rattle.std.specs.Int.{◌∣◌}
 use Rattle.refusal.specs.declared.Refusal.TheVariants.{Order, Exponent}
-use Rattle.refusal.specs.Outcomes.{Outcome, outcome, ◌given-if◌}
+use Rattle.refusal.specs.Outcomes.{Outcome, outcome, ◌given_if◌}
 use Rattle.divisors.specs.Search.{greatest, divides}
 
 -- no factor above 1 is shared
@@ -24,14 +24,14 @@ unfoldable pub inverse : ℕ → ℕ → ℕ
 inverse m x = greatest (λ (y : ℕ). eqb (x * y % m) 1) (m - 1)
 
 -- refusal 3: k is not from 1 to r - 1, or shares a factor above 1 with r
-unfoldable pub badExponent : ℕ → ℕ → Bool
-badExponent k r = eqb k 0 || leb r k || ltb 1 (gcd k r)
+unfoldable pub bad_exponent : ℕ → ℕ → Bool
+bad_exponent k r = eqb k 0 || leb r k || ltb 1 (gcd k r)
 
 -- the inverse service
-unfoldable pub inverseOutcome : ℕ → ℕ → Outcome ℕ
-inverseOutcome k r =
+unfoldable pub inverse_outcome : ℕ → ℕ → Outcome ℕ
+inverse_outcome k r =
     outcome
-    ((Order given-if ltb r 2)
-    ∷ (Exponent given-if badExponent k r)
+    ((Order given_if ltb r 2)
+    ∷ (Exponent given_if bad_exponent k r)
     ∷ [])
     (inverse r k)

@@ -1,4 +1,4 @@
--- Prime numbers: what one is, and the test that decides it (`prime-test` and `test-prime` of proofs/Laws/Primes say that they agree).
+-- Prime numbers: what one is, and the test that decides it (`prime_test` and `test_prime` of proofs/Laws/Primes say that they agree).
 use Rattle.std.specs.Prelude.{Bool, ◌&&◌, ℕ, ◌-◌, ◌≤◌, ◌<◌, leb, eqb}
 use Rattle.std.specs.Int.{◌∣◌}
 use Rattle.divisors.specs.Search.{greatest, divides}
@@ -9,5 +9,5 @@ pub record Prime (p : ℕ) : Type 0 where
   pub only : (d : ℕ) → 1 < d → d < p → ¬ (d ∣ p)
 
 -- at least 2, and the greatest number below p that divides it is 1
-unfoldable pub isPrime : ℕ → Bool
-isPrime p = leb 2 p && eqb (greatest (λ (d : ℕ). divides d p) (p - 1)) 1
+unfoldable pub is_prime : ℕ → Bool
+is_prime p = leb 2 p && eqb (greatest (λ (d : ℕ). divides d p) (p - 1)) 1

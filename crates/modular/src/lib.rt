@@ -1,9 +1,9 @@
 // Arithmetic modulo m on 32-bit numbers, for every m: products, primes and inverses.
 ghost use Rattle.std.specs.Prelude.{◌≡◌, ◌*◌};
-ghost use Rattle.refusal.specs.Outcomes.{numberOutcomeOf};
+ghost use Rattle.refusal.specs.Outcomes.{number_outcome_of};
 ghost use Rattle.modular.specs.Residues.{remainder};
-ghost use Rattle.modular.specs.Primes.{isPrime};
-ghost use Rattle.modular.specs.Inverses.{inverse, inverseOutcome};
+ghost use Rattle.modular.specs.Primes.{is_prime};
+ghost use Rattle.modular.specs.Inverses.{inverse, inverse_outcome};
 
 use refusal::{NumberAnswer, Refusal};
 
@@ -22,7 +22,7 @@ const TABLE_FROM: u32 = 65536;
 
 // Whether p is prime: 2 and 3, then each 6i - 1 and 6i + 1 up to the square root, of which the table has those up to 2^14.
 pub fn is_prime(p: u32) -> bool
-    ensures { result ≡ isPrime p }
+    ensures { result ≡ is_prime p }
 {
     if p < 2 {
         return false;
@@ -87,7 +87,7 @@ pub fn inverse_or_zero(x: u32, m: u32) -> u32
 
 // The inverse service.
 pub fn inverse(k: u32, r: u32) -> NumberAnswer
-    ensures { numberOutcomeOf result ≡ inverseOutcome k r }
+    ensures { number_outcome_of result ≡ inverse_outcome k r }
 {
     if r < 2 {
         return NumberAnswer::Refused(Refusal::Order);

@@ -1,7 +1,7 @@
 // Products modulo an odd number without a division, by Montgomery's form: x stands as x × 2^32, and a reduction divides by 2^32.
 ghost use Rattle.std.specs.Prelude.{◌≡◌, ◌^◌};
 ghost use Rattle.modular.specs.Residues.{remainder};
-ghost use Rattle.montgomery.specs.Inner.Forms.{IsModulus, squareOf, lift, reduction, formTimes, enter, leave, formInverse};
+ghost use Rattle.montgomery.specs.Inner.Forms.{IsModulus, square_of, lift, reduction, form_times, enter, leave, form_inverse};
 ghost use Rattle.montgomery.specs.Inner.Squaring.{FormPower};
 
 use modular::{inverse_or_zero, product};
@@ -44,14 +44,14 @@ pub fn leave(m: Modulus, x: u32) -> u32
 
 // The product of two numbers in the form.
 pub fn multiply(m: Modulus, x: u32, y: u32) -> u32
-    ensures { result ≡ formTimes m x y }
+    ensures { result ≡ form_times m x y }
 {
     reduced(m, (x as u64) * (y as u64))
 }
 
 // The inverse of a number in the form; the form of 0 where there is none.
 pub fn invert(m: Modulus, x: u32) -> u32
-    ensures { result ≡ formInverse m x }
+    ensures { result ≡ form_inverse m x }
 {
     enter(m, inverse_or_zero(leave(m, x), m.value))
 }
@@ -114,7 +114,7 @@ fn lifted(p: u32, v: u32) -> u32
 
 // 2^64 modulo p, from 1 to p; modulo 0 it is 1.
 fn square_of(p: u32) -> u32
-    ensures { result ≡ squareOf p }
+    ensures { result ≡ square_of p }
 {
     if p == 0 {
         return 1;

@@ -4,7 +4,7 @@ use Rattle.fibonacci.specs.Forms.{pad}
 use Rattle.tape.specs.declared.Step.{Step}
 use Rattle.tape.specs.declared.Step.TheVariants.{Mul, Swp}
 use Rattle.modular.specs.Residues.{Residue}
-use Rattle.machine.specs.Machine.{inverted, doAll, undoAll, start}
+use Rattle.machine.specs.Machine.{inverted, do_all, undo_all, start}
 use Rattle.named.specs.declared.Figure.{Figure}
 use Rattle.named.specs.declared.Figure.TheVariants.{Two, Four, Six}
 
@@ -33,13 +33,13 @@ abbrev pub chain : ℕ → List Step
 chain n = ascend (pad n []) []
 
 -- a place coming down: mul 2 0 where it is set, then mul 1 2, swp 1 2
-abbrev pub downSteps : Bool → List Step
-downSteps b = select b (Mul 2 0) (Mul 1 2 ∷ Swp 1 2 ∷ [])
+abbrev pub down_steps : Bool → List Step
+down_steps b = select b (Mul 2 0) (Mul 1 2 ∷ Swp 1 2 ∷ [])
 
 -- Coming down, from the highest place.
 unfoldable pub descend : List Bool → List Step
 descend [] = []
-descend (b ∷ bs) = descend bs ++ downSteps b
+descend (b ∷ bs) = descend bs ++ down_steps b
 
 -- Figure 2: up the form of k and the chain back; swap; the chain up and the form of K back
 unfoldable pub basic : List Bool → List Bool → List Step
@@ -60,11 +60,11 @@ pub record Forms : Type 0 where
   pub first : List Bool
   pub beside : List Bool
   pub last : List Bool
-  pub besideLast : List Bool
+  pub beside_last : List Bool
 
 -- a first and a last form with nothing beside them
 abbrev pub lone : Figure → List Bool → List Bool → Forms
-lone figure first last = record { figure = figure; first = first; beside = []; last = last; besideLast = [] }
+lone figure first last = record { figure = figure; first = first; beside = []; last = last; beside_last = [] }
 
 -- the steps that a figure draws from forms
 unfoldable pub drawn : Figure → List Bool → List Bool → List Bool → List Bool → List Step
@@ -73,19 +73,19 @@ drawn Four ss ts Ss Ts = dual ss ts Ss Ts
 drawn Six vs none Ks none' = hybrid vs Ks
 
 abbrev pub generated : Forms → List Step
-generated f = drawn f.figure f.first f.beside f.last f.besideLast
+generated f = drawn f.figure f.first f.beside f.last f.beside_last
 
--- how many they are (`generated-count` of proofs/Laws/Lengths), by the lengths of the first and the last form and how many places
+-- how many they are (`generated_count` of proofs/Laws/Lengths), by the lengths of the first and the last form and how many places
 -- are set in all
-abbrev pub stepsFrom : Figure → ℕ → ℕ → ℕ → ℕ
-stepsFrom Two m n ones = 4 * m + 4 * n + 1 + ones
-stepsFrom Four m n ones = 2 * m + 2 * n + 2 + ones
-stepsFrom Six m n ones = 2 * m + 2 * n + 3 + ones
+abbrev pub steps_from : Figure → ℕ → ℕ → ℕ → ℕ
+steps_from Two m n ones = 4 * m + 4 * n + 1 + ones
+steps_from Four m n ones = 2 * m + 2 * n + 2 + ones
+steps_from Six m n ones = 2 * m + 2 * n + 3 + ones
 
 -- The steps raise to the k-th power: they take (1, a, 1, 1) to (1, a^k, 1, 1) for every a from 1 to p - 1 with a^r = 1 modulo p.
 abbrev pub Raises : ℕ → ℕ → ℕ → List Step → Type 0
-Raises p r k xs = (a : ℕ) → Residue p a → a ^ r % p ≡ 1 → doAll p xs (start a) ≡ start (a ^ k % p)
+Raises p r k xs = (a : ℕ) → Residue p a → a ^ r % p ≡ 1 → do_all p xs (start a) ≡ start (a ^ k % p)
 
 -- Undone, they take (1, b, 1, 1) to (1, b^K, 1, 1), for every b from 1 to p - 1 with b^r = 1 modulo p.
 abbrev pub UndoneRaises : ℕ → ℕ → ℕ → List Step → Type 0
-UndoneRaises p r K xs = (b : ℕ) → Residue p b → b ^ r % p ≡ 1 → undoAll p xs (start b) ≡ start (b ^ K % p)
+UndoneRaises p r K xs = (b : ℕ) → Residue p b → b ^ r % p ≡ 1 → undo_all p xs (start b) ≡ start (b ^ K % p)

@@ -2,12 +2,12 @@
 use Rattle.std.specs.Prelude.{◌≡◌, Bool, true, List, [], ◌∷◌, map, ℕ, ◌≤◌, ◌<◌, length}
 use Rattle.modular.specs.Primes.{Prime}
 use Rattle.modular.specs.Inverses.{inverse}
-use Rattle.fibonacci.specs.Services.{lastPlace}
+use Rattle.fibonacci.specs.Services.{last_place}
 use Rattle.tape.specs.declared.Step.{Step}
 use Rattle.tape.specs.Steps.{AllSound}
-use Rattle.tape.specs.Words.{numberLimit}
-use Rattle.tape.specs.Layout.{maxSteps}
-use Rattle.machine.specs.Exponents.{startExponents, exponentsAt, staysInRange, residueOf}
+use Rattle.tape.specs.Words.{number_limit}
+use Rattle.tape.specs.Layout.{max_steps}
+use Rattle.machine.specs.Exponents.{start_exponents, exponents_at, stays_in_range, residue_of}
 use Rattle.named.specs.declared.Figure.{Figure}
 use Rattle.named.specs.declared.Figure.TheVariants.{Two, Four, Six}
 use Rattle.named.specs.Generators.{Forms, Raises, UndoneRaises}
@@ -22,12 +22,12 @@ Alone Six bs = bs ≡ []
 
 -- each has 92 places at most, and one beside another no more than it
 pub record FormsFit (f : Forms) : Type 0 where
-  pub first : length f.first ≤ lastPlace
+  pub first : length f.first ≤ last_place
   pub beside : length f.beside ≤ length f.first
-  pub last : length f.last ≤ lastPlace
-  pub besideLast : length f.besideLast ≤ length f.last
+  pub last : length f.last ≤ last_place
+  pub beside_last : length f.beside_last ≤ length f.last
   pub alone : Alone f.figure f.beside
-  pub aloneLast : Alone f.figure f.besideLast
+  pub alone_last : Alone f.figure f.beside_last
 
 -- ---- the programs
 
@@ -38,9 +38,9 @@ pub record IsProgram (r k : ℕ) (xs : List Step) : Type 0 where
   pub sound : AllSound xs
   -- done, it takes (1, a, 1, 1) to (1, a^k, 1, 1); undone, (1, b, 1, 1) to (1, b^K, 1, 1)
   pub raises : (p : ℕ) → Prime p → Raises p r k xs
-  pub undone-raises : (p : ℕ) → Prime p → UndoneRaises p r (inverse r k) xs
+  pub undone_raises_lem : (p : ℕ) → Prime p → UndoneRaises p r (inverse r k) xs
   -- the last exponents are (0, k, 0, 0) modulo r
-  pub ends : map (residueOf r) (exponentsAt xs (length xs)) ≡ 0 ∷ k ∷ 0 ∷ 0 ∷ []
+  pub ends : map (residue_of r) (exponents_at xs (length xs)) ≡ 0 ∷ k ∷ 0 ∷ 0 ∷ []
   -- where a word holds r, it is short enough for a tape and at no position an exponent leaves its range
-  pub short : r < numberLimit → length xs ≤ maxSteps
-  pub stays : r < numberLimit → staysInRange xs startExponents ≡ true
+  pub short : r < number_limit → length xs ≤ max_steps
+  pub stays : r < number_limit → stays_in_range xs start_exponents ≡ true

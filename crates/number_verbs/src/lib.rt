@@ -1,10 +1,10 @@
 // The verbs on numbers alone, and build: what is replied to each. A parameter above what a verb can do with counts as the largest that it can.
 ghost use Rattle.std.specs.Prelude.{◌≡◌, [], ◌∷◌, take};
-ghost use Rattle.tool.specs.Verbs.{largest8, largest32, maxParameters, limitOn};
+ghost use Rattle.tool.specs.Verbs.{largest8, largest32, max_parameters, limit_on};
 ghost use Rattle.fibonacci.specs.Services.{bit};
-ghost use Rattle.tool.specs.Replies.{built, numberReply};
+ghost use Rattle.tool.specs.Replies.{built, number_reply};
 ghost use Rattle.tool.specs.Rows.{Told};
-ghost use Rattle.tool.specs.Inner.Held.{heldTo};
+ghost use Rattle.tool.specs.Inner.Held.{held_to};
 
 use encoding::tape_bytes;
 use lines::bytes_line;
@@ -17,7 +17,7 @@ use widths::{bytes, large, small};
 
 // A verb on its parameters. No verb has more of them than `tool::MAX_PARAMETERS`: what stands behind that many isn't looked at.
 pub fn on_numbers(verb: NumberVerb, own: u32, values: &[u64], text: &mut [u8]) -> Reply
-    ensures { Told text.old (numberReply verb own (take maxParameters (heldTo (limitOn verb) values.now))) result text.new }
+    ensures { Told text.old (number_reply verb own (take max_parameters (held_to (limit_on verb) values.now))) result text.new }
 {
     match verb {
         NumberVerb::Decode => meaning(text, decoding::decode(small(values, 0))),
@@ -64,7 +64,7 @@ fn bit(truth: bool) -> u64
 
 // The tape of a named program.
 pub fn build(own: u32, values: &[u64], text: &mut [u8]) -> Reply
-    ensures { Told text.old (built own (heldTo largest32 values.now)) result text.new }
+    ensures { Told text.old (built own (held_to largest32 values.now)) result text.new }
 {
     let mut row = [0u32; MAX_WORDS];
     let p = small(values, 0);
@@ -85,7 +85,7 @@ pub fn build(own: u32, values: &[u64], text: &mut [u8]) -> Reply
 
 // The places of a number's Zeckendorf form.
 fn places(n: u64, text: &mut [u8]) -> Reply
-    ensures { Told text.old (numberReply NumberVerb.Places 0 (n ∷ [])) result text.new }
+    ensures { Told text.old (number_reply NumberVerb.Places 0 (n ∷ [])) result text.new }
 {
     let form = zeckendorf::zeckendorf(n);
     let bytes = form.places;
@@ -98,7 +98,7 @@ fn places(n: u64, text: &mut [u8]) -> Reply
 
 // The number of a list of places.
 fn number_of(own: u32, values: &[u64], text: &mut [u8]) -> Reply
-    ensures { Told text.old (numberReply NumberVerb.NumberOf own (take maxParameters (heldTo largest8 values.now))) result text.new }
+    ensures { Told text.old (number_reply NumberVerb.NumberOf own (take max_parameters (held_to largest8 values.now))) result text.new }
 {
     let mut row = [0u8; MAX_PARAMETERS];
     let count = bytes(values, &mut row, 0);

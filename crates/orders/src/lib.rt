@@ -1,6 +1,6 @@
 // The prime divisors of r, by which it is decided whether r is the order of a base.
 ghost use Rattle.std.specs.Prelude.{◌≡◌, ◌≤◌, length};
-ghost use Rattle.orders.specs.PrimeDivisors.{primesOf, primeRow};
+ghost use Rattle.orders.specs.PrimeDivisors.{primes_of, prime_row};
 ghost use Rattle.orders.specs.Inner.Least.{LeastDivisor};
 
 use modular::is_prime;
@@ -18,8 +18,8 @@ pub struct PrimeDivisors {
 // The prime divisors of r, each once; of 0 and 1 none. The least divisor of what is left is prime, and is divided out once a round: it is the
 // last one found again, or larger.
 pub fn prime_divisors(r: u32) -> PrimeDivisors
-    ensures count_value { result.count ≡ length (primesOf r) }
-    ensures primes_value { result.primes ≡ primeRow r }
+    ensures count_value { result.count ≡ length (primes_of r) }
+    ensures primes_value { result.primes ≡ prime_row r }
 {
     let mut primes = [0u32; MAX_PRIMES];
     let mut count: usize = 0;

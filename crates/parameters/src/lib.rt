@@ -1,10 +1,10 @@
 // What p, k and the variant of a named program may be: the tests of refusals 1, 3 and 4.
 ghost use Rattle.std.specs.Prelude.{◌≡◌};
-ghost use Rattle.named.specs.Parameters.{badModulus, goodInverse, badVariant};
+ghost use Rattle.named.specs.Parameters.{bad_modulus, good_inverse, bad_variant};
 
 // Refusal 1: p isn't a prime from 3 to 268435455.
 pub fn is_bad_modulus(p: u32) -> bool
-    ensures { result ≡ badModulus p }
+    ensures { result ≡ bad_modulus p }
 {
     if p < 3 {
         return true;
@@ -17,7 +17,7 @@ pub fn is_bad_modulus(p: u32) -> bool
 
 // The inverse of k modulo r, and 0 where refusal 3 applies.
 pub fn good_inverse(k: u32, r: u32) -> u32
-    ensures { result ≡ goodInverse k r }
+    ensures { result ≡ good_inverse k r }
 {
     if k == 0 {
         return 0;
@@ -30,7 +30,7 @@ pub fn good_inverse(k: u32, r: u32) -> u32
 
 // Refusal 4 in build: the number names no variant.
 pub fn is_bad_variant(variant: u32) -> bool
-    ensures { result ≡ badVariant variant }
+    ensures { result ≡ bad_variant variant }
 {
     if variant == 0 {
         return true;

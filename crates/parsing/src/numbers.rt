@@ -1,12 +1,12 @@
 // Numbers read from bytes, in a base from 1 to 16.
 ghost use Rattle.std.specs.Prelude.{◌≡◌, [], ◌∷◌, ◌≤◌, ◌<◌};
-ghost use Rattle.text.specs.Reading.{digitOf, numberFrom, inBase, isHexadecimal};
+ghost use Rattle.text.specs.Reading.{digit_of, number_from, in_base, is_hexadecimal};
 
 use text::Parsed;
 
 // Whether a text begins with `0x`.
 pub(crate) fn is_hexadecimal(text: &[u8]) -> bool
-    ensures { result ≡ isHexadecimal text.now }
+    ensures { result ≡ is_hexadecimal text.now }
 {
     if text.len() < 2 {
         return false;
@@ -20,7 +20,7 @@ pub(crate) fn is_hexadecimal(text: &[u8]) -> bool
 // The number that a text has in a base: one digit or more, nothing else, and none above `most`.
 pub(crate) fn in_base(text: &[u8], most: u64, base: u64) -> Parsed
     requires { (0 < base) × (base ≤ 16) }
-    ensures { result ≡ inBase base most text.now }
+    ensures { result ≡ in_base base most text.now }
 {
     if text.len() == 0 {
         return Parsed::NoNumber;
@@ -41,7 +41,7 @@ pub(crate) fn in_base(text: &[u8], most: u64, base: u64) -> Parsed
 // The number with one digit more behind it. It is tested before it is made, since it may not fit a u64.
 fn with_digit(n: u64, byte: u8, most: u64, base: u64) -> Parsed
     requires { (0 < base) × (base ≤ 16) }
-    ensures { result ≡ numberFrom base most n (byte ∷ []) }
+    ensures { result ≡ number_from base most n (byte ∷ []) }
 {
     let digit = digit_of(byte);
     if base <= digit {
@@ -58,7 +58,7 @@ fn with_digit(n: u64, byte: u8, most: u64, base: u64) -> Parsed
 
 // A digit's value; 16 for a byte that is no digit.
 fn digit_of(byte: u8) -> u64
-    ensures { result ≡ digitOf byte }
+    ensures { result ≡ digit_of byte }
 {
     match byte {
         b'0'..=b'9' => (byte - b'0') as u64,

@@ -1,11 +1,11 @@
 // Where the words of arguments begin and end.
 ghost use Rattle.std.specs.Prelude.{◌≡◌, ◌+◌, ◌≤◌, ◌<◌, length, drop};
-ghost use Rattle.text.specs.Reading.{first_word, pastWord, splitWords};
+ghost use Rattle.text.specs.Reading.{first_word, past_word, split_words};
 
 // Where the word of an index begins; past the last word, the length.
 pub(crate) fn word_begin(arguments: &[u8], index: usize) -> usize
     ensures upper_bound { result ≤ length arguments.now }
-    ensures arguments_value { splitWords (drop result arguments.now) ≡ drop index (splitWords arguments.now) }
+    ensures arguments_value { split_words (drop result arguments.now) ≡ drop index (split_words arguments.now) }
 {
     let mut begin: usize = 0;
     let mut i: usize = 0;
@@ -23,7 +23,7 @@ pub(crate) fn word_begin(arguments: &[u8], index: usize) -> usize
 pub(crate) fn next_word(arguments: &[u8], begin: usize) -> usize
     requires { begin < length arguments.now }
     ensures lower_bound { (begin < result) × (result ≤ length arguments.now) }
-    ensures arguments_value { drop result arguments.now ≡ pastWord (drop begin arguments.now) }
+    ensures arguments_value { drop result arguments.now ≡ past_word (drop begin arguments.now) }
 {
     let end = word_end(arguments, begin);
     if end < arguments.len() {

@@ -1,12 +1,12 @@
 // Parts of a tape, and of a row of tapes.
 ghost use Rattle.std.specs.Prelude.{◌≡◌};
-ghost use Rattle.tape.specs.Layout.{stepIndex, stepWordsOf, part};
+ghost use Rattle.tape.specs.Layout.{step_index, step_words_of, part};
 
 use tape::{HEADER_WORDS, OTHER_WORDS};
 
 // The words of a tape's steps, as a part of it.
 pub fn steps(tape: &[u32]) -> &[u32]
-    ensures { result.now ≡ stepWordsOf tape.now }
+    ensures { result.now ≡ step_words_of tape.now }
 {
     if tape.len() < OTHER_WORDS {
         return &tape[..0];
@@ -16,14 +16,14 @@ pub fn steps(tape: &[u32]) -> &[u32]
 
 // The index of the word of the step numbered position + 1.
 pub fn step_index(tape: &[u32], position: u32) -> usize
-    ensures { result ≡ stepIndex tape.now position }
+    ensures { result ≡ step_index tape.now position }
 {
     HEADER_WORDS + position as usize
 }
 
 // The words of the steps numbered first + 1 to last, as a part of the tape.
 pub fn step_words(tape: &[u32], first: u32, last: u32) -> &[u32]
-    ensures { result.now ≡ part tape.now (stepIndex tape.now first) (stepIndex tape.now last) }
+    ensures { result.now ≡ part tape.now (step_index tape.now first) (step_index tape.now last) }
 {
     between(tape, step_index(tape, first), step_index(tape, last))
 }

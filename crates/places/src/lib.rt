@@ -1,7 +1,7 @@
 // Lists of places both ways: the list of a number, and the number of a list.
 ghost use Rattle.std.specs.Prelude.{◌≡◌, ◌≤◌, ◌++◌, length, drop};
-ghost use Rattle.refusal.specs.Outcomes.{numberOutcomeOf};
-ghost use Rattle.fibonacci.specs.Services.{placesOutcome, placesBuffer, numberOutcome};
+ghost use Rattle.refusal.specs.Outcomes.{number_outcome_of};
+ghost use Rattle.fibonacci.specs.Services.{places_outcome, places_buffer, number_outcome};
 
 use golden::fibonacci_or_zero;
 use refusal::{NumberAnswer, Refusal};
@@ -13,8 +13,8 @@ const ABOVE_LAST: u32 = 94;
 
 // Number to list: the places of n, highest first, into the buffer; the bytes past them stay.
 pub fn places(n: u64, buffer: &mut [u8]) -> NumberAnswer
-    ensures result_value { numberOutcomeOf result ≡ placesOutcome n (length buffer.old) }
-    ensures buffer_after { buffer.new ≡ placesBuffer n buffer.old }
+    ensures result_value { number_outcome_of result ≡ places_outcome n (length buffer.old) }
+    ensures buffer_after { buffer.new ≡ places_buffer n buffer.old }
 {
     let form = zeckendorf(n);
     let list = form.places;
@@ -29,7 +29,7 @@ pub fn places(n: u64, buffer: &mut [u8]) -> NumberAnswer
 // List to number: the sum of the weights of its places, modulo 2^64. A sum past 64 bits leaves less than the weight of the highest place.
 // After a place 0 no place can follow, so only the last can be 0, and that is told after the loop.
 pub fn number_of_places(list: &[u8]) -> NumberAnswer
-    ensures { numberOutcomeOf result ≡ numberOutcome list.now }
+    ensures { number_outcome_of result ≡ number_outcome list.now }
 {
     if list.len() == 0 {
         return NumberAnswer::Answered(0);

@@ -1,11 +1,11 @@
 // Lists of runs.
 ghost use Rattle.std.specs.Prelude.{◌≡◌, set};
 ghost use Rattle.std.proofs.lemmas.List.Edits.{sets};
-ghost use Rattle.refusal.specs.Outcomes.{after, refusalNumber};
+ghost use Rattle.refusal.specs.Outcomes.{after, refusal_number};
 ghost use Rattle.tape.specs.Layout.{part};
-ghost use Rattle.sequencer.specs.Records.{recordOf, stateOutcomeOf};
-ghost use Rattle.sequencer.specs.Services.{runOutcome};
-ghost use Rattle.sequencer.specs.Lists.{turned, afterAll, numbersAll, turn_of, requestsOf};
+ghost use Rattle.sequencer.specs.Records.{record_of, state_outcome_of};
+ghost use Rattle.sequencer.specs.Services.{run_outcome};
+ghost use Rattle.sequencer.specs.Lists.{turned, after_all, numbers_all, turn_of, requests_of};
 ghost use Rattle.sequencer.specs.Demand.{ChainEnds, RewindEnds};
 
 use parts::part;
@@ -20,10 +20,10 @@ const REQUEST_WORDS: usize = 4;
 // its goal. A tape past that row is the empty one, so run refuses it with 6. Nothing is refused here: one to three words left over are
 // no request.
 pub fn play(tapes: &[u32], requests: &[u32], state: State, numbers: &mut [u32]) -> State
-    ensures result_value { recordOf result ≡ afterAll (requestsOf tapes.now requests.now) (recordOf state) }
-    ensures numbers_after { numbers.new ≡ sets numbers.old 0 (numbersAll (requestsOf tapes.now requests.now) (recordOf state)) }
-    ensures chain_ends { ChainEnds (requestsOf tapes.now requests.now) (recordOf state) numbers.new (recordOf result) }
-    ensures rewind_ends { RewindEnds (requestsOf tapes.now requests.now) (recordOf state) numbers.new (recordOf result) }
+    ensures result_value { record_of result ≡ after_all (requests_of tapes.now requests.now) (record_of state) }
+    ensures numbers_after { numbers.new ≡ sets numbers.old 0 (numbers_all (requests_of tapes.now requests.now) (record_of state)) }
+    ensures chain_ends { ChainEnds (requests_of tapes.now requests.now) (record_of state) numbers.new (record_of result) }
+    ensures rewind_ends { RewindEnds (requests_of tapes.now requests.now) (record_of state) numbers.new (record_of result) }
 {
     let mut after = state;
     let mut i: usize = 0;
@@ -41,7 +41,7 @@ pub fn play(tapes: &[u32], requests: &[u32], state: State, numbers: &mut [u32]) 
 
 // The record that a run gets: the user's turn sets its position. 0 is no turn, n + 1 a turn to n.
 fn turned(state: State, turn: u32) -> State
-    ensures { recordOf result ≡ turned (turn_of turn) (recordOf state) }
+    ensures { record_of result ≡ turned (turn_of turn) (record_of state) }
 {
     if turn == 0 {
         return state;
@@ -55,14 +55,14 @@ fn turned(state: State, turn: u32) -> State
 
 // Run of a tape that is a part of a row.
 fn run_part(tapes: &[u32], begin: u32, end: u32, given: State, goal: u32) -> StateAnswer
-    ensures { stateOutcomeOf result ≡ runOutcome (part tapes.now begin end) (recordOf given) goal }
+    ensures { state_outcome_of result ≡ run_outcome (part tapes.now begin end) (record_of given) goal }
 {
     run(part(tapes, begin, end), given, goal)
 }
 
 // The record after a run: a refused one leaves what it got.
 fn after_run(answer: StateAnswer, given: State) -> State
-    ensures { recordOf result ≡ after (stateOutcomeOf answer) (recordOf given) }
+    ensures { record_of result ≡ after (state_outcome_of answer) (record_of given) }
 {
     match answer {
         StateAnswer::Answered(reached) => reached,
@@ -72,7 +72,7 @@ fn after_run(answer: StateAnswer, given: State) -> State
 
 // The number of a run, 0 or its refusal's, put into a row; past the row there is no place for it.
 fn note(numbers: &mut [u32], at: usize, answer: StateAnswer)
-    ensures { numbers.new ≡ set numbers.old at (refusalNumber (stateOutcomeOf answer)) }
+    ensures { numbers.new ≡ set numbers.old at (refusal_number (state_outcome_of answer)) }
 {
     if at < numbers.len() {
         numbers[at] = number_of(answer);
@@ -80,7 +80,7 @@ fn note(numbers: &mut [u32], at: usize, answer: StateAnswer)
 }
 
 fn number_of(answer: StateAnswer) -> u32
-    ensures { result ≡ refusalNumber (stateOutcomeOf answer) }
+    ensures { result ≡ refusal_number (state_outcome_of answer) }
 {
     match answer {
         StateAnswer::Answered(state) => 0,

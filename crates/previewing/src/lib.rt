@@ -1,11 +1,11 @@
 // The preview: what a run makes of the registers, on a copy, and the mul, div and swp steps on its way.
 ghost use Rattle.std.specs.Prelude.{◌≡◌, ◌≤◌, ◌<◌, length};
-ghost use Rattle.tape.specs.Layout.{maxSteps, stepsIn};
-ghost use Rattle.tape.specs.Inner.Operations.{rawSteps};
-ghost use Rattle.machine.specs.Ways.{way, countWhere, countsOf, countNumbers};
-ghost use Rattle.machine.specs.Inner.Kinds.{isKind};
-ghost use Rattle.sequencer.specs.Records.{recordOf};
-ghost use Rattle.sequencer.specs.Previews.{previewOutcome, previewOutcomeOf};
+ghost use Rattle.tape.specs.Layout.{max_steps, steps_in};
+ghost use Rattle.tape.specs.Inner.Operations.{raw_steps};
+ghost use Rattle.machine.specs.Ways.{way, count_where, counts_of, count_numbers};
+ghost use Rattle.machine.specs.Inner.Kinds.{is_kind};
+ghost use Rattle.sequencer.specs.Records.{record_of};
+ghost use Rattle.sequencer.specs.Previews.{preview_outcome, preview_outcome_of};
 ghost use Rattle.sequencer.specs.Inner.Runs.{Inside};
 
 use decoding::operation_of;
@@ -21,7 +21,7 @@ const DIV: u32 = 1;
 // The registers at position `to`, from where the record stands, and the steps on the way: run's refusals. The record comes as a copy, so
 // the caller's own stays.
 pub fn preview(tape: &[u32], state: State, to: u32) -> PreviewAnswer
-    ensures { previewOutcomeOf result ≡ previewOutcome tape.now (recordOf state) to }
+    ensures { preview_outcome_of result ≡ preview_outcome tape.now (record_of state) to }
 {
     match running::run(tape, state, to) {
         StateAnswer::Refused(e) => PreviewAnswer::Refused(e),
@@ -37,8 +37,8 @@ pub fn preview(tape: &[u32], state: State, to: u32) -> PreviewAnswer
 // undone mul is a div, an undone div a mul.
 fn count_way(words: &[u32], from: u32, to: u32) -> Counts
     requires inside { Inside words.now from to }
-    requires words_len_bound { length words.now ≤ maxSteps }
-    ensures { countNumbers result ≡ countsOf (way (stepsIn words.now) from to) }
+    requires words_len_bound { length words.now ≤ max_steps }
+    ensures { count_numbers result ≡ counts_of (way (steps_in words.now) from to) }
 {
     if from <= to {
         return count_steps(part(words, from, to));
@@ -53,8 +53,8 @@ fn count_way(words: &[u32], from: u32, to: u32) -> Counts
 
 // How many of the steps that some words have in their digits are mul, div and swp.
 fn count_steps(words: &[u32]) -> Counts
-    requires { length words.now ≤ maxSteps }
-    ensures { countNumbers result ≡ countsOf (rawSteps words.now) }
+    requires { length words.now ≤ max_steps }
+    ensures { count_numbers result ≡ counts_of (raw_steps words.now) }
 {
     let mul = count_kind(words, MUL);
     let div = count_kind(words, DIV);
@@ -67,9 +67,9 @@ fn count_steps(words: &[u32]) -> Counts
 
 // How many of them have this opcode.
 fn count_kind(words: &[u32], opcode: u32) -> u32
-    requires words_len_bound { length words.now ≤ maxSteps }
+    requires words_len_bound { length words.now ≤ max_steps }
     requires opcode_bound { opcode < 2 }
-    ensures { result ≡ countWhere (isKind opcode) (rawSteps words.now) }
+    ensures { result ≡ count_where (is_kind opcode) (raw_steps words.now) }
 {
     let mut n: u32 = 0;
     let mut i: usize = 0;

@@ -2,14 +2,14 @@
 mod results;
 
 ghost use Rattle.std.specs.Prelude.{[], ◌∷◌, ◌++◌};
-ghost use Rattle.refusal.specs.Outcomes.{numberOutcomeOf};
-ghost use Rattle.text.specs.Text.{newline, numberLine};
+ghost use Rattle.refusal.specs.Outcomes.{number_outcome_of};
+ghost use Rattle.text.specs.Text.{newline, number_line};
 ghost use Rattle.text.specs.Rows.{Put};
-ghost use Rattle.machine.specs.Exponents.{exponentsOutcomeOf};
-ghost use Rattle.tables.specs.Tables.{tableOutcomeOf};
-ghost use Rattle.sequencer.specs.Records.{stateOutcomeOf};
-ghost use Rattle.sequencer.specs.Previews.{previewOutcomeOf};
-ghost use Rattle.tool.specs.Texts.{exponentsLine, tableLines, recordLine, previewLines, powerLines, reasonFor};
+ghost use Rattle.machine.specs.Exponents.{exponents_outcome_of};
+ghost use Rattle.tables.specs.Tables.{table_outcome_of};
+ghost use Rattle.sequencer.specs.Records.{state_outcome_of};
+ghost use Rattle.sequencer.specs.Previews.{preview_outcome_of};
+ghost use Rattle.tool.specs.Texts.{exponents_line, table_lines, record_line, preview_lines, power_lines, reason_for};
 ghost use Rattle.tool.specs.Replies.{refuses, printed};
 ghost use Rattle.tool.specs.Rows.{Told};
 
@@ -42,7 +42,7 @@ pub fn refuse(buffer: &mut [u8], own: u32, number: u32) -> Reply
 
 // What a refusal is given for, and the end of the line.
 fn put_reason(buffer: &mut [u8], at: usize, own: u32, number: u32) -> usize
-    ensures { Put buffer.old at (reasonFor own number ++ newline ∷ []) result buffer.new }
+    ensures { Put buffer.old at (reason_for own number ++ newline ∷ []) result buffer.new }
 {
     if number == own {
         return put_then(buffer, at, nth_word(&OWN_REASONS, number as usize), NEWLINE);
@@ -52,7 +52,7 @@ fn put_reason(buffer: &mut [u8], at: usize, own: u32, number: u32) -> usize
 
 // One number, or the refusal.
 pub fn answer(buffer: &mut [u8], own: u32, answer: NumberAnswer) -> Reply
-    ensures { Told buffer.old (printed own (numberOutcomeOf answer) numberLine) result buffer.new }
+    ensures { Told buffer.old (printed own (number_outcome_of answer) number_line) result buffer.new }
 {
     match answer {
         NumberAnswer::Answered(n) => number(buffer, n),
@@ -62,7 +62,7 @@ pub fn answer(buffer: &mut [u8], own: u32, answer: NumberAnswer) -> Reply
 
 // A record, or the refusal.
 pub fn print_record(buffer: &mut [u8], own: u32, answer: StateAnswer) -> Reply
-    ensures { Told buffer.old (printed own (stateOutcomeOf answer) recordLine) result buffer.new }
+    ensures { Told buffer.old (printed own (state_outcome_of answer) record_line) result buffer.new }
 {
     match answer {
         StateAnswer::Answered(state) => record(buffer, state),
@@ -72,7 +72,7 @@ pub fn print_record(buffer: &mut [u8], own: u32, answer: StateAnswer) -> Reply
 
 // The same, with register 1 on a line of its own before it.
 pub fn print_power(buffer: &mut [u8], own: u32, answer: StateAnswer) -> Reply
-    ensures { Told buffer.old (printed own (stateOutcomeOf answer) powerLines) result buffer.new }
+    ensures { Told buffer.old (printed own (state_outcome_of answer) power_lines) result buffer.new }
 {
     match answer {
         StateAnswer::Answered(state) => power(buffer, state),
@@ -82,7 +82,7 @@ pub fn print_power(buffer: &mut [u8], own: u32, answer: StateAnswer) -> Reply
 
 // What a preview shows, or the refusal.
 pub fn print_preview(buffer: &mut [u8], own: u32, answer: PreviewAnswer) -> Reply
-    ensures { Told buffer.old (printed own (previewOutcomeOf answer) previewLines) result buffer.new }
+    ensures { Told buffer.old (printed own (preview_outcome_of answer) preview_lines) result buffer.new }
 {
     match answer {
         PreviewAnswer::Answered(shown) => preview(buffer, shown),
@@ -92,7 +92,7 @@ pub fn print_preview(buffer: &mut [u8], own: u32, answer: PreviewAnswer) -> Repl
 
 // Four exponents, or the refusal.
 pub fn print_exponents(buffer: &mut [u8], own: u32, answer: ExponentsAnswer) -> Reply
-    ensures { Told buffer.old (printed own (exponentsOutcomeOf answer) exponentsLine) result buffer.new }
+    ensures { Told buffer.old (printed own (exponents_outcome_of answer) exponents_line) result buffer.new }
 {
     match answer {
         ExponentsAnswer::Answered(values) => exponents(buffer, values),
@@ -102,7 +102,7 @@ pub fn print_exponents(buffer: &mut [u8], own: u32, answer: ExponentsAnswer) -> 
 
 // A table, a line for each register, or the refusal.
 pub fn print_table(buffer: &mut [u8], own: u32, answer: TableAnswer) -> Reply
-    ensures { Told buffer.old (printed own (tableOutcomeOf answer) tableLines) result buffer.new }
+    ensures { Told buffer.old (printed own (table_outcome_of answer) table_lines) result buffer.new }
 {
     match answer {
         TableAnswer::Answered(table) => rows(buffer, table),

@@ -1,12 +1,12 @@
 // Answers of numbers.
 ghost use Rattle.std.specs.Prelude.{[], ◌∷◌, ◌++◌, ◌≤◌, length};
-ghost use Rattle.text.specs.Text.{whole, numberLine};
+ghost use Rattle.text.specs.Text.{whole, number_line};
 ghost use Rattle.text.specs.Rows.{Put};
-ghost use Rattle.machine.specs.Exponents.{exponentsOf};
-ghost use Rattle.tables.specs.Tables.{matrixOf};
-ghost use Rattle.sequencer.specs.Records.{recordOf};
-ghost use Rattle.sequencer.specs.Previews.{shownOf};
-ghost use Rattle.tool.specs.Texts.{exponentsLine, tableLines, recordLine, previewLines, powerLines};
+ghost use Rattle.machine.specs.Exponents.{exponents_of};
+ghost use Rattle.tables.specs.Tables.{matrix_of};
+ghost use Rattle.sequencer.specs.Records.{record_of};
+ghost use Rattle.sequencer.specs.Previews.{shown_of};
+ghost use Rattle.tool.specs.Texts.{exponents_line, table_lines, record_line, preview_lines, power_lines};
 ghost use Rattle.tool.specs.Replies.{answers};
 ghost use Rattle.tool.specs.Rows.{Told};
 
@@ -20,7 +20,7 @@ use tool::{ANSWERED, Reply};
 
 // A number on a line of its own.
 pub fn number(buffer: &mut [u8], n: u64) -> Reply
-    ensures { Told buffer.old (answers (numberLine n)) result buffer.new }
+    ensures { Told buffer.old (answers (number_line n)) result buffer.new }
 {
     Reply {
         status: ANSWERED,
@@ -30,7 +30,7 @@ pub fn number(buffer: &mut [u8], n: u64) -> Reply
 
 // A record on a line of its own.
 pub fn record(buffer: &mut [u8], state: State) -> Reply
-    ensures { Told buffer.old (answers (recordLine (recordOf state))) result buffer.new }
+    ensures { Told buffer.old (answers (record_line (record_of state))) result buffer.new }
 {
     Reply {
         status: ANSWERED,
@@ -40,7 +40,7 @@ pub fn record(buffer: &mut [u8], state: State) -> Reply
 
 // Register 1, and the record.
 pub(crate) fn power(buffer: &mut [u8], state: State) -> Reply
-    ensures { Told buffer.old (answers (powerLines (recordOf state))) result buffer.new }
+    ensures { Told buffer.old (answers (power_lines (record_of state))) result buffer.new }
 {
     let registers = state.registers;
     let next = number_line(buffer, 0, registers.d as u64);
@@ -52,8 +52,8 @@ pub(crate) fn power(buffer: &mut [u8], state: State) -> Reply
 
 // The four registers and the position, and the end of the line.
 fn put_record(buffer: &mut [u8], at: usize, state: State) -> usize
-    ensures put { Put buffer.old at (recordLine (recordOf state)) result buffer.new }
-    ensures state_len_bound { length (recordLine (recordOf state)) ≤ 56 }
+    ensures put { Put buffer.old at (record_line (record_of state)) result buffer.new }
+    ensures state_len_bound { length (record_line (record_of state)) ≤ 56 }
 {
     let registers = state.registers;
     let values = [
@@ -68,7 +68,7 @@ fn put_record(buffer: &mut [u8], at: usize, state: State) -> usize
 
 // The registers on a line, and the counts on the next.
 pub(crate) fn preview(buffer: &mut [u8], shown: Preview) -> Reply
-    ensures { Told buffer.old (answers (previewLines (shownOf shown))) result buffer.new }
+    ensures { Told buffer.old (answers (preview_lines (shown_of shown))) result buffer.new }
 {
     let registers = shown.registers;
     let counts = shown.counts;
@@ -85,7 +85,7 @@ pub(crate) fn preview(buffer: &mut [u8], shown: Preview) -> Reply
 
 // Four exponents on one line.
 pub(crate) fn exponents(buffer: &mut [u8], exponents: Exponents) -> Reply
-    ensures { Told buffer.old (answers (exponentsLine (exponentsOf exponents))) result buffer.new }
+    ensures { Told buffer.old (answers (exponents_line (exponents_of exponents))) result buffer.new }
 {
     Reply {
         status: ANSWERED,
@@ -95,7 +95,7 @@ pub(crate) fn exponents(buffer: &mut [u8], exponents: Exponents) -> Reply
 
 // The rows of a table, a line each.
 pub(crate) fn rows(buffer: &mut [u8], table: Table) -> Reply
-    ensures { Told buffer.old (answers (tableLines (matrixOf table))) result buffer.new }
+    ensures { Told buffer.old (answers (table_lines (matrix_of table))) result buffer.new }
 {
     let c = put_row(buffer, 0, table.c);
     let d = put_row(buffer, c, table.d);
@@ -108,8 +108,8 @@ pub(crate) fn rows(buffer: &mut [u8], table: Table) -> Reply
 
 // Four exponents, and the end of the line.
 fn put_row(buffer: &mut [u8], at: usize, row: Exponents) -> usize
-    ensures put { Put buffer.old at (exponentsLine (exponentsOf row)) result buffer.new }
-    ensures row_len_bound { length (exponentsLine (exponentsOf row)) ≤ 88 }
+    ensures put { Put buffer.old at (exponents_line (exponents_of row)) result buffer.new }
+    ensures row_len_bound { length (exponents_line (exponents_of row)) ≤ 88 }
 {
     let c = put_exponent(buffer, at, row.c, BLANK);
     let d = put_exponent(buffer, c, row.d, BLANK);

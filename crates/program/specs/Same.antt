@@ -1,4 +1,4 @@
--- A test that two rows of words are the same (`same-itself` and `same-equal` of proofs/Laws/Same).
+-- A test that two rows of words are the same (`same_itself` and `same_equal` of proofs/Laws/Same).
 use Rattle.std.specs.Prelude.{Bool, true, false, ◌&&◌, List, [], ◌∷◌, ℕ, eqb}
 
 unfoldable pub same_words : List ℕ → List ℕ → Bool

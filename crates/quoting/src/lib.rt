@@ -1,7 +1,7 @@
 // Words in quotes, put into a lent buffer.
 ghost use Rattle.std.specs.Prelude.{◌≡◌, ◌<◌};
 ghost use Rattle.text.specs.Rows.{Put};
-ghost use Rattle.text.specs.Quoting.{hexDigit, is_plain, escaped, escapes, quoted};
+ghost use Rattle.text.specs.Quoting.{hex_digit, is_plain, escaped, escapes, quoted};
 
 use putting::{put, put_byte};
 
@@ -69,7 +69,7 @@ fn is_plain(byte: u8) -> bool
 // A digit below 16.
 fn hex_digit(digit: u8) -> u8
     requires { digit < 16 }
-    ensures { result ≡ hexDigit digit }
+    ensures { result ≡ hex_digit digit }
 {
     if digit < 10 {
         return b'0' + digit;

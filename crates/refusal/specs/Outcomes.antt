@@ -6,35 +6,35 @@ use Rattle.refusal.specs.declared.NumberAnswer.{NumberAnswer}
 use Rattle.refusal.specs.declared.NumberAnswer.TheVariants.{Answered, Refused}
 use Rattle.refusal.specs.Refusals.{number_of}
 
-infix 10 ◌given-if◌
+infix 10 ◌given_if◌
 pub data Outcome (A : Type 0) : Type 0 where
   refused : ℕ → Outcome A
   answered : A → Outcome A
 
 -- a line of a service's list of refusals: which one, and the test that gives it
 pub data Rule : Type 0 where
-  ◌given-if◌ : Refusal → Bool → Rule
+  ◌given_if◌ : Refusal → Bool → Rule
 
 -- the first refusal whose test holds; where none does, the answer
 unfoldable pub outcome : {A : Type 0} → List Rule → A → Outcome A
 outcome [] x = answered x
-outcome ((e given-if true) ∷ rules) x = refused (number_of e)
-outcome ((e given-if false) ∷ rules) x = outcome rules x
+outcome ((e given_if true) ∷ rules) x = refused (number_of e)
+outcome ((e given_if false) ∷ rules) x = outcome rules x
 
 -- some test of the list holds
 unfoldable pub applies : List Rule → Bool
 applies [] = false
-applies ((e given-if t) ∷ rules) = t || applies rules
+applies ((e given_if t) ∷ rules) = t || applies rules
 
 -- the outcome that a `NumberAnswer` of the code stands for
-abbrev pub numberOutcomeOf : NumberAnswer → Outcome ℕ
-numberOutcomeOf (Answered n) = answered n
-numberOutcomeOf (Refused e) = refused (number_of e)
+abbrev pub number_outcome_of : NumberAnswer → Outcome ℕ
+number_outcome_of (Answered n) = answered n
+number_outcome_of (Refused e) = refused (number_of e)
 
 -- the number that comes back: 0 where the call isn't refused
-abbrev pub refusalNumber : {A : Type 0} → Outcome A → ℕ
-refusalNumber (refused n) = n
-refusalNumber (answered x) = 0
+abbrev pub refusal_number : {A : Type 0} → Outcome A → ℕ
+refusal_number (refused n) = n
+refusal_number (answered x) = 0
 
 -- what comes next where the first is not refused
 abbrev pub and_then : {A B : Type 0} → Outcome A → (A → Outcome B) → Outcome B
@@ -47,16 +47,16 @@ after (refused n) held = held
 after (answered x) held = x
 
 -- a lent buffer at exit: refused, what it held; answered, what was written, with what stood past it
-abbrev pub bufferAfter : {A : Type 0} → Outcome A → List ℕ → List ℕ → List ℕ
-bufferAfter (refused n) wrote row = row
-bufferAfter (answered x) wrote row = wrote ++ drop (length wrote) row
+abbrev pub buffer_after : {A : Type 0} → Outcome A → List ℕ → List ℕ → List ℕ
+buffer_after (refused n) wrote row = row
+buffer_after (answered x) wrote row = wrote ++ drop (length wrote) row
 
 -- the laws of the list: its first test holds, or does not
-pub gives : {A : Type 0} {t : Bool} (e : Refusal) (rules : List Rule) (x : A) → t ≡ true → outcome ((e given-if t) ∷ rules) x ≡ refused (number_of e)
+pub gives : {A : Type 0} {t : Bool} (e : Refusal) (rules : List Rule) (x : A) → t ≡ true → outcome ((e given_if t) ∷ rules) x ≡ refused (number_of e)
 unfolding outcome
 gives e rules x h = rw h refl
 
-pub passes : {A : Type 0} {t : Bool} (e : Refusal) (rules : List Rule) (x : A) → t ≡ false → outcome ((e given-if t) ∷ rules) x ≡ outcome rules x
+pub passes : {A : Type 0} {t : Bool} (e : Refusal) (rules : List Rule) (x : A) → t ≡ false → outcome ((e given_if t) ∷ rules) x ≡ outcome rules x
 unfolding outcome
 passes e rules x h = rw h refl
 
@@ -65,8 +65,8 @@ unfolding outcome
 answers x = refl
 
 -- the row at exit, by the call's outcome
-pub row_kept : {A : Type 0} {o : Outcome A} {n : ℕ} (wrote row : List ℕ) → o ≡ refused n → bufferAfter o wrote row ≡ row
+pub row_kept : {A : Type 0} {o : Outcome A} {n : ℕ} (wrote row : List ℕ) → o ≡ refused n → buffer_after o wrote row ≡ row
 row_kept wrote row e = rw e refl
 
-pub row_written : {A : Type 0} {o : Outcome A} {x : A} (wrote row : List ℕ) → o ≡ answered x → bufferAfter o wrote row ≡ wrote ++ drop (length wrote) row
+pub row_written : {A : Type 0} {o : Outcome A} {x : A} (wrote row : List ℕ) → o ≡ answered x → buffer_after o wrote row ≡ wrote ++ drop (length wrote) row
 row_written wrote row e = rw e refl

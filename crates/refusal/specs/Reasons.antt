@@ -24,8 +24,8 @@ reasons =
 
 -- Where a service gives a refusal for a cause of its own: the inverse and the open service 2, build and raise 4, bytes that aren't whole words 6,
 -- run and step 9, cut 10, list to number 12, a Fibonacci number 13.
-unfoldable pub ownReasons : List String
-ownReasons =
+unfoldable pub own_reasons : List String
+own_reasons =
     ""
     ∷ ""
     ∷ "r must be at least 2, for solution at most 268435454"

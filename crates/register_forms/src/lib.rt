@@ -1,9 +1,9 @@
 // Registers in Montgomery's form, in which a product takes no division, and the forms of their inverses, by which a division is a
 // product. They lie in a row because a register's number is then its place.
 ghost use Rattle.std.specs.Prelude.{◌≡◌, map};
-ghost use Rattle.montgomery.specs.Inner.Forms.{formTimes, enter, leave, formInverse};
+ghost use Rattle.montgomery.specs.Inner.Forms.{form_times, enter, leave, form_inverse};
 ghost use Rattle.machine.specs.Machine.{reg, values_of};
-ghost use Rattle.machine.specs.Inner.Carried.{firstFour, inversesWith};
+ghost use Rattle.machine.specs.Inner.Carried.{first_four, inverses_with};
 
 use machine::Registers;
 use montgomery::{Modulus, enter, invert, leave, multiply};
@@ -22,7 +22,7 @@ pub fn forms_of(m: Modulus, registers: Registers) -> [u32; 4]
 
 // The registers of the first four of some forms; 0 stands for one that is missing.
 pub fn registers_of(m: Modulus, forms: &[u32]) -> Registers
-    ensures { values_of result ≡ map (leave m) (firstFour forms.now) }
+    ensures { values_of result ≡ map (leave m) (first_four forms.now) }
 {
     Registers {
         c: leave(m, register(forms, 0)),
@@ -34,7 +34,7 @@ pub fn registers_of(m: Modulus, forms: &[u32]) -> Registers
 
 // The inverses of the first four of some forms by Montgomery's trick: one inverse, of their product, and nine products.
 pub fn inverses(m: Modulus, forms: &[u32]) -> [u32; 4]
-    ensures { result ≡ inversesWith (formTimes m) (formInverse m) forms.now }
+    ensures { result ≡ inverses_with (form_times m) (form_inverse m) forms.now }
 {
     let c = register(forms, 0);
     let d = register(forms, 1);

@@ -2,11 +2,11 @@
 mod row;
 
 ghost use Rattle.std.specs.Prelude.{◌≡◌, ◌<◌, length};
-ghost use Rattle.tape.specs.Inner.Operations.{rawSteps, stepFor};
-ghost use Rattle.montgomery.specs.Inner.Forms.{formTimes};
-ghost use Rattle.machine.specs.Machine.{inverseStep};
-ghost use Rattle.machine.specs.Inner.Carried.{applyWith, doAllWith, directedSteps};
-ghost use Rattle.register_steps.specs.Inner.Ways.{directedStep};
+ghost use Rattle.tape.specs.Inner.Operations.{raw_steps, step_for};
+ghost use Rattle.montgomery.specs.Inner.Forms.{form_times};
+ghost use Rattle.machine.specs.Machine.{inverse_step};
+ghost use Rattle.machine.specs.Inner.Carried.{apply_with, do_all_with, directed_steps};
+ghost use Rattle.register_steps.specs.Inner.Ways.{directed_step};
 
 use decoding::operation_of;
 use montgomery::Modulus;
@@ -17,8 +17,8 @@ use tape::Operation;
 // The steps that some words have in their digits, done from the first to the last, or undone from the last to the first. There is one loop for both, so that
 // the compiler has one place where a step is done and puts it there in full.
 pub fn do_steps(words: &[u32], undone: bool, m: Modulus, values: &mut [u32], inverses: &mut [u32])
-    ensures values_after { values.new ≡ doAllWith (formTimes m) (directedSteps undone (rawSteps words.now)) values.old inverses.old }
-    ensures inverses_after { inverses.new ≡ doAllWith (formTimes m) (directedSteps undone (rawSteps words.now)) inverses.old values.old }
+    ensures values_after { values.new ≡ do_all_with (form_times m) (directed_steps undone (raw_steps words.now)) values.old inverses.old }
+    ensures inverses_after { inverses.new ≡ do_all_with (form_times m) (directed_steps undone (raw_steps words.now)) inverses.old values.old }
 {
     let mut i: usize = 0;
     while i < words.len() {
@@ -30,7 +30,7 @@ pub fn do_steps(words: &[u32], undone: bool, m: Modulus, values: &mut [u32], inv
 // The step that comes after i others.
 fn directed(words: &[u32], i: usize, undone: bool) -> Operation
     requires { i < length words.now }
-    ensures { stepFor result ≡ directedStep undone words.now i }
+    ensures { step_for result ≡ directed_step undone words.now i }
 {
     if undone {
         return inverse_operation(operation_of(words[words.len() - 1 - i]));
@@ -41,8 +41,8 @@ fn directed(words: &[u32], i: usize, undone: bool) -> Operation
 // A step on values beside their inverses, and on the inverses beside the values, so that they remain the inverses. Whether a step
 // multiplies or divides only chooses between two factors that are both at hand: a branch would be mispredicted at every other step.
 fn apply_with(values: &mut [u32], inverses: &mut [u32], m: Modulus, op: Operation)
-    ensures values_after { values.new ≡ applyWith (formTimes m) (stepFor op) values.old inverses.old }
-    ensures inverses_after { inverses.new ≡ applyWith (formTimes m) (stepFor op) inverses.old values.old }
+    ensures values_after { values.new ≡ apply_with (form_times m) (step_for op) values.old inverses.old }
+    ensures inverses_after { inverses.new ≡ apply_with (form_times m) (step_for op) inverses.old values.old }
 {
     if 1 < op.opcode {
         exchange(values, op.target, op.source);
@@ -57,7 +57,7 @@ fn apply_with(values: &mut [u32], inverses: &mut [u32], m: Modulus, op: Operatio
 
 // Undone, mul is div, div is mul, swp is swp.
 fn inverse_operation(op: Operation) -> Operation
-    ensures { stepFor result ≡ inverseStep (stepFor op) }
+    ensures { step_for result ≡ inverse_step (step_for op) }
 {
     if 1 < op.opcode {
         return op;

@@ -1,6 +1,6 @@
 // Registers in a row, by their numbers.
 ghost use Rattle.std.specs.Prelude.{◌≡◌, cond, set};
-ghost use Rattle.montgomery.specs.Inner.Forms.{formTimes};
+ghost use Rattle.montgomery.specs.Inner.Forms.{form_times};
 ghost use Rattle.machine.specs.Machine.{reg};
 
 use montgomery::{Modulus, multiply};
@@ -8,7 +8,7 @@ use register_forms::register;
 
 // One register multiplied.
 pub(crate) fn multiply_register(values: &mut [u32], t: u32, y: u32, m: Modulus)
-    ensures { values.new ≡ set values.old t (formTimes m (reg values.old t) y) }
+    ensures { values.new ≡ set values.old t (form_times m (reg values.old t) y) }
 {
     let x = multiply(m, register(values, t), y);
     set_register(values, t, x)

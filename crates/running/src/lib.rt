@@ -1,14 +1,14 @@
 // Load, run, a single step, and load and run in one.
 ghost use Rattle.std.specs.Prelude.{◌≡◌};
 ghost use Rattle.refusal.specs.Outcomes.{answered};
-ghost use Rattle.tape.specs.Layout.{stepsIn};
+ghost use Rattle.tape.specs.Layout.{steps_in};
 ghost use Rattle.machine.specs.Machine.{values_of, run};
-ghost use Rattle.program.specs.Services.{acceptOutcome};
-ghost use Rattle.sequencer.specs.Records.{recordOf, stateOutcomeOf};
-ghost use Rattle.sequencer.specs.Services.{loadOutcome, runOutcome, forwardOutcome};
-ghost use Rattle.sequencer.specs.Sessions.{stepOutcome};
+ghost use Rattle.program.specs.Services.{accept_outcome};
+ghost use Rattle.sequencer.specs.Records.{record_of, state_outcome_of};
+ghost use Rattle.sequencer.specs.Services.{load_outcome, run_outcome, forward_outcome};
+ghost use Rattle.sequencer.specs.Sessions.{step_outcome};
 ghost use Rattle.sequencer.specs.Inner.Runs.{between, Runnable};
-ghost use Rattle.sequencer.specs.Inner.Goals.{stepGoal};
+ghost use Rattle.sequencer.specs.Inner.Goals.{step_goal};
 
 use conditions::{check_base, is_some_bad};
 use machine::Registers;
@@ -25,7 +25,7 @@ const NO_POSITION: u32 = 4294967295;
 
 // The record to start from, (1, a, 1, 1) at position 0, for a base a: check's refusals, 9, and for named programs 11.
 pub fn load(tape: &[u32], base: u32) -> StateAnswer
-    ensures { stateOutcomeOf result ≡ loadOutcome tape.now base }
+    ensures { state_outcome_of result ≡ load_outcome tape.now base }
 {
     match accepting::accept(tape) {
         HeaderAnswer::Refused(e) => StateAnswer::Refused(e),
@@ -35,7 +35,7 @@ pub fn load(tape: &[u32], base: u32) -> StateAnswer
 
 // The record at position `to`, from where it stands: check's refusals, 9, 10.
 pub fn run(tape: &[u32], state: State, to: u32) -> StateAnswer
-    ensures { stateOutcomeOf result ≡ runOutcome tape.now (recordOf state) to }
+    ensures { state_outcome_of result ≡ run_outcome tape.now (record_of state) to }
 {
     match accepting::accept(tape) {
         HeaderAnswer::Refused(e) => StateAnswer::Refused(e),
@@ -45,7 +45,7 @@ pub fn run(tape: &[u32], state: State, to: u32) -> StateAnswer
 
 // The record one step on, or one step back: check's refusals, 9, 10, also for a step past either end.
 pub fn step(tape: &[u32], state: State, backward: bool) -> StateAnswer
-    ensures { stateOutcomeOf result ≡ stepOutcome tape.now (recordOf state) backward }
+    ensures { state_outcome_of result ≡ step_outcome tape.now (record_of state) backward }
 {
     let goal = step_goal(state.position, backward);
     run(tape, state, goal)
@@ -53,7 +53,7 @@ pub fn step(tape: &[u32], state: State, backward: bool) -> StateAnswer
 
 // Load, then run to the step count: load's refusals. Of a named program, register 1 is then the power.
 pub fn forward(tape: &[u32], base: u32) -> StateAnswer
-    ensures { stateOutcomeOf result ≡ forwardOutcome tape.now base }
+    ensures { state_outcome_of result ≡ forward_outcome tape.now base }
 {
     match accepting::accept(tape) {
         HeaderAnswer::Refused(e) => StateAnswer::Refused(e),
@@ -63,8 +63,8 @@ pub fn forward(tape: &[u32], base: u32) -> StateAnswer
 
 // Load on a program that is accepted: 9, 11.
 fn load_accepted(tape: &[u32], header: Header, base: u32) -> StateAnswer
-    requires { acceptOutcome tape.now ≡ answered header }
-    ensures { stateOutcomeOf result ≡ loadOutcome tape.now base }
+    requires { accept_outcome tape.now ≡ answered header }
+    ensures { state_outcome_of result ≡ load_outcome tape.now base }
 {
     match check_base(header, base) {
         NumberAnswer::Refused(e) => StateAnswer::Refused(e),
@@ -82,8 +82,8 @@ fn load_accepted(tape: &[u32], header: Header, base: u32) -> StateAnswer
 
 // Run of a program that is accepted: 9, 10.
 fn run_accepted(tape: &[u32], header: Header, state: State, to: u32) -> StateAnswer
-    requires { acceptOutcome tape.now ≡ answered header }
-    ensures { stateOutcomeOf result ≡ runOutcome tape.now (recordOf state) to }
+    requires { accept_outcome tape.now ≡ answered header }
+    ensures { state_outcome_of result ≡ run_outcome tape.now (record_of state) to }
 {
     let registers = state.registers;
     let from = state.position;
@@ -105,8 +105,8 @@ fn run_accepted(tape: &[u32], header: Header, state: State, to: u32) -> StateAns
 
 // Forward through a program that is accepted: load's refusals, and run has none left.
 fn forward_accepted(tape: &[u32], header: Header, base: u32) -> StateAnswer
-    requires { acceptOutcome tape.now ≡ answered header }
-    ensures { stateOutcomeOf result ≡ forwardOutcome tape.now base }
+    requires { accept_outcome tape.now ≡ answered header }
+    ensures { state_outcome_of result ≡ forward_outcome tape.now base }
 {
     match load_accepted(tape, header, base) {
         StateAnswer::Refused(e) => StateAnswer::Refused(e),
@@ -117,7 +117,7 @@ fn forward_accepted(tape: &[u32], header: Header, base: u32) -> StateAnswer
 // Where run is told to go for a step: the neighbouring position. Before 0 and behind the largest number there is none, and `NO_POSITION` is
 // above every step count.
 fn step_goal(position: u32, backward: bool) -> u32
-    ensures { result ≡ stepGoal backward position }
+    ensures { result ≡ step_goal backward position }
 {
     if backward {
         if 0 < position {
@@ -135,7 +135,7 @@ fn step_goal(position: u32, backward: bool) -> u32
 // done by its meaning, and nothing is skipped.
 fn run_steps(words: &[u32], p: u32, registers: Registers, from: u32, to: u32) -> Registers
     requires { Runnable words.now p (values_of registers) from to }
-    ensures { values_of result ≡ run p (stepsIn words.now) from to (values_of registers) }
+    ensures { values_of result ≡ run p (steps_in words.now) from to (values_of registers) }
 {
     let m = modulus_of(p);
     let mut values = forms_of(m, registers);

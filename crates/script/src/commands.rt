@@ -1,9 +1,9 @@
 // A command line in a script, by what its call comes to there.
 ghost use Rattle.std.specs.Prelude.{true, length};
-ghost use Rattle.text.specs.Reading.{splitWords};
-ghost use Rattle.tool.specs.Calls.{askedBy};
+ghost use Rattle.text.specs.Reading.{split_words};
+ghost use Rattle.tool.specs.Calls.{asked_by};
 ghost use Rattle.scripting.specs.Script.{replied, commanded};
-ghost use Rattle.scripting.specs.States.{stateIn, Inside, Did};
+ghost use Rattle.scripting.specs.States.{state_in, Inside, Did};
 
 use acts::{act_of, count_in};
 use arguments::understand;
@@ -21,7 +21,7 @@ pub(crate) fn commanded(
     text: &mut [u8],
 ) -> Printed
     requires { Inside marks tapes.old }
-    ensures { Did (commanded (length tapes.old) (askedBy true (splitWords arguments.now)) (stateIn marks tapes.old)) text.old result tapes.new text.new }
+    ensures { Did (commanded (length tapes.old) (asked_by true (split_words arguments.now)) (state_in marks tapes.old)) text.old result tapes.new text.new }
 {
     let line = understand(arguments, true);
     let call = line.call;
@@ -50,7 +50,7 @@ pub(crate) fn commanded(
 // As the tool replies, on the tape at hand.
 fn as_tool(arguments: &[u8], tapes: &[u32], marks: Marks, text: &mut [u8]) -> Printed
     requires { Inside marks tapes.now }
-    ensures { Did (replied (askedBy true (splitWords arguments.now)) (stateIn marks tapes.now)) text.old result tapes.now text.new }
+    ensures { Did (replied (asked_by true (split_words arguments.now)) (state_in marks tapes.now)) text.old result tapes.now text.new }
 {
     let begin = marks.begin;
     let end = marks.end;

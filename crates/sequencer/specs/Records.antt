@@ -13,26 +13,26 @@ pub record Record : Type 0 where
 
 -- ---- as one row: the registers, then the position
 
-abbrev pub recordNumbers : ℕ
-recordNumbers = 5
+abbrev pub record_numbers : ℕ
+record_numbers = 5
 
 abbrev pub row_of : Record → List ℕ
 row_of s = s.registers ++ s.position ∷ []
 
 -- the record that a row's first five numbers are
-abbrev pub recordIn : List ℕ → Record
-recordIn row = record { registers = get_or row 0 0 ∷ get_or row 1 0 ∷ get_or row 2 0 ∷ get_or row 3 0 ∷ []; position = get_or row 4 0 }
+abbrev pub record_in : List ℕ → Record
+record_in row = record { registers = get_or row 0 0 ∷ get_or row 1 0 ∷ get_or row 2 0 ∷ get_or row 3 0 ∷ []; position = get_or row 4 0 }
 
-abbrev pub rowOutcome : Outcome Record → Outcome (List ℕ)
-rowOutcome o = and_then o (λ s. answered (row_of s))
+abbrev pub row_outcome : Outcome Record → Outcome (List ℕ)
+row_outcome o = and_then o (λ s. answered (row_of s))
 
 -- ---- the code's values
 
 -- the record that a `State` of the code is
-abbrev pub recordOf : State → Record
-recordOf s = record { registers = values_of s.registers; position = s.position }
+abbrev pub record_of : State → Record
+record_of s = record { registers = values_of s.registers; position = s.position }
 
 -- the outcome that a `StateAnswer` of the code stands for
-abbrev pub stateOutcomeOf : StateAnswer → Outcome Record
-stateOutcomeOf (Answered s) = answered (recordOf s)
-stateOutcomeOf (Refused e) = refused (number_of e)
+abbrev pub state_outcome_of : StateAnswer → Outcome Record
+state_outcome_of (Answered s) = answered (record_of s)
+state_outcome_of (Refused e) = refused (number_of e)

@@ -2,10 +2,10 @@
 // struct holds a reference, and the proofs of the functions over it are by hand, so these are few and thin: the work is done by functions
 // on the tape and the state.
 ghost use Rattle.std.specs.Prelude.{cond, [], ◌≡◌, eqb};
-ghost use Rattle.refusal.specs.Outcomes.{refusalNumber, after};
-ghost use Rattle.sequencer.specs.Records.{recordOf};
-ghost use Rattle.sequencer.specs.Sessions.{openOutcome, stepOutcome, sessionOutcome, heldTape, heldRecord};
-ghost use Rattle.sequencer.specs.Previews.{previewOutcome, sessionPreview, previewOutcomeOf};
+ghost use Rattle.refusal.specs.Outcomes.{refusal_number, after};
+ghost use Rattle.sequencer.specs.Records.{record_of};
+ghost use Rattle.sequencer.specs.Sessions.{open_outcome, step_outcome, session_outcome, held_tape, held_record};
+ghost use Rattle.sequencer.specs.Previews.{preview_outcome, session_preview, preview_outcome_of};
 
 use machine::Registers;
 use sequencer::{PreviewAnswer, State, StateAnswer};
@@ -43,9 +43,9 @@ pub struct PreviewedOnce {
 // Opens a session on a tape. It is refused as a run to where the record stands is, and then holds the empty tape, four ones and
 // position 0.
 pub fn open<'a>(tape: &'a [u32], state: State) -> SessionAnswer<'a>
-    ensures tape_value { result.session.tape.now ≡ heldTape (openOutcome tape.now (recordOf state)) tape.now }
-    ensures state_value { recordOf result.session.state ≡ heldRecord (openOutcome tape.now (recordOf state)) }
-    ensures number_value { result.number ≡ refusalNumber (openOutcome tape.now (recordOf state)) }
+    ensures tape_value { result.session.tape.now ≡ held_tape (open_outcome tape.now (record_of state)) tape.now }
+    ensures state_value { record_of result.session.state ≡ held_record (open_outcome tape.now (record_of state)) }
+    ensures number_value { result.number ≡ refusal_number (open_outcome tape.now (record_of state)) }
 {
     let opened = state_opened(tape, state);
     let held = tape_held(tape, opened.number);
@@ -61,8 +61,8 @@ pub fn open<'a>(tape: &'a [u32], state: State) -> SessionAnswer<'a>
 // Goes one step, as run to the neighbouring position does. A refused step hands the session back unchanged.
 pub fn step<'a>(session: Session<'a>, backward: bool) -> SessionAnswer<'a>
     ensures tape_value { result.session.tape ≡ session.entry.tape }
-    ensures state_value { recordOf result.session.state ≡ after (stepOutcome session.entry.tape.now (recordOf session.entry.state) backward) (recordOf session.entry.state) }
-    ensures number_value { result.number ≡ refusalNumber (stepOutcome session.entry.tape.now (recordOf session.entry.state) backward) }
+    ensures state_value { record_of result.session.state ≡ after (step_outcome session.entry.tape.now (record_of session.entry.state) backward) (record_of session.entry.state) }
+    ensures number_value { result.number ≡ refusal_number (step_outcome session.entry.tape.now (record_of session.entry.state) backward) }
 {
     let stepped = state_stepped(session.tape, session.state, backward);
     SessionAnswer {
@@ -76,9 +76,9 @@ pub fn step<'a>(session: Session<'a>, backward: bool) -> SessionAnswer<'a>
 
 // A session is opened, goes one step and is left. No struct that holds a reference goes in or out, so no caller's proof is by hand.
 pub fn step_once(tape: &[u32], state: State, backward: bool) -> SteppedOnce
-    ensures opened_value { result.opened ≡ refusalNumber (openOutcome tape.now (recordOf state)) }
-    ensures stepped_value { result.stepped ≡ refusalNumber (sessionOutcome tape.now (recordOf state) backward) }
-    ensures state_value { recordOf result.state ≡ after (sessionOutcome tape.now (recordOf state) backward) (heldRecord (openOutcome tape.now (recordOf state))) }
+    ensures opened_value { result.opened ≡ refusal_number (open_outcome tape.now (record_of state)) }
+    ensures stepped_value { result.stepped ≡ refusal_number (session_outcome tape.now (record_of state) backward) }
+    ensures state_value { record_of result.state ≡ after (session_outcome tape.now (record_of state) backward) (held_record (open_outcome tape.now (record_of state))) }
 {
     let opened = open(tape, state);
     let stepped = step(opened.session, backward);
@@ -92,7 +92,7 @@ pub fn step_once(tape: &[u32], state: State, backward: bool) -> SteppedOnce
 // What a run to a position makes of the session's registers, and the steps on the way; refused as that run. The session comes as a copy,
 // so the caller's own stays.
 pub fn preview<'a>(session: Session<'a>, to: u32) -> PreviewAnswer
-    ensures { previewOutcomeOf result ≡ previewOutcome session.entry.tape.now (recordOf session.entry.state) to }
+    ensures { preview_outcome_of result ≡ preview_outcome session.entry.tape.now (record_of session.entry.state) to }
 {
     previewing::preview(session.tape, session.state, to)
 }
@@ -100,9 +100,9 @@ pub fn preview<'a>(session: Session<'a>, to: u32) -> PreviewAnswer
 // A session is opened, previewed and left; the record that it holds then is the one that opening left. No struct that holds a reference
 // goes in or out, as in `step_once`.
 pub fn preview_once(tape: &[u32], state: State, to: u32) -> PreviewedOnce
-    ensures opened_value { result.opened ≡ refusalNumber (openOutcome tape.now (recordOf state)) }
-    ensures preview_value { previewOutcomeOf result.preview ≡ sessionPreview tape.now (recordOf state) to }
-    ensures state_value { recordOf result.state ≡ heldRecord (openOutcome tape.now (recordOf state)) }
+    ensures opened_value { result.opened ≡ refusal_number (open_outcome tape.now (record_of state)) }
+    ensures preview_value { preview_outcome_of result.preview ≡ session_preview tape.now (record_of state) to }
+    ensures state_value { record_of result.state ≡ held_record (open_outcome tape.now (record_of state)) }
 {
     let opened = open(tape, state);
     let shown = preview(opened.session, to);
@@ -122,8 +122,8 @@ struct Numbered {
 
 // The record that a session holds after opening, and opening's number.
 fn state_opened(tape: &[u32], state: State) -> Numbered
-    ensures state_value { recordOf result.state ≡ heldRecord (openOutcome tape.now (recordOf state)) }
-    ensures number_value { result.number ≡ refusalNumber (openOutcome tape.now (recordOf state)) }
+    ensures state_value { record_of result.state ≡ held_record (open_outcome tape.now (record_of state)) }
+    ensures number_value { result.number ≡ refusal_number (open_outcome tape.now (record_of state)) }
 {
     match running::run(tape, state, state.position) {
         StateAnswer::Answered(_) => Numbered { state, number: 0 },
@@ -154,8 +154,8 @@ fn tape_held<'a>(tape: &'a [u32], number: u32) -> &'a [u32]
 
 // The record after a step, and the step's number.
 fn state_stepped(tape: &[u32], state: State, backward: bool) -> Numbered
-    ensures state_value { recordOf result.state ≡ after (stepOutcome tape.now (recordOf state) backward) (recordOf state) }
-    ensures number_value { result.number ≡ refusalNumber (stepOutcome tape.now (recordOf state) backward) }
+    ensures state_value { record_of result.state ≡ after (step_outcome tape.now (record_of state) backward) (record_of state) }
+    ensures number_value { result.number ≡ refusal_number (step_outcome tape.now (record_of state) backward) }
 {
     match running::step(tape, state, backward) {
         StateAnswer::Answered(reached) => Numbered {

@@ -1,7 +1,7 @@
 // The modular Hofstadter G problem: a v with G(v) = s and v = t modulo r, at most F_(2h+2) - 2, is found, and a proposed one tested.
 ghost use Rattle.std.specs.Prelude.{◌≡◌, ℕ, ◌<◌};
-ghost use Rattle.refusal.specs.Outcomes.{answered, numberOutcomeOf};
-ghost use Rattle.fibonacci.specs.Solutions.{Solves, badSpan, badResidues, isSolution, solution, solutionOutcome, orderLimit, solutionOrZero};
+ghost use Rattle.refusal.specs.Outcomes.{answered, number_outcome_of};
+ghost use Rattle.fibonacci.specs.Solutions.{Solves, bad_span, bad_residues, is_solution, solution, solution_outcome, order_limit, solution_or_zero};
 
 use golden::{fibonacci_or_zero, height, hofstadter};
 use refusal::{NumberAnswer, Refusal};
@@ -14,8 +14,8 @@ const ORDER_LIMIT: u32 = 2147483648;
 
 // The open service: 2, 15, else a solution. Which one it is stays open; that it is one is a clause of its own.
 pub fn solution(r: u32, s: u32, t: u32) -> NumberAnswer
-    ensures result_value { numberOutcomeOf result ≡ solutionOutcome r s t }
-    ensures by_index { (v : ℕ) → numberOutcomeOf result ≡ answered v → Solves r s t v }
+    ensures result_value { number_outcome_of result ≡ solution_outcome r s t }
+    ensures by_index { (v : ℕ) → number_outcome_of result ≡ answered v → Solves r s t v }
 {
     if is_bad_span(r) {
         return NumberAnswer::Refused(Refusal::Order);
@@ -28,7 +28,7 @@ pub fn solution(r: u32, s: u32, t: u32) -> NumberAnswer
 
 // The small test, for whoever proposes v.
 pub fn is_solution(r: u32, s: u32, t: u32, v: u64) -> bool
-    ensures { result ≡ isSolution r s t v }
+    ensures { result ≡ is_solution r s t v }
 {
     if is_bad_span(r) {
         return false;
@@ -47,7 +47,7 @@ pub fn is_solution(r: u32, s: u32, t: u32, v: u64) -> bool
 
 // The same solution for r below the limit, and 0 where there is none to give.
 pub fn solution_or_zero(r: u32, s: u32, t: u32) -> u64
-    ensures { result ≡ solutionOrZero r s t }
+    ensures { result ≡ solution_or_zero r s t }
 {
     if ORDER_LIMIT <= r {
         return 0;
@@ -60,7 +60,7 @@ pub fn solution_or_zero(r: u32, s: u32, t: u32) -> u64
 
 // The paper's SOLVEMHG and FINDW, in whole numbers: of two neighbouring candidates w, the first for which G(w r + t) is s modulo r.
 fn solve(r: u32, s: u32, t: u32) -> u64
-    requires r_lt_order_limit { r < orderLimit }
+    requires r_lt_order_limit { r < order_limit }
     requires s_lt_r { s < r }
     requires t_lt_r { t < r }
     ensures { result ≡ solution r s t }
@@ -80,7 +80,7 @@ fn solve(r: u32, s: u32, t: u32) -> u64
 
 // Refusal 2: r is outside 2 to the last.
 fn is_bad_span(r: u32) -> bool
-    ensures { result ≡ badSpan r }
+    ensures { result ≡ bad_span r }
 {
     if r < 2 {
         return true;
@@ -90,7 +90,7 @@ fn is_bad_span(r: u32) -> bool
 
 // Refusal 15: s or t is r or more.
 fn is_bad_residue(r: u32, s: u32, t: u32) -> bool
-    ensures { result ≡ badResidues r s t }
+    ensures { result ≡ bad_residues r s t }
 {
     if r <= s {
         return true;

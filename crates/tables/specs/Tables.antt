@@ -6,7 +6,7 @@ use Rattle.refusal.specs.Outcomes.{Outcome, refused, answered, and_then}
 use Rattle.matrices.specs.Matrices.{Matrix, indices, transposed}
 use Rattle.modular.specs.Residues.{times}
 use Rattle.tape.specs.declared.Step.{Step}
-use Rattle.machine.specs.Exponents.{exponentsOf, shiftAll, staysInRange, powerOf}
+use Rattle.machine.specs.Exponents.{exponents_of, shift_all, stays_in_range, power_of}
 use Rattle.tables.specs.declared.Table.{Table}
 use Rattle.tables.specs.declared.TableAnswer.{TableAnswer}
 use Rattle.tables.specs.declared.TableAnswer.TheVariants.{Answered, Refused}
@@ -16,22 +16,22 @@ abbrev pub unit : ℕ → List ℤ
 unit j = set (pos 0 ∷ pos 0 ∷ pos 0 ∷ pos 0 ∷ []) j (pos 1)
 
 -- what steps make of start value j's exponents: a column
-abbrev pub columnAfter : List Step → ℕ → List ℤ
-columnAfter xs j = shiftAll xs (unit j)
+abbrev pub column_after : List Step → ℕ → List ℤ
+column_after xs j = shift_all xs (unit j)
 
 -- the four columns side by side
 unfoldable pub table_of : List Step → Matrix
-table_of xs = transposed 4 (map (columnAfter xs) (indices 4))
+table_of xs = transposed 4 (map (column_after xs) (indices 4))
 
 -- every entry is in the range at every position, the first and the last among them
-unfoldable pub tableStays : List Step → Bool
-tableStays xs = staysInRange xs (unit 0) && staysInRange xs (unit 1) && staysInRange xs (unit 2) && staysInRange xs (unit 3)
+unfoldable pub table_stays : List Step → Bool
+table_stays xs = stays_in_range xs (unit 0) && stays_in_range xs (unit 1) && stays_in_range xs (unit 2) && stays_in_range xs (unit 3)
 
 -- the product of values to the exponents of a row, modulo p
-unfoldable pub powerProduct : ℕ → List ℕ → List ℤ → ℕ
-powerProduct p [] row = 1
-powerProduct p (x ∷ v) [] = 1
-powerProduct p (x ∷ v) (e ∷ row) = times p (powerOf p x e) (powerProduct p v row)
+unfoldable pub power_product : ℕ → List ℕ → List ℤ → ℕ
+power_product p [] row = 1
+power_product p (x ∷ v) [] = 1
+power_product p (x ∷ v) (e ∷ row) = times p (power_of p x e) (power_product p v row)
 
 -- 1 for an even number, -1 for an odd one
 unfoldable pub sign_of : ℕ → ℤ
@@ -40,18 +40,18 @@ sign_of n = cond (eqb (n % 2) 0) (pos 1) (negsuc 0)
 -- ---- the code's values
 
 -- the rows of a table of the code
-abbrev pub matrixOf : Table → Matrix
-matrixOf table = exponentsOf table.c ∷ exponentsOf table.d ∷ exponentsOf table.e ∷ exponentsOf table.f ∷ []
+abbrev pub matrix_of : Table → Matrix
+matrix_of table = exponents_of table.c ∷ exponents_of table.d ∷ exponents_of table.e ∷ exponents_of table.f ∷ []
 
 -- the outcome that a `TableAnswer` of the code stands for
-abbrev pub tableOutcomeOf : TableAnswer → Outcome Matrix
-tableOutcomeOf (Answered table) = answered (matrixOf table)
-tableOutcomeOf (Refused e) = refused (number_of e)
+abbrev pub table_outcome_of : TableAnswer → Outcome Matrix
+table_outcome_of (Answered table) = answered (matrix_of table)
+table_outcome_of (Refused e) = refused (number_of e)
 
 -- a table as one list, row by row, as C has it
-abbrev pub rowByRow : Matrix → List ℤ
-rowByRow [] = []
-rowByRow (row ∷ rows) = row ++ rowByRow rows
+abbrev pub row_by_row : Matrix → List ℤ
+row_by_row [] = []
+row_by_row (row ∷ rows) = row ++ row_by_row rows
 
-abbrev pub listOutcome : Outcome Matrix → Outcome (List ℤ)
-listOutcome o = and_then o (λ m. answered (rowByRow m))
+abbrev pub list_outcome : Outcome Matrix → Outcome (List ℤ)
+list_outcome o = and_then o (λ m. answered (row_by_row m))

@@ -5,8 +5,8 @@ use Rattle.tape.specs.declared.Step.TheVariants.{Mul, Div, Swp}
 
 -- two different registers of the four
 pub record Distinct (target source : ℕ) : Type 0 where
-  pub target-is-one : target < 4
-  pub source-is-one : source < 4
+  pub target_is_one : target < 4
+  pub source_is_one : source < 4
   pub differ : target ≢ source
 
 -- target and source are never equal; in swp the target is the smaller

@@ -1,8 +1,8 @@
 // The row of tapes of a script: marks brought into it, and what is said where it is full.
 ghost use Rattle.std.specs.Prelude.{◌≡◌, min};
 ghost use Rattle.text.specs.Rows.{Put};
-ghost use Rattle.scripting.specs.Script.{fullLine};
-ghost use Rattle.scripting.specs.States.{insideOf};
+ghost use Rattle.scripting.specs.Script.{full_line};
+ghost use Rattle.scripting.specs.States.{inside_of};
 
 use putting::{put, put_number, put_then};
 use scripting::{MAX_ROOM, Marks};
@@ -10,7 +10,7 @@ use text::NEWLINE;
 
 // Marks that stand in the row.
 pub fn inside(marks: Marks, capacity: usize) -> Marks
-    ensures { result ≡ insideOf marks capacity }
+    ensures { result ≡ inside_of marks capacity }
 {
     let end = least(marks.end, capacity);
     Marks {
@@ -44,7 +44,7 @@ pub fn ending(marks: Marks, end: usize) -> Marks
 
 // The row of tapes has no room for more.
 pub fn put_full(text: &mut [u8], capacity: usize) -> usize
-    ensures { Put text.old 0 (fullLine capacity) result text.new }
+    ensures { Put text.old 0 (full_line capacity) result text.new }
 {
     let a = put(text, 0, b"fibexp: a row of tapes has at most ");
     let b = put_number(text, a, capacity as u64);

@@ -4,18 +4,18 @@ mod values;
 ghost use Rattle.std.specs.Prelude.{◌+◌, ◌/◌, ◌≤◌, ◌≡◌, length, get_or, take};
 ghost use Rattle.std.proofs.lemmas.List.Edits.{sets};
 ghost use Rattle.refusal.specs.Rows.{Wrote};
-ghost use Rattle.text.specs.Text.{numbersLine};
+ghost use Rattle.text.specs.Text.{numbers_line};
 ghost use Rattle.tape.specs.Layout.{steps_of};
-ghost use Rattle.program.specs.Services.{acceptOutcome};
-ghost use Rattle.sequencer.specs.Records.{recordNumbers, row_of, recordIn, recordOf};
-ghost use Rattle.sequencer.specs.Services.{runOutcome, cutOutcome};
-ghost use Rattle.sequencer.specs.Sessions.{stepOutcome, isBackward};
-ghost use Rattle.sequencer.specs.Previews.{previewOutcome};
-ghost use Rattle.sequencer.specs.Lists.{requestsOf};
-ghost use Rattle.listing.specs.Listing.{linesFor};
-ghost use Rattle.tool.specs.Verbs.{maxParameters};
-ghost use Rattle.tool.specs.Texts.{recordLine, previewLines};
-ghost use Rattle.tool.specs.Replies.{answers, printed, raisedAll, runsTold, played, tapeReply};
+ghost use Rattle.program.specs.Services.{accept_outcome};
+ghost use Rattle.sequencer.specs.Records.{record_numbers, row_of, record_in, record_of};
+ghost use Rattle.sequencer.specs.Services.{run_outcome, cut_outcome};
+ghost use Rattle.sequencer.specs.Sessions.{step_outcome, is_backward};
+ghost use Rattle.sequencer.specs.Previews.{preview_outcome};
+ghost use Rattle.sequencer.specs.Lists.{requests_of};
+ghost use Rattle.listing.specs.Listing.{lines_for};
+ghost use Rattle.tool.specs.Verbs.{max_parameters};
+ghost use Rattle.tool.specs.Texts.{record_line, preview_lines};
+ghost use Rattle.tool.specs.Replies.{answers, printed, raised_all, runs_told, played, tape_reply};
 ghost use Rattle.tool.specs.Rows.{Told};
 
 use lines::numbers_line;
@@ -43,7 +43,7 @@ pub fn on_tape(
     tapes: &[u32],
     text: &mut [u8],
 ) -> Reply
-    ensures { Told text.old (tapeReply verb own (take maxParameters values.now) tape.now tapes.now) result text.new }
+    ensures { Told text.old (tape_reply verb own (take max_parameters values.now) tape.now tapes.now) result text.new }
 {
     let given = first(values);
     match verb {
@@ -64,7 +64,7 @@ pub fn on_tape(
 
 // The listing, which of a refused tape is the line of its refusal.
 fn list(tape: &[u32], text: &mut [u8]) -> Reply
-    ensures { Told text.old (answers (linesFor (acceptOutcome tape.now) (steps_of tape.now))) result text.new }
+    ensures { Told text.old (answers (lines_for (accept_outcome tape.now) (steps_of tape.now))) result text.new }
 {
     let listed = list_tape(tape, text);
     Reply {
@@ -75,7 +75,7 @@ fn list(tape: &[u32], text: &mut [u8]) -> Reply
 
 // Run, its record the first five parameters.
 fn run(own: u32, values: &[u32], tape: &[u32], text: &mut [u8]) -> Reply
-    ensures { Told text.old (printed own (runOutcome tape.now (recordIn values.now) (get_or values.now 5 0)) recordLine) result text.new }
+    ensures { Told text.old (printed own (run_outcome tape.now (record_in values.now) (get_or values.now 5 0)) record_line) result text.new }
 {
     let answer = running::run(tape, record(values), parameter(values, 5));
     print_record(text, own, answer)
@@ -83,7 +83,7 @@ fn run(own: u32, values: &[u32], tape: &[u32], text: &mut [u8]) -> Reply
 
 // A single step, of a session that is opened for it: so a program uses sessions, for the price of checking the tape twice.
 fn step(own: u32, values: &[u32], tape: &[u32], text: &mut [u8]) -> Reply
-    ensures { Told text.old (printed own (stepOutcome tape.now (recordIn values.now) (isBackward (get_or values.now 5 0))) recordLine) result text.new }
+    ensures { Told text.old (printed own (step_outcome tape.now (record_in values.now) (is_backward (get_or values.now 5 0))) record_line) result text.new }
 {
     let once = step_once(tape, record(values), parameter(values, 5) != 0);
     if once.opened != 0 {
@@ -98,7 +98,7 @@ fn step(own: u32, values: &[u32], tape: &[u32], text: &mut [u8]) -> Reply
 
 // A preview, of a session that is opened for it, as `step` is.
 fn preview(own: u32, values: &[u32], tape: &[u32], text: &mut [u8]) -> Reply
-    ensures { Told text.old (printed own (previewOutcome tape.now (recordIn values.now) (get_or values.now 5 0)) previewLines) result text.new }
+    ensures { Told text.old (printed own (preview_outcome tape.now (record_in values.now) (get_or values.now 5 0)) preview_lines) result text.new }
 {
     let previewed = preview_once(tape, record(values), parameter(values, 5));
     if previewed.opened != 0 {
@@ -110,8 +110,8 @@ fn preview(own: u32, values: &[u32], tape: &[u32], text: &mut [u8]) -> Reply
 
 // Raise, its bases the parameters, which are copied since they are replaced.
 fn raise(own: u32, values: &[u32], tape: &[u32], text: &mut [u8]) -> Reply
-    requires { length values.now ≤ maxParameters }
-    ensures { Told text.old (raisedAll own values.now tape.now) result text.new }
+    requires { length values.now ≤ max_parameters }
+    ensures { Told text.old (raised_all own values.now tape.now) result text.new }
 {
     let mut row = [0u32; MAX_PARAMETERS];
     let count = put_words(&mut row, 0, values);
@@ -120,8 +120,8 @@ fn raise(own: u32, values: &[u32], tape: &[u32], text: &mut [u8]) -> Reply
 
 // The row of bases after they are raised.
 fn raise_row(own: u32, bases: &mut [u32], tape: &[u32], text: &mut [u8]) -> Reply
-    requires { length bases.old ≤ maxParameters }
-    ensures { Told text.old (raisedAll own bases.old tape.now) result text.new }
+    requires { length bases.old ≤ max_parameters }
+    ensures { Told text.old (raised_all own bases.old tape.now) result text.new }
 {
     match raising::raise(tape, bases) {
         NumberAnswer::Refused(e) => refuse(text, own, refusal::number(e)),
@@ -134,7 +134,7 @@ fn raise_row(own: u32, bases: &mut [u32], tape: &[u32], text: &mut [u8]) -> Repl
 
 // The step words of a part of the tape.
 fn cut(own: u32, tape: &[u32], first: u32, last: u32, text: &mut [u8]) -> Reply
-    ensures { Told text.old (printed own (cutOutcome tape.now first last) numbersLine) result text.new }
+    ensures { Told text.old (printed own (cut_outcome tape.now first last) numbers_line) result text.new }
 {
     let mut number: u32 = 0;
     let part = inspecting::cut(tape, first, last, &mut number);
@@ -149,7 +149,7 @@ fn cut(own: u32, tape: &[u32], first: u32, last: u32, text: &mut [u8]) -> Reply
 
 // A list of runs: a record, then the requests. Told are the record at its end, then each run's number.
 fn play(values: &[u32], tapes: &[u32], text: &mut [u8]) -> Reply
-    requires { length values.now ≤ maxParameters }
+    requires { length values.now ≤ max_parameters }
     ensures { Told text.old (played values.now tapes.now) result text.new }
 {
     let requests = past_record(values);
@@ -163,9 +163,9 @@ fn play(values: &[u32], tapes: &[u32], text: &mut [u8]) -> Reply
 
 // The record after a list of runs, then each run's number, and how many these are.
 fn runs(tapes: &[u32], requests: &[u32], state: State, told: &mut [u32]) -> usize
-    requires { recordNumbers + length requests.now / 4 ≤ length told.old }
-    ensures wrote { Wrote told.old 0 (runsTold (requestsOf tapes.now requests.now) (recordOf state)) result told.new }
-    ensures value { result ≡ recordNumbers + length requests.now / 4 }
+    requires { record_numbers + length requests.now / 4 ≤ length told.old }
+    ensures wrote { Wrote told.old 0 (runs_told (requests_of tapes.now requests.now) (record_of state)) result told.new }
+    ensures value { result ≡ record_numbers + length requests.now / 4 }
 {
     let after = playing::play(tapes, requests, state, &mut told[RECORD_NUMBERS..]);
     put_record(after, told);
@@ -174,8 +174,8 @@ fn runs(tapes: &[u32], requests: &[u32], state: State, told: &mut [u32]) -> usiz
 
 // The record in the first five places.
 fn put_record(state: State, told: &mut [u32])
-    requires { recordNumbers ≤ length told.old }
-    ensures { told.new ≡ sets told.old 0 (row_of (recordOf state)) }
+    requires { record_numbers ≤ length told.old }
+    ensures { told.new ≡ sets told.old 0 (row_of (record_of state)) }
 {
     let registers = state.registers;
     told[0] = registers.c;

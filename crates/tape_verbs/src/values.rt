@@ -1,7 +1,7 @@
 // The parameters of a verb on a tape.
 ghost use Rattle.std.specs.Prelude.{◌≡◌, get_or, take, drop};
-ghost use Rattle.sequencer.specs.Records.{recordNumbers, recordIn, recordOf};
-ghost use Rattle.tool.specs.Verbs.{maxParameters};
+ghost use Rattle.sequencer.specs.Records.{record_numbers, record_in, record_of};
+ghost use Rattle.tool.specs.Verbs.{max_parameters};
 
 use machine::Registers;
 use sequencer::State;
@@ -12,7 +12,7 @@ pub(crate) const RECORD_NUMBERS: usize = 5;
 
 // As many as a verb has at most.
 pub(crate) fn first(values: &[u32]) -> &[u32]
-    ensures { result.now ≡ take maxParameters values.now }
+    ensures { result.now ≡ take max_parameters values.now }
 {
     if values.len() < MAX_PARAMETERS {
         return values;
@@ -32,7 +32,7 @@ pub(crate) fn parameter(values: &[u32], place: usize) -> u32
 
 // The first five, which are a record.
 pub(crate) fn record(values: &[u32]) -> State
-    ensures { recordOf result ≡ recordIn values.now }
+    ensures { record_of result ≡ record_in values.now }
 {
     State {
         registers: Registers {
@@ -47,7 +47,7 @@ pub(crate) fn record(values: &[u32]) -> State
 
 // Those behind the record.
 pub(crate) fn past_record(values: &[u32]) -> &[u32]
-    ensures { result.now ≡ drop recordNumbers values.now }
+    ensures { result.now ≡ drop record_numbers values.now }
 {
     if values.len() < RECORD_NUMBERS {
         return &values[..0];

@@ -10,15 +10,15 @@ abbrev pub backslash : ℕ
 backslash = 92
 
 -- a digit below 16, as a lower-case hexadecimal one
-unfoldable pub hexDigit : ℕ → ℕ
-hexDigit d = cond (ltb d 10) (code "0" + d) (code "a" + (d - 10))
+unfoldable pub hex_digit : ℕ → ℕ
+hex_digit d = cond (ltb d 10) (code "0" + d) (code "a" + (d - 10))
 
 -- bytes that stand for themselves: blanks and what has a glyph, but for the two that quoting uses
 unfoldable pub is_plain : ℕ → Bool
 is_plain byte = leb 32 byte && leb byte 126 && not (eqb byte quote) && not (eqb byte backslash)
 
 unfoldable pub escaped : ℕ → List ℕ
-escaped byte = cond (is_plain byte) (byte ∷ []) (backslash ∷ code "x" ∷ hexDigit (byte / 16) ∷ hexDigit (byte % 16) ∷ [])
+escaped byte = cond (is_plain byte) (byte ∷ []) (backslash ∷ code "x" ∷ hex_digit (byte / 16) ∷ hex_digit (byte % 16) ∷ [])
 
 unfoldable pub escapes : List ℕ → List ℕ
 escapes [] = []

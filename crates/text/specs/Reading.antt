@@ -11,37 +11,37 @@ abbrev pub within : ℕ → ℕ → ℕ → Bool
 within first last byte = leb first byte && leb byte last
 
 -- a digit's value, of bases up to 16; 16 for a byte that is no digit
-unfoldable pub digitOf : ℕ → ℕ
-digitOf byte =
+unfoldable pub digit_of : ℕ → ℕ
+digit_of byte =
     cond (within (code "0") (code "9") byte) (byte - code "0")
     (cond (within (code "a") (code "f") byte) (byte - code "a" + 10)
     (cond (within (code "A") (code "F") byte) (byte - code "A" + 10) 16))
 
-unfoldable pub allDigits : ℕ → List ℕ → Bool
-allDigits base [] = true
-allDigits base (byte ∷ text) = ltb (digitOf byte) base && allDigits base text
+unfoldable pub all_digits : ℕ → List ℕ → Bool
+all_digits base [] = true
+all_digits base (byte ∷ text) = ltb (digit_of byte) base && all_digits base text
 
 -- the number that has the digits of n and then those of the text
-unfoldable pub valueFrom : ℕ → ℕ → List ℕ → ℕ
-valueFrom base n [] = n
-valueFrom base n (byte ∷ text) = valueFrom base (base * n + digitOf byte) text
+unfoldable pub value_from : ℕ → ℕ → List ℕ → ℕ
+value_from base n [] = n
+value_from base n (byte ∷ text) = value_from base (base * n + digit_of byte) text
 
 -- digits alone, and not above `most`
-unfoldable pub numberFrom : ℕ → ℕ → ℕ → List ℕ → Parsed
-numberFrom base most n text = cond (allDigits base text && leb (valueFrom base n text) most) (Number (valueFrom base n text)) NoNumber
+unfoldable pub number_from : ℕ → ℕ → ℕ → List ℕ → Parsed
+number_from base most n text = cond (all_digits base text && leb (value_from base n text) most) (Number (value_from base n text)) NoNumber
 
 -- at least one digit; zeros in front are let pass
-unfoldable pub inBase : ℕ → ℕ → List ℕ → Parsed
-inBase base most [] = NoNumber
-inBase base most (byte ∷ text) = numberFrom base most 0 (byte ∷ text)
+unfoldable pub in_base : ℕ → ℕ → List ℕ → Parsed
+in_base base most [] = NoNumber
+in_base base most (byte ∷ text) = number_from base most 0 (byte ∷ text)
 
 -- whether a text begins with `0x`
-unfoldable pub isHexadecimal : List ℕ → Bool
-isHexadecimal text = eqb (get_or text 0 0) (code "0") && eqb (get_or text 1 0) (code "x")
+unfoldable pub is_hexadecimal : List ℕ → Bool
+is_hexadecimal text = eqb (get_or text 0 0) (code "0") && eqb (get_or text 1 0) (code "x")
 
 -- hexadecimal digits behind `0x`, or decimal ones
-unfoldable pub parseNumber : ℕ → List ℕ → Parsed
-parseNumber most text = cond (isHexadecimal text) (inBase 16 most (drop 2 text)) (inBase 10 most text)
+unfoldable pub parse_number : ℕ → List ℕ → Parsed
+parse_number most text = cond (is_hexadecimal text) (in_base 16 most (drop 2 text)) (in_base 10 most text)
 
 -- a number that was read is at most the largest
 abbrev pub Small : ℕ → Parsed → Type 0
@@ -56,18 +56,18 @@ first_word [] = []
 first_word (zero ∷ bytes) = []
 first_word (suc b ∷ bytes) = suc b ∷ first_word bytes
 
-unfoldable pub pastWord : List ℕ → List ℕ
-pastWord [] = []
-pastWord (zero ∷ bytes) = bytes
-pastWord (suc b ∷ bytes) = pastWord bytes
+unfoldable pub past_word : List ℕ → List ℕ
+past_word [] = []
+past_word (zero ∷ bytes) = bytes
+past_word (suc b ∷ bytes) = past_word bytes
 
 -- a byte in front of the first of some words
-abbrev pub inFront : ℕ → List (List ℕ) → List (List ℕ)
-inFront b [] = (b ∷ []) ∷ []
-inFront b (word ∷ words) = (b ∷ word) ∷ words
+abbrev pub in_front : ℕ → List (List ℕ) → List (List ℕ)
+in_front b [] = (b ∷ []) ∷ []
+in_front b (word ∷ words) = (b ∷ word) ∷ words
 
 -- words that a zero byte each ends; the last may lack it where it isn't empty
-unfoldable pub splitWords : List ℕ → List (List ℕ)
-splitWords [] = []
-splitWords (zero ∷ bytes) = [] ∷ splitWords bytes
-splitWords (suc b ∷ bytes) = inFront (suc b) (splitWords bytes)
+unfoldable pub split_words : List ℕ → List (List ℕ)
+split_words [] = []
+split_words (zero ∷ bytes) = [] ∷ split_words bytes
+split_words (suc b ∷ bytes) = in_front (suc b) (split_words bytes)

@@ -11,13 +11,13 @@ codes text from (suc count) = code (char_at text from) ∷ codes text (suc from)
 abbrev pub ascii : String → List ℕ
 ascii text = codes text 0 (len text)
 
--- a number's decimal digits, without leading zeros and 0 as "0"; fuel above the number is enough (`decimal-again` of Laws/Decimal)
-unfoldable pub decimalWithin : ℕ → ℕ → List ℕ
-decimalWithin zero n = []
-decimalWithin (suc fuel) n = cond (ltb n 10) [] (decimalWithin fuel (n / 10)) ++ (code "0" + n % 10) ∷ []
+-- a number's decimal digits, without leading zeros and 0 as "0"; fuel above the number is enough (`decimal_again` of Laws/Decimal)
+unfoldable pub decimal_within : ℕ → ℕ → List ℕ
+decimal_within zero n = []
+decimal_within (suc fuel) n = cond (ltb n 10) [] (decimal_within fuel (n / 10)) ++ (code "0" + n % 10) ∷ []
 
 unfoldable pub decimal : ℕ → List ℕ
-decimal n = decimalWithin (suc n) n
+decimal n = decimal_within (suc n) n
 
 -- a whole number: a minus sign in front of one below 0; `negsuc n` is -(n + 1)
 unfoldable pub whole : ℤ → List ℕ
@@ -37,8 +37,8 @@ line (w ∷ []) = w ++ newline ∷ []
 line (w ∷ v ∷ words) = w ++ blank ∷ [] ++ line (v ∷ words)
 
 -- numbers on a line
-abbrev pub numbersLine : List ℕ → List ℕ
-numbersLine values = line (map decimal values)
+abbrev pub numbers_line : List ℕ → List ℕ
+numbers_line values = line (map decimal values)
 
-abbrev pub numberLine : ℕ → List ℕ
-numberLine n = numbersLine (n ∷ [])
+abbrev pub number_line : ℕ → List ℕ
+number_line n = numbers_line (n ∷ [])

@@ -3,28 +3,28 @@ use Rattle.std.specs.Prelude.{Bool, ◌&&◌, cond, List, [], ◌∷◌, ℕ, �
 use Rattle.text.specs.declared.Parsed.{Parsed}
 use Rattle.text.specs.declared.Parsed.TheVariants.{Number, NoNumber}
 use Rattle.tool.specs.declared.Row.{Row}
-use Rattle.tool.specs.Verbs.{isHidden, rowNamed, parameterIn}
+use Rattle.tool.specs.Verbs.{is_hidden, row_named, parameter_in}
 
 -- the numbers that words stand for, or the place of the first that stands for none
 pub data Numbers : Type 0 where
   all : List ℕ → Numbers
   stopped : ℕ → Numbers
 
-abbrev pub prependParsed : Parsed → ℕ → Numbers → Numbers
-prependParsed NoNumber place rest = stopped place
-prependParsed (Number n) place (all values) = all (n ∷ values)
-prependParsed (Number n) place (stopped other) = stopped other
+abbrev pub prepend_parsed : Parsed → ℕ → Numbers → Numbers
+prepend_parsed NoNumber place rest = stopped place
+prepend_parsed (Number n) place (all values) = all (n ∷ values)
+prepend_parsed (Number n) place (stopped other) = stopped other
 
 -- from a place on
-unfoldable pub numbersFrom : Row → ℕ → List (List ℕ) → Numbers
-numbersFrom row place [] = all []
-numbersFrom row place (word ∷ words) = prependParsed (parameterIn row place word) place (numbersFrom row (place + 1) words)
+unfoldable pub numbers_from : Row → ℕ → List (List ℕ) → Numbers
+numbers_from row place [] = all []
+numbers_from row place (word ∷ words) = prepend_parsed (parameter_in row place word) place (numbers_from row (place + 1) words)
 
 pub data Asked : Type 0 where
   no_word : Asked
-  noVerb : List ℕ → Asked
+  no_verb : List ℕ → Asked
   -- the verb's name and its row, and how many parameters came
-  wrongCount : List ℕ → Row → ℕ → Asked
+  wrong_count : List ℕ → Row → ℕ → Asked
   -- a word that isn't read, the verb's row, and its place among the parameters
   unread : List ℕ → Row → ℕ → Asked
   known : Row → List ℕ → Asked
@@ -33,16 +33,16 @@ abbrev pub takes : Row → ℕ → Bool
 takes row count = leb row.least count && leb count row.most
 
 -- a verb with its parameters, or the first of them that isn't read
-abbrev pub withNumbers : Row → List (List ℕ) → Numbers → Asked
-withNumbers row parameters (all values) = known row values
-withNumbers row parameters (stopped place) = unread (get_or parameters place []) row place
+abbrev pub with_numbers : Row → List (List ℕ) → Numbers → Asked
+with_numbers row parameters (all values) = known row values
+with_numbers row parameters (stopped place) = unread (get_or parameters place []) row place
 
 -- by the row of the first word, that word, and those behind it
 abbrev pub asked_of : Bool → Row → List ℕ → List (List ℕ) → Asked
-asked_of inScript row name parameters =
-    cond (isHidden inScript row.verb) (noVerb name)
-    (cond (takes row (length parameters)) (withNumbers row parameters (numbersFrom row 0 parameters)) (wrongCount name row (length parameters)))
+asked_of in_script row name parameters =
+    cond (is_hidden in_script row.verb) (no_verb name)
+    (cond (takes row (length parameters)) (with_numbers row parameters (numbers_from row 0 parameters)) (wrong_count name row (length parameters)))
 
-unfoldable pub askedBy : Bool → List (List ℕ) → Asked
-askedBy inScript [] = no_word
-askedBy inScript (name ∷ parameters) = asked_of inScript (rowNamed name) name parameters
+unfoldable pub asked_by : Bool → List (List ℕ) → Asked
+asked_by in_script [] = no_word
+asked_by in_script (name ∷ parameters) = asked_of in_script (row_named name) name parameters

@@ -1,27 +1,27 @@
 -- The reply to a command line: a status and a text, which goes to standard output where the call is answered, else to standard error.
 use Rattle.std.specs.Prelude.{◌≡◌, Bool, false, not, ◌&&◌, cond, List, [], ◌++◌, ℕ, ◌*◌, ◌^◌, ◌%◌, ◌<◌, eqb, length, get_or, drop}
 use Rattle.refusal.specs.Outcomes.{Outcome, refused, answered}
-use Rattle.text.specs.Text.{numberLine, numbersLine}
+use Rattle.text.specs.Text.{number_line, numbers_line}
 use Rattle.modular.specs.Residues.{remainder}
-use Rattle.modular.specs.Primes.{isPrime}
-use Rattle.modular.specs.Inverses.{inverseOutcome}
+use Rattle.modular.specs.Primes.{is_prime}
+use Rattle.modular.specs.Inverses.{inverse_outcome}
 use Rattle.fibonacci.specs.Hofstadter.{G}
 use Rattle.fibonacci.specs.Height.{height}
-use Rattle.fibonacci.specs.Services.{fibonacciOutcome, places_of, numberOutcome, bit}
-use Rattle.fibonacci.specs.Solutions.{solutionOutcome}
+use Rattle.fibonacci.specs.Services.{fibonacci_outcome, places_of, number_outcome, bit}
+use Rattle.fibonacci.specs.Solutions.{solution_outcome}
 use Rattle.tape.specs.Words.{decoded}
-use Rattle.tape.specs.Layout.{maxWords, steps_of}
-use Rattle.encoding.specs.Encoding.{bytes_of, tapeIn, word_bytes}
-use Rattle.named.specs.Named.{namedWords}
-use Rattle.program.specs.Services.{buildOutcome, checkOutcome, acceptOutcome}
-use Rattle.sequencer.specs.Records.{Record, recordNumbers, row_of, recordIn}
-use Rattle.sequencer.specs.Services.{loadOutcome, runOutcome, forwardOutcome, traceOutcome, cutOutcome}
-use Rattle.sequencer.specs.Bases.{raiseOutcome, raisedBases}
-use Rattle.sequencer.specs.Tables.{tableOutcome}
-use Rattle.sequencer.specs.Sessions.{stepOutcome, isBackward}
-use Rattle.sequencer.specs.Previews.{previewOutcome}
-use Rattle.sequencer.specs.Lists.{Request, afterAll, numbersAll, requestsOf}
-use Rattle.listing.specs.Listing.{linesFor}
+use Rattle.tape.specs.Layout.{max_words, steps_of}
+use Rattle.encoding.specs.Encoding.{bytes_of, tape_in, word_bytes}
+use Rattle.named.specs.Named.{named_words}
+use Rattle.program.specs.Services.{build_outcome, check_outcome, accept_outcome}
+use Rattle.sequencer.specs.Records.{Record, record_numbers, row_of, record_in}
+use Rattle.sequencer.specs.Services.{load_outcome, run_outcome, forward_outcome, trace_outcome, cut_outcome}
+use Rattle.sequencer.specs.Bases.{raise_outcome, raised_bases}
+use Rattle.sequencer.specs.Tables.{table_outcome}
+use Rattle.sequencer.specs.Sessions.{step_outcome, is_backward}
+use Rattle.sequencer.specs.Previews.{preview_outcome}
+use Rattle.sequencer.specs.Lists.{Request, after_all, numbers_all, requests_of}
+use Rattle.listing.specs.Listing.{lines_for}
 use Rattle.tool.specs.declared.TapeVerb.{TapeVerb}
 use Rattle.tool.specs.declared.TapeVerb.TheVariants.{Check, Listing, Load, Run, SingleStep, Preview, Power, Raise, Trace, Table, Cut, Play}
 use Rattle.tool.specs.declared.NumberVerb.{NumberVerb}
@@ -29,9 +29,9 @@ use Rattle.tool.specs.declared.NumberVerb.TheVariants.{Decode, Fibonacci, Places
 use Rattle.tool.specs.declared.Verb.{Verb}
 use Rattle.tool.specs.declared.Verb.TheVariants.{Unknown, Build, Script, Help, Version, OnTape, OnNumbers, InScript}
 use Rattle.tool.specs.declared.Row.{Row}
-use Rattle.tool.specs.Verbs.{takesTape, takesLines, givesTape}
-use Rattle.tool.specs.Calls.{Asked, no_word, noVerb, wrongCount, unread, known, askedBy}
-use Rattle.tool.specs.Texts.{exponentsLine, tableLines, recordLine, previewLines, powerLines, meaning, versionLine, refusalLine, noVerbLine, wrongCountLine, unreadLine, scriptLine, usage}
+use Rattle.tool.specs.Verbs.{takes_tape, takes_lines, gives_tape}
+use Rattle.tool.specs.Calls.{Asked, no_word, no_verb, wrong_count, unread, known, asked_by}
+use Rattle.tool.specs.Texts.{exponents_line, table_lines, record_line, preview_lines, power_lines, meaning, version_line, refusal_line, no_verb_line, wrong_count_line, unread_line, script_line, usage}
 
 pub record Replied : Type 0 where
   -- 0 answered, 1 refused, 2 not understood
@@ -42,7 +42,7 @@ abbrev pub answers : List ℕ → Replied
 answers text = record { status = 0; text = text }
 
 abbrev pub refuses : ℕ → ℕ → Replied
-refuses own n = record { status = 1; text = refusalLine own n }
+refuses own n = record { status = 1; text = refusal_line own n }
 
 abbrev pub complains : List ℕ → Replied
 complains text = record { status = 2; text = text }
@@ -78,71 +78,71 @@ at values place = get_or values place 0
 -- the tape's bytes
 unfoldable pub built : ℕ → List ℕ → Replied
 built own v =
-    printed own (buildOutcome (at v 0) (at v 1) (at v 2) (at v 3) maxWords) (λ (n : ℕ). bytes_of (namedWords (at v 0) (at v 1) (at v 2) (at v 3)))
+    printed own (build_outcome (at v 0) (at v 1) (at v 2) (at v 3) max_words) (λ (n : ℕ). bytes_of (named_words (at v 0) (at v 1) (at v 2) (at v 3)))
 
-unfoldable pub numberReply : NumberVerb → ℕ → List ℕ → Replied
-numberReply Decode own v = answers (meaning (decoded (at v 0)))
-numberReply Fibonacci own v = printed own (fibonacciOutcome (at v 0)) numberLine
-numberReply Places own v = answers (numbersLine (places_of (at v 0)))
-numberReply NumberOf own v = printed own (numberOutcome v) numberLine
-numberReply Hofstadter own v = answers (numberLine (G (at v 0)))
-numberReply Inverse own v = printed own (inverseOutcome (at v 0) (at v 1)) numberLine
-numberReply Height own v = answers (numberLine (height (at v 0)))
-numberReply Solution own v = printed own (solutionOutcome (at v 0) (at v 1) (at v 2)) numberLine
-numberReply Prime own v = answers (numberLine (bit (isPrime (at v 0))))
-numberReply MulMod own v = answers (numberLine (remainder (at v 0 * at v 1) (at v 2)))
-numberReply PowMod own v = answers (numberLine (remainder (at v 0 ^ at v 1) (at v 2)))
+unfoldable pub number_reply : NumberVerb → ℕ → List ℕ → Replied
+number_reply Decode own v = answers (meaning (decoded (at v 0)))
+number_reply Fibonacci own v = printed own (fibonacci_outcome (at v 0)) number_line
+number_reply Places own v = answers (numbers_line (places_of (at v 0)))
+number_reply NumberOf own v = printed own (number_outcome v) number_line
+number_reply Hofstadter own v = answers (number_line (G (at v 0)))
+number_reply Inverse own v = printed own (inverse_outcome (at v 0) (at v 1)) number_line
+number_reply Height own v = answers (number_line (height (at v 0)))
+number_reply Solution own v = printed own (solution_outcome (at v 0) (at v 1) (at v 2)) number_line
+number_reply Prime own v = answers (number_line (bit (is_prime (at v 0))))
+number_reply MulMod own v = answers (number_line (remainder (at v 0 * at v 1) (at v 2)))
+number_reply PowMod own v = answers (number_line (remainder (at v 0 ^ at v 1) (at v 2)))
 
 -- many bases: the row afterwards
-abbrev pub raisedAll : ℕ → List ℕ → List ℕ → Replied
-raisedAll own bases tape = printed own (raiseOutcome tape bases) (λ (n : ℕ). numbersLine (raisedBases tape bases))
+abbrev pub raised_all : ℕ → List ℕ → List ℕ → Replied
+raised_all own bases tape = printed own (raise_outcome tape bases) (λ (n : ℕ). numbers_line (raised_bases tape bases))
 
 -- a list of runs: the record at its end, then each run's number
-abbrev pub runsTold : List Request → Record → List ℕ
-runsTold requests s = row_of (afterAll requests s) ++ numbersAll requests s
+abbrev pub runs_told : List Request → Record → List ℕ
+runs_told requests s = row_of (after_all requests s) ++ numbers_all requests s
 
 -- the first parameters are the record, and those behind it the requests
 abbrev pub played : List ℕ → List ℕ → Replied
-played v tapes = answers (numbersLine (runsTold (requestsOf tapes (drop recordNumbers v)) (recordIn v)))
+played v tapes = answers (numbers_line (runs_told (requests_of tapes (drop record_numbers v)) (record_in v)))
 
 -- on a tape; a list of runs is on a row of tapes
-unfoldable pub tapeReply : TapeVerb → ℕ → List ℕ → List ℕ → List ℕ → Replied
-tapeReply Check own v tape tapes = printed own (checkOutcome tape) numberLine
-tapeReply Listing own v tape tapes = answers (linesFor (acceptOutcome tape) (steps_of tape))
-tapeReply Load own v tape tapes = printed own (loadOutcome tape (at v 0)) recordLine
-tapeReply Run own v tape tapes = printed own (runOutcome tape (recordIn v) (at v 5)) recordLine
-tapeReply SingleStep own v tape tapes = printed own (stepOutcome tape (recordIn v) (isBackward (at v 5))) recordLine
-tapeReply Preview own v tape tapes = printed own (previewOutcome tape (recordIn v) (at v 5)) previewLines
-tapeReply Power own v tape tapes = printed own (forwardOutcome tape (at v 0)) powerLines
-tapeReply Raise own v tape tapes = raisedAll own v tape
-tapeReply Trace own v tape tapes = printed own (traceOutcome tape (at v 0)) exponentsLine
-tapeReply Table own v tape tapes = printed own (tableOutcome tape (at v 0)) tableLines
-tapeReply Cut own v tape tapes = printed own (cutOutcome tape (at v 0) (at v 1)) numbersLine
-tapeReply Play own v tape tapes = played v tapes
+unfoldable pub tape_reply : TapeVerb → ℕ → List ℕ → List ℕ → List ℕ → Replied
+tape_reply Check own v tape tapes = printed own (check_outcome tape) number_line
+tape_reply Listing own v tape tapes = answers (lines_for (accept_outcome tape) (steps_of tape))
+tape_reply Load own v tape tapes = printed own (load_outcome tape (at v 0)) record_line
+tape_reply Run own v tape tapes = printed own (run_outcome tape (record_in v) (at v 5)) record_line
+tape_reply SingleStep own v tape tapes = printed own (step_outcome tape (record_in v) (is_backward (at v 5))) record_line
+tape_reply Preview own v tape tapes = printed own (preview_outcome tape (record_in v) (at v 5)) preview_lines
+tape_reply Power own v tape tapes = printed own (forward_outcome tape (at v 0)) power_lines
+tape_reply Raise own v tape tapes = raised_all own v tape
+tape_reply Trace own v tape tapes = printed own (trace_outcome tape (at v 0)) exponents_line
+tape_reply Table own v tape tapes = printed own (table_outcome tape (at v 0)) table_lines
+tape_reply Cut own v tape tapes = printed own (cut_outcome tape (at v 0) (at v 1)) numbers_line
+tape_reply Play own v tape tapes = played v tapes
 
 abbrev pub means : Verb → ℕ → List ℕ → List ℕ → List ℕ → Replied
 means Unknown own v tape tapes = complains usage
 means Build own v tape tapes = built own v
-means Script own v tape tapes = complains scriptLine
+means Script own v tape tapes = complains script_line
 means Help own v tape tapes = answers usage
-means Version own v tape tapes = answers versionLine
-means (OnTape verb) own v tape tapes = tapeReply verb own v tape tapes
-means (OnNumbers verb) own v tape tapes = numberReply verb own v
+means Version own v tape tapes = answers version_line
+means (OnTape verb) own v tape tapes = tape_reply verb own v tape tapes
+means (OnNumbers verb) own v tape tapes = number_reply verb own v
 means (InScript verb) own v tape tapes = complains usage
 
 -- ---- the reply
 
 -- the refusal whose reason is not the usual one: 6 where a tape was to come and its bytes weren't whole words
-abbrev pub ownIn : Row → Bool → ℕ
-ownIn row is_whole = cond (takesTape row.verb && not is_whole) 6 row.own_val
+abbrev pub own_in : Row → Bool → ℕ
+own_in row is_whole = cond (takes_tape row.verb && not is_whole) 6 row.own_val
 
 -- to what is asked, with the tape at hand and the row of tapes
-abbrev pub replyTo : Asked → Bool → List ℕ → List ℕ → Replied
-replyTo no_word is_whole tape tapes = complains usage
-replyTo (noVerb word) is_whole tape tapes = complains (noVerbLine word)
-replyTo (wrongCount name row given) is_whole tape tapes = complains (wrongCountLine name row given)
-replyTo (unread word row place) is_whole tape tapes = complains (unreadLine word row place)
-replyTo (known row values) is_whole tape tapes = means row.verb (ownIn row is_whole) values tape tapes
+abbrev pub reply_to : Asked → Bool → List ℕ → List ℕ → Replied
+reply_to no_word is_whole tape tapes = complains usage
+reply_to (no_verb word) is_whole tape tapes = complains (no_verb_line word)
+reply_to (wrong_count name row given) is_whole tape tapes = complains (wrong_count_line name row given)
+reply_to (unread word row place) is_whole tape tapes = complains (unread_line word row place)
+reply_to (known row values) is_whole tape tapes = means row.verb (own_in row is_whole) values tape tapes
 
 -- bytes that are whole words
 abbrev pub is_whole : List ℕ → Bool
@@ -150,27 +150,27 @@ is_whole bytes = eqb (length bytes % word_bytes) 0
 
 -- the reply of the tool to the words after its name, and standard input
 unfoldable pub reply : List (List ℕ) → List ℕ → Replied
-reply words input = replyTo (askedBy false words) (is_whole input) (tapeIn input) (tapeIn input)
+reply words input = reply_to (asked_by false words) (is_whole input) (tape_in input) (tape_in input)
 
 -- the verb, where one is known
-abbrev pub verbOf : Asked → Verb
-verbOf no_word = Unknown
-verbOf (noVerb word) = Unknown
-verbOf (wrongCount name row given) = Unknown
-verbOf (unread word row place) = Unknown
-verbOf (known row values) = row.verb
+abbrev pub verb_of : Asked → Verb
+verb_of no_word = Unknown
+verb_of (no_verb word) = Unknown
+verb_of (wrong_count name row given) = Unknown
+verb_of (unread word row place) = Unknown
+verb_of (known row values) = row.verb
 
-abbrev pub verbIn : List (List ℕ) → Verb
-verbIn words = verbOf (askedBy false words)
+abbrev pub verb_in : List (List ℕ) → Verb
+verb_in words = verb_of (asked_by false words)
 
 -- standard input is read for a tape
-unfoldable pub readsTape : List (List ℕ) → Bool
-readsTape words = takesTape (verbIn words)
+unfoldable pub reads_tape : List (List ℕ) → Bool
+reads_tape words = takes_tape (verb_in words)
 
 -- standard input is a script
-unfoldable pub readsScript : List (List ℕ) → Bool
-readsScript words = takesLines (verbIn words)
+unfoldable pub reads_script : List (List ℕ) → Bool
+reads_script words = takes_lines (verb_in words)
 
 -- what is answered is a tape
-unfoldable pub writesTape : List (List ℕ) → Bool
-writesTape words = givesTape (verbIn words)
+unfoldable pub writes_tape : List (List ℕ) → Bool
+writes_tape words = gives_tape (verb_in words)

@@ -1,7 +1,7 @@
 -- The texts of replies: results, refusals, and what is said of a command line that isn't understood.
 use Rattle.std.specs.Prelude.{cond, List, [], ◌∷◌, ◌++◌, map, ℕ, eqb, ℤ, get_or, drop}
-use Rattle.refusal.specs.Reasons.{reasons, ownReasons}
-use Rattle.text.specs.Text.{ascii, decimal, whole, newline, line, numberLine, numbersLine}
+use Rattle.refusal.specs.Reasons.{reasons, own_reasons}
+use Rattle.text.specs.Text.{ascii, decimal, whole, newline, line, number_line, numbers_line}
 use Rattle.text.specs.Quoting.{quoted}
 use Rattle.matrices.specs.Matrices.{Matrix}
 use Rattle.tape.specs.declared.Step.{Step}
@@ -9,80 +9,80 @@ use Rattle.tape.specs.declared.Step.TheVariants.{Mul, Div, Swp}
 use Rattle.tape.specs.declared.Decoded.{Decoded}
 use Rattle.tape.specs.declared.Decoded.TheVariants.{Heading, P, R, K, Action, End, Bad}
 use Rattle.machine.specs.Machine.{reg}
-use Rattle.named.specs.Named.{lastVariant, variantNames}
+use Rattle.named.specs.Named.{last_variant, variant_names}
 use Rattle.sequencer.specs.Records.{Record, row_of}
 use Rattle.sequencer.specs.Previews.{Shown}
 use Rattle.tool.specs.declared.Row.{Row}
-use Rattle.tool.specs.Verbs.{isVariant}
+use Rattle.tool.specs.Verbs.{is_variant}
 
 -- ---- results
 
 -- whole numbers, with a minus sign where they are negative
-abbrev pub exponentsLine : List ℤ → List ℕ
-exponentsLine values = line (map whole values)
+abbrev pub exponents_line : List ℤ → List ℕ
+exponents_line values = line (map whole values)
 
 -- the line of row i of a table
 abbrev pub row_line : Matrix → ℕ → List ℕ
-row_line m i = exponentsLine (get_or m i [])
+row_line m i = exponents_line (get_or m i [])
 
 -- a line for each register
-abbrev pub tableLines : Matrix → List ℕ
-tableLines m = row_line m 0 ++ row_line m 1 ++ row_line m 2 ++ row_line m 3
+abbrev pub table_lines : Matrix → List ℕ
+table_lines m = row_line m 0 ++ row_line m 1 ++ row_line m 2 ++ row_line m 3
 
 -- a record: the four registers, then the position
-abbrev pub recordLine : Record → List ℕ
-recordLine s = numbersLine (row_of s)
+abbrev pub record_line : Record → List ℕ
+record_line s = numbers_line (row_of s)
 
 -- a preview: the registers on a line, the counts on the next
-abbrev pub previewLines : Shown → List ℕ
-previewLines w = numbersLine w.registers ++ numbersLine w.counts
+abbrev pub preview_lines : Shown → List ℕ
+preview_lines w = numbers_line w.registers ++ numbers_line w.counts
 
 -- register 1 on a line of its own, and the record
-abbrev pub powerLines : Record → List ℕ
-powerLines s = numberLine (reg s.registers 1) ++ recordLine s
+abbrev pub power_lines : Record → List ℕ
+power_lines s = number_line (reg s.registers 1) ++ record_line s
 
 -- a word's meaning: its name and its numbers
-abbrev pub stepMeaning : Step → List ℕ
-stepMeaning (Mul target source) = line (ascii "mul" ∷ decimal target ∷ decimal source ∷ [])
-stepMeaning (Div target source) = line (ascii "div" ∷ decimal target ∷ decimal source ∷ [])
-stepMeaning (Swp target source) = line (ascii "swp" ∷ decimal target ∷ decimal source ∷ [])
+abbrev pub step_meaning : Step → List ℕ
+step_meaning (Mul target source) = line (ascii "mul" ∷ decimal target ∷ decimal source ∷ [])
+step_meaning (Div target source) = line (ascii "div" ∷ decimal target ∷ decimal source ∷ [])
+step_meaning (Swp target source) = line (ascii "swp" ∷ decimal target ∷ decimal source ∷ [])
 
 abbrev pub meaning : Decoded → List ℕ
 meaning (Heading variant) = line (ascii "heading" ∷ decimal variant ∷ [])
 meaning (P n) = line (ascii "p" ∷ decimal n ∷ [])
 meaning (R n) = line (ascii "r" ∷ decimal n ∷ [])
 meaning (K n) = line (ascii "k" ∷ decimal n ∷ [])
-meaning (Action step) = stepMeaning step
+meaning (Action step) = step_meaning step
 meaning (End count) = line (ascii "end" ∷ decimal count ∷ [])
 meaning Bad = line (ascii "none" ∷ [])
 
-abbrev pub versionLine : List ℕ
-versionLine = ascii "fibexp 3.1.0" ++ newline ∷ []
+abbrev pub version_line : List ℕ
+version_line = ascii "fibexp 3.1.0" ++ newline ∷ []
 
 -- ---- refusals
 
 -- what a refusal is given for; `own` is the number whose reason is the service's own
-unfoldable pub reasonFor : ℕ → ℕ → List ℕ
-reasonFor own n = cond (eqb n own) (get_or (map ascii ownReasons) n []) (get_or (map ascii reasons) n [])
+unfoldable pub reason_for : ℕ → ℕ → List ℕ
+reason_for own n = cond (eqb n own) (get_or (map ascii own_reasons) n []) (get_or (map ascii reasons) n [])
 
-unfoldable pub refusalLine : ℕ → ℕ → List ℕ
-refusalLine own n = ascii "fibexp: refused " ++ decimal n ++ ascii ": " ++ reasonFor own n ++ newline ∷ []
+unfoldable pub refusal_line : ℕ → ℕ → List ℕ
+refusal_line own n = ascii "fibexp: refused " ++ decimal n ++ ascii ": " ++ reason_for own n ++ newline ∷ []
 
 -- ---- complaints
 
-unfoldable pub noVerbLine : List ℕ → List ℕ
-noVerbLine word = ascii "fibexp: " ++ quoted word ++ ascii ": no such verb; fibexp help lists them" ++ newline ∷ []
+unfoldable pub no_verb_line : List ℕ → List ℕ
+no_verb_line word = ascii "fibexp: " ++ quoted word ++ ascii ": no such verb; fibexp help lists them" ++ newline ∷ []
 
 -- how many parameters a verb takes
-unfoldable pub fromText : ℕ → ℕ → List ℕ
-fromText least most = cond (eqb least most) [] (decimal least ++ ascii " to ")
+unfoldable pub from_text : ℕ → ℕ → List ℕ
+from_text least most = cond (eqb least most) [] (decimal least ++ ascii " to ")
 
-unfoldable pub countText : ℕ → ℕ → List ℕ
-countText least most = fromText least most ++ decimal most ++ cond (eqb most 1) (ascii " parameter") (ascii " parameters")
+unfoldable pub count_text : ℕ → ℕ → List ℕ
+count_text least most = from_text least most ++ decimal most ++ cond (eqb most 1) (ascii " parameter") (ascii " parameters")
 
-unfoldable pub wrongCountLine : List ℕ → Row → ℕ → List ℕ
-wrongCountLine name row given =
-    ascii "fibexp: " ++ name ++ ascii " takes " ++ countText row.least row.most ++ ascii ", " ++ decimal given ++ ascii " given" ++ newline ∷ []
+unfoldable pub wrong_count_line : List ℕ → Row → ℕ → List ℕ
+wrong_count_line name row given =
+    ascii "fibexp: " ++ name ++ ascii " takes " ++ count_text row.least row.most ++ ascii ", " ++ decimal given ++ ascii " given" ++ newline ∷ []
 
 -- names with a comma between
 unfoldable pub listed : List (List ℕ) → List ℕ
@@ -91,19 +91,19 @@ listed (name ∷ []) = name
 listed (name ∷ next ∷ names) = name ++ ascii ", " ++ listed (next ∷ names)
 
 -- the variants that build takes, by name and by number
-unfoldable pub variantsText : List ℕ
-variantsText = listed (drop 1 variantNames) ++ ascii " or 1 to " ++ decimal lastVariant
+unfoldable pub variants_text : List ℕ
+variants_text = listed (drop 1 variant_names) ++ ascii " or 1 to " ++ decimal last_variant
 
 -- a word that isn't read as the parameter of its place
-unfoldable pub unreadText : Row → ℕ → List ℕ
-unreadText row place =
-    cond (isVariant row.verb place) (ascii ": no variant; " ++ variantsText) (ascii ": not a whole number from 0 to " ++ decimal row.largest)
+unfoldable pub unread_text : Row → ℕ → List ℕ
+unread_text row place =
+    cond (is_variant row.verb place) (ascii ": no variant; " ++ variants_text) (ascii ": not a whole number from 0 to " ++ decimal row.largest)
 
-unfoldable pub unreadLine : List ℕ → Row → ℕ → List ℕ
-unreadLine word row place = ascii "fibexp: " ++ quoted word ++ unreadText row place ++ newline ∷ []
+unfoldable pub unread_line : List ℕ → Row → ℕ → List ℕ
+unread_line word row place = ascii "fibexp: " ++ quoted word ++ unread_text row place ++ newline ∷ []
 
-abbrev pub scriptLine : List ℕ
-scriptLine = ascii "fibexp: script is a verb of the program fibexp alone" ++ newline ∷ []
+abbrev pub script_line : List ℕ
+script_line = ascii "fibexp: script is a verb of the program fibexp alone" ++ newline ∷ []
 
 -- texts with byte 10 after each
 unfoldable pub lines : List (List ℕ) → List ℕ
@@ -114,7 +114,7 @@ unfoldable pub usage : List ℕ
 usage =
     lines
     (ascii "usage: fibexp VERB PARAMETER.."
-    ∷ (ascii "  build P R K VARIANT    write a tape; VARIANT is " ++ variantsText)
+    ∷ (ascii "  build P R K VARIANT    write a tape; VARIANT is " ++ variants_text)
     ∷ ascii "  script                 commands from standard input, one on a line"
     ∷ ascii "on the tape from standard input; a RECORD is C D E F POSITION, the registers and the position:"
     ∷ ascii "  check                  0 where the tape is accepted"

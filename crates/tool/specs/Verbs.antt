@@ -4,8 +4,8 @@ use Prim.Native.String.{String}
 use Rattle.text.specs.Text.{ascii}
 use Rattle.text.specs.declared.Parsed.{Parsed}
 use Rattle.text.specs.declared.Parsed.TheVariants.{Number}
-use Rattle.text.specs.Reading.{parseNumber}
-use Rattle.named.specs.Named.{variantNames}
+use Rattle.text.specs.Reading.{parse_number}
+use Rattle.named.specs.Named.{variant_names}
 use Rattle.program.specs.Same.{same_words}
 use Rattle.tool.specs.declared.TapeVerb.TheVariants.{Check, Listing, Load, Run, SingleStep, Preview, Power, Raise, Trace, Table, Cut, Play}
 use Rattle.tool.specs.declared.NumberVerb.{NumberVerb}
@@ -19,16 +19,16 @@ use Rattle.tool.specs.declared.Row.{Row}
 -- ---- the table
 
 -- the most parameters of all, those of raise: above what the service takes, so that it is the service that refuses
-abbrev pub maxParameters : ℕ
-maxParameters = 66
+abbrev pub max_parameters : ℕ
+max_parameters = 66
 
 -- the most of play, number, tape and append
-abbrev pub maxNumbers : ℕ
-maxNumbers = 64
+abbrev pub max_numbers : ℕ
+max_numbers = 64
 
 -- the most elements of a buffer that a script gives
-abbrev pub maxRoom : ℕ
-maxRoom = 4096
+abbrev pub max_room : ℕ
+max_room = 4096
 
 abbrev pub largest8 : ℕ
 largest8 = 255
@@ -65,15 +65,15 @@ entries =
     ∷ entry "step" (OnTape SingleStep) 6 6 largest32 9
     ∷ entry "preview" (OnTape Preview) 6 6 largest32 9
     ∷ entry "power" (OnTape Power) 1 1 largest32 0
-    ∷ entry "raise" (OnTape Raise) 0 maxParameters largest32 4
+    ∷ entry "raise" (OnTape Raise) 0 max_parameters largest32 4
     ∷ entry "trace" (OnTape Trace) 1 1 largest32 0
     ∷ entry "table" (OnTape Table) 1 1 largest32 0
     ∷ entry "cut" (OnTape Cut) 2 2 largest32 10
-    ∷ entry "play" (OnTape Play) 5 maxNumbers largest32 0
+    ∷ entry "play" (OnTape Play) 5 max_numbers largest32 0
     ∷ entry "decode" (OnNumbers Decode) 1 1 largest32 0
     ∷ entry "fibonacci" (OnNumbers Fibonacci) 1 1 largest32 13
     ∷ entry "places" (OnNumbers Places) 1 1 largest64 0
-    ∷ entry "number" (OnNumbers NumberOf) 0 maxNumbers largest8 12
+    ∷ entry "number" (OnNumbers NumberOf) 0 max_numbers largest8 12
     ∷ entry "hofstadter" (OnNumbers Hofstadter) 1 1 largest64 0
     ∷ entry "inverse" (OnNumbers Inverse) 2 2 largest32 2
     ∷ entry "height" (OnNumbers Height) 1 1 largest32 0
@@ -81,12 +81,12 @@ entries =
     ∷ entry "prime" (OnNumbers Prime) 1 1 largest32 0
     ∷ entry "mulmod" (OnNumbers MulMod) 3 3 largest32 0
     ∷ entry "powmod" (OnNumbers PowMod) 3 3 largest32 0
-    ∷ entry "tape" (InScript Tape) 0 maxNumbers largest32 0
-    ∷ entry "append" (InScript Append) 0 maxNumbers largest32 0
+    ∷ entry "tape" (InScript Tape) 0 max_numbers largest32 0
+    ∷ entry "append" (InScript Append) 0 max_numbers largest32 0
     ∷ entry "change" (InScript Change) 2 2 largest32 0
     ∷ entry "drop" (InScript Drop) 1 1 largest32 0
     ∷ entry "behind" (InScript Behind) 0 0 largest32 0
-    ∷ entry "room" (InScript Room) 0 1 maxRoom 0
+    ∷ entry "room" (InScript Room) 0 1 max_room 0
     ∷ []
 
 unfoldable pub names : List (List ℕ)
@@ -98,110 +98,110 @@ rows = map (λ (e : Entry). e.row) entries
 -- ---- a verb by its name
 
 -- where a word stands in a list; past it, where it stands nowhere
-unfoldable pub indexIn : List ℕ → List (List ℕ) → ℕ
-indexIn word [] = 0
-indexIn word (one ∷ words) = cond (same_words word one) 0 (suc (indexIn word words))
+unfoldable pub index_in : List ℕ → List (List ℕ) → ℕ
+index_in word [] = 0
+index_in word (one ∷ words) = cond (same_words word one) 0 (suc (index_in word words))
 
 abbrev pub no_row : Row
 no_row = record { verb = Unknown; least = 0; most = 0; largest = 0; own = 0 }
 
-unfoldable pub rowNamed : List ℕ → Row
-rowNamed name = get_or rows (indexIn name names) no_row
+unfoldable pub row_named : List ℕ → Row
+row_named name = get_or rows (index_in name names) no_row
 
 -- no verb here: no verb at all, or one that only a script has
-abbrev pub isHidden : Bool → Verb → Bool
-isHidden inScript Unknown = true
-isHidden inScript (InScript v) = not inScript
-isHidden inScript Build = false
-isHidden inScript Script = false
-isHidden inScript Help = false
-isHidden inScript Version = false
-isHidden inScript (OnTape v) = false
-isHidden inScript (OnNumbers v) = false
+abbrev pub is_hidden : Bool → Verb → Bool
+is_hidden in_script Unknown = true
+is_hidden in_script (InScript v) = not in_script
+is_hidden in_script Build = false
+is_hidden in_script Script = false
+is_hidden in_script Help = false
+is_hidden in_script Version = false
+is_hidden in_script (OnTape v) = false
+is_hidden in_script (OnNumbers v) = false
 
 -- it takes a tape
-abbrev pub takesTape : Verb → Bool
-takesTape (OnTape v) = true
-takesTape Unknown = false
-takesTape Build = false
-takesTape Script = false
-takesTape Help = false
-takesTape Version = false
-takesTape (OnNumbers v) = false
-takesTape (InScript v) = false
+abbrev pub takes_tape : Verb → Bool
+takes_tape (OnTape v) = true
+takes_tape Unknown = false
+takes_tape Build = false
+takes_tape Script = false
+takes_tape Help = false
+takes_tape Version = false
+takes_tape (OnNumbers v) = false
+takes_tape (InScript v) = false
 
 -- it is a script
-abbrev pub takesLines : Verb → Bool
-takesLines Script = true
-takesLines Unknown = false
-takesLines Build = false
-takesLines Help = false
-takesLines Version = false
-takesLines (OnTape v) = false
-takesLines (OnNumbers v) = false
-takesLines (InScript v) = false
+abbrev pub takes_lines : Verb → Bool
+takes_lines Script = true
+takes_lines Unknown = false
+takes_lines Build = false
+takes_lines Help = false
+takes_lines Version = false
+takes_lines (OnTape v) = false
+takes_lines (OnNumbers v) = false
+takes_lines (InScript v) = false
 
 -- it gives a tape
-abbrev pub givesTape : Verb → Bool
-givesTape Build = true
-givesTape Unknown = false
-givesTape Script = false
-givesTape Help = false
-givesTape Version = false
-givesTape (OnTape v) = false
-givesTape (OnNumbers v) = false
-givesTape (InScript v) = false
+abbrev pub gives_tape : Verb → Bool
+gives_tape Build = true
+gives_tape Unknown = false
+gives_tape Script = false
+gives_tape Help = false
+gives_tape Version = false
+gives_tape (OnTape v) = false
+gives_tape (OnNumbers v) = false
+gives_tape (InScript v) = false
 
 -- the largest parameter that a verb can do with
-abbrev pub limitOn : NumberVerb → ℕ
-limitOn Decode = largest32
-limitOn Fibonacci = largest32
-limitOn Places = largest64
-limitOn NumberOf = largest8
-limitOn Hofstadter = largest64
-limitOn Inverse = largest32
-limitOn Height = largest32
-limitOn Solution = largest32
-limitOn Prime = largest32
-limitOn MulMod = largest32
-limitOn PowMod = largest32
+abbrev pub limit_on : NumberVerb → ℕ
+limit_on Decode = largest32
+limit_on Fibonacci = largest32
+limit_on Places = largest64
+limit_on NumberOf = largest8
+limit_on Hofstadter = largest64
+limit_on Inverse = largest32
+limit_on Height = largest32
+limit_on Solution = largest32
+limit_on Prime = largest32
+limit_on MulMod = largest32
+limit_on PowMod = largest32
 
-abbrev pub limitIn : ScriptVerb → ℕ
-limitIn Tape = largest32
-limitIn Append = largest32
-limitIn Change = largest32
-limitIn Drop = largest32
-limitIn Behind = largest32
-limitIn Room = maxRoom
+abbrev pub limit_in : ScriptVerb → ℕ
+limit_in Tape = largest32
+limit_in Append = largest32
+limit_in Change = largest32
+limit_in Drop = largest32
+limit_in Behind = largest32
+limit_in Room = max_room
 
-abbrev pub limitOf : Verb → ℕ
-limitOf (OnNumbers v) = limitOn v
-limitOf Unknown = largest32
-limitOf Build = largest32
-limitOf Script = largest32
-limitOf Help = largest32
-limitOf Version = largest32
-limitOf (OnTape v) = largest32
-limitOf (InScript v) = limitIn v
+abbrev pub limit_of : Verb → ℕ
+limit_of (OnNumbers v) = limit_on v
+limit_of Unknown = largest32
+limit_of Build = largest32
+limit_of Script = largest32
+limit_of Help = largest32
+limit_of Version = largest32
+limit_of (OnTape v) = largest32
+limit_of (InScript v) = limit_in v
 
 -- ---- a parameter by its place
 
 -- build's fourth parameter is a variant
-abbrev pub isVariant : Verb → ℕ → Bool
-isVariant Build place = eqb place 3
-isVariant Unknown place = false
-isVariant Script place = false
-isVariant Help place = false
-isVariant Version place = false
-isVariant (OnTape v) place = false
-isVariant (OnNumbers v) place = false
-isVariant (InScript v) place = false
+abbrev pub is_variant : Verb → ℕ → Bool
+is_variant Build place = eqb place 3
+is_variant Unknown place = false
+is_variant Script place = false
+is_variant Help place = false
+is_variant Version place = false
+is_variant (OnTape v) place = false
+is_variant (OnNumbers v) place = false
+is_variant (InScript v) place = false
 
 -- a variant, by its name or its number
-unfoldable pub variantIn : List ℕ → Parsed
-variantIn word =
-    let variant = indexIn word variantNames in
-    cond (ltb variant (length variantNames)) (Number variant) (parseNumber largest32 word)
+unfoldable pub variant_in : List ℕ → Parsed
+variant_in word =
+    let variant = index_in word variant_names in
+    cond (ltb variant (length variant_names)) (Number variant) (parse_number largest32 word)
 
-unfoldable pub parameterIn : Row → ℕ → List ℕ → Parsed
-parameterIn row place word = cond (isVariant row.verb place) (variantIn word) (parseNumber row.largest word)
+unfoldable pub parameter_in : Row → ℕ → List ℕ → Parsed
+parameter_in row place word = cond (is_variant row.verb place) (variant_in word) (parse_number row.largest word)

@@ -1,6 +1,6 @@
 // Questions about a verb.
 ghost use Rattle.std.specs.Prelude.{◌≡◌};
-ghost use Rattle.tool.specs.Verbs.{isHidden, isVariant, takesTape, takesLines, givesTape};
+ghost use Rattle.tool.specs.Verbs.{is_hidden, is_variant, takes_tape, takes_lines, gives_tape};
 
 use tool::Verb;
 
@@ -9,7 +9,7 @@ const VARIANT_PLACE: usize = 3;
 
 // No verb here: no verb at all, or one that only a script has.
 pub fn is_hidden(in_script: bool, verb: Verb) -> bool
-    ensures { result ≡ isHidden in_script verb }
+    ensures { result ≡ is_hidden in_script verb }
 {
     match verb {
         Verb::Unknown => true,
@@ -25,7 +25,7 @@ pub fn is_hidden(in_script: bool, verb: Verb) -> bool
 
 // The parameter of a place is a variant.
 pub fn is_variant(verb: Verb, place: usize) -> bool
-    ensures { result ≡ isVariant verb place }
+    ensures { result ≡ is_variant verb place }
 {
     match verb {
         Verb::Build => place == VARIANT_PLACE,
@@ -41,7 +41,7 @@ pub fn is_variant(verb: Verb, place: usize) -> bool
 
 // It takes a tape.
 pub fn takes_tape(verb: Verb) -> bool
-    ensures { result ≡ takesTape verb }
+    ensures { result ≡ takes_tape verb }
 {
     match verb {
         Verb::OnTape(_) => true,
@@ -57,7 +57,7 @@ pub fn takes_tape(verb: Verb) -> bool
 
 // It takes the lines of a script.
 pub fn takes_lines(verb: Verb) -> bool
-    ensures { result ≡ takesLines verb }
+    ensures { result ≡ takes_lines verb }
 {
     match verb {
         Verb::Script => true,
@@ -73,7 +73,7 @@ pub fn takes_lines(verb: Verb) -> bool
 
 // It gives a tape.
 pub fn gives_tape(verb: Verb) -> bool
-    ensures { result ≡ givesTape verb }
+    ensures { result ≡ gives_tape verb }
 {
     match verb {
         Verb::Build => true,

@@ -2,13 +2,13 @@
 ghost use Rattle.std.specs.Prelude.{◌≡◌, min, get_or};
 ghost use Rattle.text.specs.Rows.{Put};
 ghost use Rattle.tool.specs.Verbs.{largest8, largest32, largest64};
-ghost use Rattle.tool.specs.Inner.Held.{heldTo};
+ghost use Rattle.tool.specs.Inner.Held.{held_to};
 
 use tool::{LARGEST_8, LARGEST_32};
 
 // A parameter of 64 bits, 0 where there is none.
 pub fn large(values: &[u64], place: usize) -> u64
-    ensures { result ≡ get_or (heldTo largest64 values.now) place 0 }
+    ensures { result ≡ get_or (held_to largest64 values.now) place 0 }
 {
     if values.len() <= place {
         return 0;
@@ -18,7 +18,7 @@ pub fn large(values: &[u64], place: usize) -> u64
 
 // One of 32 bits.
 pub fn small(values: &[u64], place: usize) -> u32
-    ensures { result ≡ get_or (heldTo largest32 values.now) place 0 }
+    ensures { result ≡ get_or (held_to largest32 values.now) place 0 }
 {
     if values.len() <= place {
         return 0;
@@ -28,7 +28,7 @@ pub fn small(values: &[u64], place: usize) -> u32
 
 // The parameters at 32 bits, put into a row from a place on, as many as there is room for. It answers the index past them.
 pub fn words(values: &[u64], row: &mut [u32], at: usize) -> usize
-    ensures { Put row.old at (heldTo largest32 values.now) result row.new }
+    ensures { Put row.old at (held_to largest32 values.now) result row.new }
 {
     let mut next = at;
     let mut i: usize = 0;
@@ -45,7 +45,7 @@ pub fn words(values: &[u64], row: &mut [u32], at: usize) -> usize
 
 // The same as bytes.
 pub fn bytes(values: &[u64], row: &mut [u8], at: usize) -> usize
-    ensures { Put row.old at (heldTo largest8 values.now) result row.new }
+    ensures { Put row.old at (held_to largest8 values.now) result row.new }
 {
     let mut next = at;
     let mut i: usize = 0;

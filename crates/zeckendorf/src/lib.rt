@@ -3,7 +3,7 @@ mod weights;
 
 ghost use Rattle.std.specs.Prelude.{◌≡◌, length};
 ghost use Rattle.fibonacci.specs.Forms.{zeckendorf};
-ghost use Rattle.fibonacci.specs.Services.{places_of, formRow, bitRow};
+ghost use Rattle.fibonacci.specs.Services.{places_of, form_row, bit_row};
 
 use fibonacci::{BitString, Form};
 use weights::{high_enough, lower};
@@ -11,7 +11,7 @@ use weights::{high_enough, lower};
 // The Zeckendorf form of n: from the highest place down, each place taken whose weight is left.
 pub fn zeckendorf(n: u64) -> Form
     ensures count_value { result.count ≡ length (places_of n) }
-    ensures places_value { result.places ≡ formRow n }
+    ensures places_value { result.places ≡ form_row n }
 {
     let mut places = [0u8; 46];
     let mut count: usize = 0;
@@ -31,7 +31,7 @@ pub fn zeckendorf(n: u64) -> Form
 // The bit string of the Zeckendorf form of n, for the programs' loops over places.
 pub fn bit_string(n: u64) -> BitString
     ensures length_value { result.length ≡ length (zeckendorf n) }
-    ensures bits_value { result.bits ≡ bitRow n }
+    ensures bits_value { result.bits ≡ bit_row n }
     ensures count_value { result.count ≡ length (places_of n) }
 {
     let form = zeckendorf(n);

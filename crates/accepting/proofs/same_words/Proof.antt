@@ -5,7 +5,7 @@ use native.Mathlib.Omega.{arith}
 use borrow.Author.Rules.{rules}
 use lib.ListN.{length, drop}
 use Rattle.program.specs.Same.{same_words}
-use Rattle.program.proofs.Laws.Same.{same-lengths, same_stop, same-on, same_end}
+use Rattle.program.proofs.Laws.Same.{same_lengths, same_stop, same_on, same_end}
 use Rattle.accepting.proofs.same_words.Statement.{statement}
 use Rattle.accepting.proofs.same_words.Tie as tie
 
@@ -16,7 +16,7 @@ abbrev decreases-loop : tie.decreases-loop
 decreases-loop a b i₀ i = length a - i
 
 returns : tie.Need-returns invariant-loop decreases-loop
-returns c = sym (same-lengths _ _ c.if1.true)
+returns c = sym (same_lengths _ _ c.if1.true)
 
 loop-holds : tie.Need-loop-init invariant-loop decreases-loop
 loop-holds c = (omega arith, refl)
@@ -29,7 +29,7 @@ returns-2 c =
 loop-again : tie.Need-loop-preserved invariant-loop decreases-loop
 loop-again c =
     let at = c.before.before.before.before in
-    (omega arith, sym (same-on _ _ at.before.if1.false _ c.before.before.before.loop-test.true c.if2.false) ∙ at.loop.invariant.1)
+    (omega arith, sym (same_on _ _ at.before.if1.false _ c.before.before.before.loop-test.true c.if2.false) ∙ at.loop.invariant.1)
 
 returns-3 : tie.Need-returns-3 invariant-loop decreases-loop
 returns-3 c = sym (sym c.before.loop.invariant.1 ∙ same_end _ _ c.before.before.if1.false _ c.loop-test.false)

@@ -3,33 +3,33 @@ use mathlib.Core.Path.{◌≡◌}
 use native.Mathlib.Omega.{arith}
 use lib.ListN.{length}
 use borrow.Author.Tests.{lt-ltb, le-ltb}
-use Rattle.text.specs.Reading.{splitWords}
-use Rattle.named.specs.Named.{variantNames}
-use Rattle.tool.specs.Verbs.{indexIn, variantIn}
+use Rattle.text.specs.Reading.{split_words}
+use Rattle.named.specs.Named.{variant_names}
+use Rattle.tool.specs.Verbs.{index_in, variant_in}
 use borrow.Author.Rules.{rules}
 use Rattle.arguments.proofs.variant.Statement.{statement}
 use Rattle.arguments.proofs.variant.Tie as tie
 
 -- the code's names are those of the definition
-index : (c : tie.After-find) → c.find.result ≡ indexIn c.before.before.before.args.word.now variantNames
-unfolding splitWords
+index : (c : tie.After-find) → c.find.result ≡ index_in c.before.before.before.args.word.now variant_names
+unfolding split_words
 index c = c.find.ensures
 
-count : (c : tie.After-word-count) → c.word_count.result ≡ length variantNames
-unfolding splitWords
+count : (c : tie.After-word-count) → c.word_count.result ≡ length variant_names
+unfolding split_words
 count c = c.word_count.ensures
 
 returns : tie.Need-returns
-unfolding variantIn
+unfolding variant_in
 returns c =
     let found = c.before.before.before in
-    rw (← index found, lt-ltb found.find.result (length variantNames) (omega (arith, count c.before)))
+    rw (← index found, lt-ltb found.find.result (length variant_names) (omega (arith, count c.before)))
 
 returns-2 : tie.Need-returns-2
-unfolding variantIn
+unfolding variant_in
 returns-2 c =
     let found = c.before.before.before.before in
-    rw (← index found, le-ltb found.find.result (length variantNames) (omega (arith, count c.before.before))) c.parse-number.ensures
+    rw (← index found, le-ltb found.find.result (length variant_names) (omega (arith, count c.before.before))) c.parse-number.ensures
 
 pub variant-spec : {M : Type 1} → statement M
 variant-spec =

@@ -1,11 +1,11 @@
 -- `writes_tape` meets its contract: it asks the verb of the command line.
-use Rattle.tool.specs.Replies.{writesTape}
+use Rattle.tool.specs.Replies.{writes_tape}
 use borrow.Author.Rules.{rules}
 use Rattle.arguments.proofs.writes_tape.Statement.{statement}
 use Rattle.arguments.proofs.writes_tape.Tie as tie
 
 returns : tie.Need-returns
-unfolding writesTape
+unfolding writes_tape
 returns c = rw (← c.before.verb-in.ensures) c.gives-tape.ensures
 
 pub writes-tape-spec : {M : Type 1} → statement M

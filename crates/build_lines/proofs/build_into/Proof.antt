@@ -2,8 +2,8 @@
 use native.Mathlib.Omega.{arith}
 use borrow.Author.Rules.{rules}
 use Rattle.tool.specs.Verbs.{largest32}
-use Rattle.tool.specs.Inner.Held.{heldTo}
-use Rattle.scripting.proofs.Laws.Rooms.{built-count, did-built-into}
+use Rattle.tool.specs.Inner.Held.{held_to}
+use Rattle.scripting.proofs.Laws.Rooms.{built_count, did_built_into}
 use Rattle.build_lines.proofs.build_into.Statement.{statement}
 use Rattle.build_lines.proofs.build_into.Tie as tie
 
@@ -12,11 +12,11 @@ show-requires c κs =
     record {
       inside = c.before.before.before.before.before.before.before.before.before.before.before.before.before.before.before.requires.inside;
       short = omega (arith, c.before.before.before.before.before.build.auto.1.1.1.1.0, c.before.before.before.before.before.before.before.before.before.before.before.before.before.before.before.requires.short);
-      counted = omega (arith, built-count _ _ _ _ c.before.before.before.before.before.before.before.before.before.before.before.before.before.before.before.args.row.now c.before.before.before.before.before.build.result c.before.before.before.before.before.build.ensures.0, c.before.before.before.before.before.build.auto.1.1.1.1.0);
+      counted = omega (arith, built_count _ _ _ _ c.before.before.before.before.before.before.before.before.before.before.before.before.before.before.before.args.row.now c.before.before.before.before.before.build.result c.before.before.before.before.before.build.ensures.0, c.before.before.before.before.before.build.auto.1.1.1.1.0);
     }
 
 returns : tie.Need-returns
-returns c = did-built-into _ _ _ _ c.before.before.before.before.before.before.before.before.before.before.before.before.before.before.before.before.before.before.before.before.args.row.now _ c.before.before.before.before.before.before.before.before.before.before.before.before.before.before.before.before.before.before.before.before.args.own (heldTo largest32 c.before.before.before.before.before.before.before.before.before.before.before.before.before.before.before.before.before.before.before.before.args.values.now) _ c.before.before.before.before.before.before.before.before.before.before.build.result c.before.before.before.before.before.before.before.before.before.before.before.before.before.before.before.small.ensures c.before.before.before.before.before.before.before.before.before.before.before.before.before.before.small2.ensures c.before.before.before.before.before.before.before.before.before.before.before.before.before.small3.ensures c.before.before.before.before.before.before.before.before.before.before.before.before.small4.ensures c.before.before.before.before.before.before.before.before.before.before.build.ensures.0 (rw c.before.before.before.before.before.before.before.before.before.before.build.ensures.1 at c.before.before.before.before.show.ensures)
+returns c = did_built_into _ _ _ _ c.before.before.before.before.before.before.before.before.before.before.before.before.before.before.before.before.before.before.before.before.args.row.now _ c.before.before.before.before.before.before.before.before.before.before.before.before.before.before.before.before.before.before.before.before.args.own (held_to largest32 c.before.before.before.before.before.before.before.before.before.before.before.before.before.before.before.before.before.before.before.before.args.values.now) _ c.before.before.before.before.before.before.before.before.before.before.build.result c.before.before.before.before.before.before.before.before.before.before.before.before.before.before.before.small.ensures c.before.before.before.before.before.before.before.before.before.before.before.before.before.before.small2.ensures c.before.before.before.before.before.before.before.before.before.before.before.before.before.small3.ensures c.before.before.before.before.before.before.before.before.before.before.before.before.small4.ensures c.before.before.before.before.before.before.before.before.before.before.build.ensures.0 (rw c.before.before.before.before.before.before.before.before.before.before.build.ensures.1 at c.before.before.before.before.show.ensures)
 
 pub build-into-spec : {M : Type 1} → statement M
 build-into-spec =

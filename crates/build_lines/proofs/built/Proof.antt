@@ -4,7 +4,7 @@ use native.Mathlib.Omega.{arith}
 use lib.ListN.{length-take}
 use lib.Seq.{length-take-le}
 use borrow.Author.Rules.{rules}
-use Rattle.scripting.proofs.Laws.Tapes.{did-print}
+use Rattle.scripting.proofs.Laws.Tapes.{did_print}
 use Rattle.build_lines.proofs.built.Statement.{statement}
 use Rattle.build_lines.proofs.built.Tie as tie
 
@@ -18,7 +18,7 @@ returns : tie.Need-returns
 returns c = rw c.before.before.before.before.before.before.before.before.before.answer.given.1 c.before.before.before.before.leave.ensures
 
 returns-2 : tie.Need-returns-2
-returns-2 c = rw (c.before.before.before.before.before.before.answer2.given.1, ← c.before.before.before.number.ensures) (did-print _ c.before.before.before.before.before.before.before.before.before.before.before.requires.inside refl c.before.before.refuse.ensures.text (omega (arith, c.before.before.refuse.ensures.short)))
+returns-2 c = rw (c.before.before.before.before.before.before.answer2.given.1, ← c.before.before.before.number.ensures) (did_print _ c.before.before.before.before.before.before.before.before.before.before.before.requires.inside refl c.before.before.refuse.ensures.text (omega (arith, c.before.before.refuse.ensures.short)))
 
 pub built-spec : {M : Type 1} → statement M
 built-spec =

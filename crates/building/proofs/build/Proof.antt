@@ -3,42 +3,42 @@ use mathlib.Core.Path.{◌≡◌, sym, ◌∙◌}
 use mathlib.Core.Bool.{false}
 use native.Mathlib.Omega.{arith}
 use borrow.Author.Rules.{rules}
-use Rattle.modular.specs.Inverses.{badExponent}
-use Rattle.named.specs.Parameters.{badModulus, bad_order, badVariant}
-use Rattle.named.proofs.Laws.Parameters.{good-modulus}
-use Rattle.program.proofs.Laws.Answering.{modulus-refused, order-refused, exponent-refused, variant-refused, left-to-room, no-inverse, some-inverse, invertible, writable}
+use Rattle.modular.specs.Inverses.{bad_exponent}
+use Rattle.named.specs.Parameters.{bad_modulus, bad_order, bad_variant}
+use Rattle.named.proofs.Laws.Parameters.{good_modulus_lem}
+use Rattle.program.proofs.Laws.Answering.{modulus_refused, order_refused, exponent_refused, variant_refused, left_to_room, no_inverse, some_inverse, invertible, writable}
 use Rattle.building.proofs.build.Statement.{statement}
 use Rattle.building.proofs.build.Tie as tie
 
 -- what each test leaves
-modulus : (s : tie.Else1) → badModulus s.before.before.before.args.p ≡ false
+modulus : (s : tie.Else1) → bad_modulus s.before.before.before.args.p ≡ false
 modulus s = sym s.before.is-bad-modulus.ensures ∙ s.if1.false
 
 order : (s : tie.Else2) → bad_order s.before.before.before.before.before.args.p s.before.before.before.before.before.args.r ≡ false
 order s = sym s.before.is-bad-order.ensures ∙ s.if2.false
 
-exponent : (s : tie.Else3) → badExponent s.before.before.before.before.before.before.before.args.k s.before.before.before.before.before.before.before.args.r ≡ false
-exponent s = some-inverse _ _ (λ none. s.if3.false (s.before.good-inverse.ensures ∙ none))
+exponent : (s : tie.Else3) → bad_exponent s.before.before.before.before.before.before.before.args.k s.before.before.before.before.before.before.before.args.r ≡ false
+exponent s = some_inverse _ _ (λ none. s.if3.false (s.before.good-inverse.ensures ∙ none))
 
-variant : (s : tie.Else4) → badVariant s.before.before.before.before.before.before.before.before.before.args.variant ≡ false
+variant : (s : tie.Else4) → bad_variant s.before.before.before.before.before.before.before.before.before.args.variant ≡ false
 variant s = sym s.before.is-bad-variant.ensures ∙ s.if4.false
 
 returns : tie.Need-returns
-returns c = modulus-refused _ _ _ _ _ (sym c.before.is-bad-modulus.ensures ∙ c.if1.true)
+returns c = modulus_refused _ _ _ _ _ (sym c.before.is-bad-modulus.ensures ∙ c.if1.true)
 
 is-bad-order-requires : tie.Need-is-bad-order-requires
-is-bad-order-requires c κs = omega (arith, (good-modulus _ (modulus c)).low)
+is-bad-order-requires c κs = omega (arith, (good_modulus_lem _ (modulus c)).low)
 
 returns-2 : tie.Need-returns-2
-returns-2 c = order-refused _ _ _ _ _ (modulus c.before.before) (sym c.before.is-bad-order.ensures ∙ c.if2.true)
+returns-2 c = order_refused _ _ _ _ _ (modulus c.before.before) (sym c.before.is-bad-order.ensures ∙ c.if2.true)
 
 returns-3 : tie.Need-returns-3
-returns-3 c = exponent-refused _ _ _ _ _ (modulus c.before.before.before.before) (order c.before.before) (no-inverse _ _ (sym c.before.good-inverse.ensures ∙ c.if3.true))
+returns-3 c = exponent_refused _ _ _ _ _ (modulus c.before.before.before.before) (order c.before.before) (no_inverse _ _ (sym c.before.good-inverse.ensures ∙ c.if3.true))
 
 returns-4 : tie.Need-returns-4
 returns-4 c =
     let s = c.before.before in
-    variant-refused _ _ _ _ _ (modulus s.before.before.before.before) (order s.before.before) (exponent s) (sym c.before.is-bad-variant.ensures ∙ c.if4.true)
+    variant_refused _ _ _ _ _ (modulus s.before.before.before.before) (order s.before.before) (exponent s) (sym c.before.is-bad-variant.ensures ∙ c.if4.true)
 
 forms-requires : tie.Need-forms-requires
 forms-requires c κs =
@@ -53,7 +53,7 @@ write-requires c κs =
 returns-5 : tie.Need-returns-5
 returns-5 c =
     let s = c.before.before.before.before.before.before.before in
-    left-to-room _ _ _ _ _ (modulus s.before.before.before.before) (order s.before.before) (exponent s) (variant c.before.before.before.before.before) c.before.before.write.ensures
+    left_to_room _ _ _ _ _ (modulus s.before.before.before.before) (order s.before.before) (exponent s) (variant c.before.before.before.before.before) c.before.before.write.ensures
 
 pub build-spec : {M : Type 1} → statement M
 build-spec =

@@ -6,10 +6,10 @@ use native.Mathlib.Omega.{arith}
 use borrow.Author.Rules.{rules}
 use lib.ListN.{length}
 use Rattle.tape.specs.declared.Header.{Header}
-use Rattle.tape.specs.Layout.{headerFor}
-use Rattle.tape.proofs.Laws.Layout.{program-length}
-use Rattle.named.specs.Named.{namedProgram}
-use Rattle.program.proofs.Laws.Building.{named-short, whole, few, count-is, built-short, steps-room, built-written}
+use Rattle.tape.specs.Layout.{header_for}
+use Rattle.tape.proofs.Laws.Layout.{program_length}
+use Rattle.named.specs.Named.{named_program}
+use Rattle.program.proofs.Laws.Building.{named_short, whole, few, count_is, built_short, steps_room, built_written}
 use Rattle.building.proofs.write.Statement.{statement}
 use Rattle.building.proofs.write.Tie as tie
 
@@ -17,11 +17,11 @@ use Rattle.building.proofs.write.Tie as tie
 header_is : (c : tie.After-step-count)
     → let a = c.before.before.args in
     ◌≡◌ {A = Header} (record { variant = a.variant; modulus = a.p; order = a.r; exponent = a.k; steps = c.step_count.result })
-    (headerFor (namedProgram a.p a.r a.k a.variant))
+    (header_for (named_program a.p a.r a.k a.variant))
 header_is c =
     let s = c.before.before in
     let a = s.args in
-    ap (λ (n : ℕ). record { variant = a.variant; modulus = a.p; order = a.r; exponent = a.k; steps = n }) (count-is s.requires.0 s.requires.1 c.step_count.ensures)
+    ap (λ (n : ℕ). record { variant = a.variant; modulus = a.p; order = a.r; exponent = a.k; steps = n }) (count_is s.requires.0 s.requires.1 c.step_count.ensures)
 
 step-count-requires : tie.Need-step-count-requires
 step-count-requires c κs = let a = c.before in few a.requires.0 a.requires.1
@@ -30,18 +30,18 @@ cast-t12 : tie.Need-overflow-cast-t12
 cast-t12 c =
     let s = c.before.before in
     let a = s.args in
-    omega (arith, count-is s.requires.0 s.requires.1 c.step_count.ensures, named-short a.p a.r a.k a.variant s.requires.0, program-length (namedProgram a.p a.r a.k a.variant))
+    omega (arith, count_is s.requires.0 s.requires.1 c.step_count.ensures, named_short a.p a.r a.k a.variant s.requires.0, program_length (named_program a.p a.r a.k a.variant))
 
 returns : tie.Need-returns
 returns c =
     let s = c.before.before.before.before in
-    built-short s.requires.0 s.requires.1 (header_is c.before.before) (omega (arith, c.if1.true, c.before.word_count.ensures))
+    built_short s.requires.0 s.requires.1 (header_is c.before.before) (omega (arith, c.if1.true, c.before.word_count.ensures))
 
 draw-requires : tie.Need-draw-requires
 draw-requires c κs =
     let s = c.before.before.before.before.before.before.before.before.before in
     let laid = c.before.before.before.lay-out.ensures in
-    let room = steps-room s.requires.0 s.requires.1 (header_is c.before.before.before.before.before.before.before) s.args.buffer.now (omega (arith, c.before.before.before.before.before.if1.false, c.before.before.before.before.before.before.word_count.ensures)) in
+    let room = steps_room s.requires.0 s.requires.1 (header_is c.before.before.before.before.before.before.before) s.args.buffer.now (omega (arith, c.before.before.before.before.before.if1.false, c.before.before.before.before.before.before.word_count.ensures)) in
     (whole s.requires.0 s.requires.1, omega (arith, room, laid.0, ap length laid.1))
 
 returns-2 : tie.Need-returns-2
@@ -49,7 +49,7 @@ returns-2 c =
     let s = c.before.before.before.before.before.before.before.before.before.before.before.before in
     let laid = c.before.before.before.before.before.before.lay-out.ensures in
     let total = c.before.before.before.before.before.before.before.before.before.word_count.ensures in
-    built-written s.requires.0 s.requires.1 (header_is c.before.before.before.before.before.before.before.before.before.before) _ (omega (arith, c.before.before.before.before.before.before.before.before.if1.false, total)) laid.0 laid.1 c.before.before.draw.ensures total
+    built_written s.requires.0 s.requires.1 (header_is c.before.before.before.before.before.before.before.before.before.before) _ (omega (arith, c.before.before.before.before.before.before.before.before.if1.false, total)) laid.0 laid.1 c.before.before.draw.ensures total
 
 pub write_spec : {M : Type 1} → statement M
 write_spec =

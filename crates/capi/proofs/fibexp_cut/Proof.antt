@@ -3,8 +3,8 @@ use mathlib.Core.Path.{◌≡◌, sym, ap, ◌∙◌}
 use native.Mathlib.Omega.{arith}
 use lib.ListN.{length}
 use borrow.Author.Rules.{rules}
-use Rattle.tape.specs.Layout.{stepWords}
-use Rattle.sequencer.specs.Services.{cutPart}
+use Rattle.tape.specs.Layout.{step_words}
+use Rattle.sequencer.specs.Services.{cut_part}
 use Rattle.sequencer.proofs.Laws.Answers.{Stands, cut_stands, cut-not}
 use Rattle.capi.proofs.fibexp_cut.Statement.{statement}
 use Rattle.capi.proofs.fibexp_cut.Tie as tie
@@ -20,8 +20,8 @@ stands : (c : tie.Else1) → let args = c.before.before.before.before.args in St
 stands c = cut_stands _ _ _ (sym c.before.cut.ensures.1 ∙ c.if1.false)
 
 -- and the part's words are the steps'
-words : (c : tie.Else1) → let args = c.before.before.before.before.args in c.before.cut.result.now ≡ stepWords args.tape.now args.first args.last
-words c = c.before.cut.ensures.0 ∙ ap cutPart (stands c).words
+words : (c : tie.Else1) → let args = c.before.before.before.before.args in c.before.cut.result.now ≡ step_words args.tape.now args.first args.last
+words c = c.before.cut.ensures.0 ∙ ap cut_part (stands c).words
 
 cast-start : tie.Need-overflow-cast-start
 cast-start c = let at = stands c.before in record { fits = omega (arith, c.step-index.ensures) }

@@ -5,26 +5,26 @@ use Prim.Native.Nat.{ℕ, ◌≤◌}
 use native.Mathlib.Omega.{arith}
 use lib.ListN.{length, take, length-take}
 use lib.Seq.{take_all, length-take-le}
-use Rattle.text.proofs.Laws.Puts.{put_front, put-inside}
-use Rattle.tool.specs.Verbs.{largest32, maxParameters}
-use Rattle.tool.specs.Inner.Held.{heldTo}
+use Rattle.text.proofs.Laws.Puts.{put_front, put_inside}
+use Rattle.tool.specs.Verbs.{largest32, max_parameters}
+use Rattle.tool.specs.Inner.Held.{held_to}
 use borrow.Author.Rules.{rules}
 use Rattle.command.proofs.perform_on_tape.Statement.{statement}
 use Rattle.command.proofs.perform_on_tape.Tie as tie
 
 module _ (c : tie.After-words) where
   abbrev values : List ℕ
-  values = heldTo largest32 c.before.before.before.before.before.before.args.values.now
+  values = held_to largest32 c.before.before.before.before.before.before.args.values.now
 
-  few : length (take maxParameters values) ≤ maxParameters
-  few = omega (arith, length-take maxParameters values)
+  few : length (take max_parameters values) ≤ max_parameters
+  few = omega (arith, length-take max_parameters values)
 
   -- the row's numbers are the parameters
-  taken : take c.words.result c.words.new.1.0 ≡ take maxParameters values
+  taken : take c.words.result c.words.new.1.0 ≡ take max_parameters values
   taken = put_front c.words.ensures
 
   inside : c.words.result ≤ length c.words.new.1.0
-  inside = put-inside c.words.ensures (omega arith)
+  inside = put_inside c.words.ensures (omega arith)
 
 array-share-prefix-row : tie.Need-array-share-prefix-row
 array-share-prefix-row c = inside c.before
@@ -35,7 +35,7 @@ slice-aggregate-on-tape c = sym (length-take-le _ c.before.before.words.new.1.0 
 returns : tie.Need-returns
 returns c =
     let w = c.before.before.before.before.before.before in
-    rw (taken w, take_all maxParameters (take maxParameters (values w)) (few w)) at c.before.before.on-tape.ensures
+    rw (taken w, take_all max_parameters (take max_parameters (values w)) (few w)) at c.before.before.on-tape.ensures
 
 pub perform-on-tape-spec : {M : Type 1} → statement M
 perform-on-tape-spec =

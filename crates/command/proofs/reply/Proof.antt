@@ -4,19 +4,19 @@ use Prim.Native.Nat.{◌≤◌}
 use native.Mathlib.Omega.{arith}
 use lib.ListN.{length, take}
 use lib.Seq.{length-take-le}
-use Rattle.text.proofs.Laws.Puts.{put-taken, put-inside}
-use Rattle.encoding.specs.Encoding.{tapeIn}
-use Rattle.encoding.proofs.Laws.Cases.{words-most}
+use Rattle.text.proofs.Laws.Puts.{put_taken, put_inside}
+use Rattle.encoding.specs.Encoding.{tape_in}
+use Rattle.encoding.proofs.Laws.Cases.{words_most}
 use Rattle.tool.specs.Replies.{reply}
 use borrow.Author.Rules.{rules}
 use Rattle.command.proofs.reply.Statement.{statement}
 use Rattle.command.proofs.reply.Tie as tie
 
-read : (c : tie.After-tape-words) → take c.tape-words.result c.tape-words.new.1.0 ≡ tapeIn c.before.before.before.before.before.args.input.now
-read c = put-taken c.tape-words.ensures (words-most _)
+read : (c : tie.After-tape-words) → take c.tape-words.result c.tape-words.new.1.0 ≡ tape_in c.before.before.before.before.before.args.input.now
+read c = put_taken c.tape-words.ensures (words_most _)
 
 fits : (c : tie.After-tape-words) → c.tape-words.result ≤ length c.tape-words.new.1.0
-fits c = put-inside c.tape-words.ensures (omega arith)
+fits c = put_inside c.tape-words.ensures (omega arith)
 
 array-share-prefix-row : tie.Need-array-share-prefix-row
 array-share-prefix-row c = fits c

@@ -4,7 +4,7 @@ use Prim.Native.Nat.{◌≤◌}
 use native.Mathlib.Omega.{arith}
 use lib.ListN.{length}
 use lib.Seq.{length-take-le}
-use Rattle.tool.proofs.Laws.Lengths.{no-verb-most, wrong-count-most, unread-most, usage-most}
+use Rattle.tool.proofs.Laws.Lengths.{no_verb_most, wrong_count_most, unread_most, usage_most}
 use Rattle.tool.proofs.Laws.Parts.{complained}
 use borrow.Author.Rules.{rules}
 use Rattle.command.proofs.reply_on.Statement.{statement}
@@ -32,21 +32,21 @@ perform-requires c κs =
     record { few = rw (length-take-le k.call3.given.0.1.0 k.before.before.before.understand.result.values (few k)) r.few; within = r.within }
 
 returns : tie.Need-returns
-returns c = rw (← (rw c.before.before.before.before.before.enum_told.given.1 at c.before.before.before.before.before.before.before.before.understand.ensures.asked)) (complained c.before.before.before.put-usage.ensures usage-most c.complaint.ensures)
+returns c = rw (← (rw c.before.before.before.before.before.enum_told.given.1 at c.before.before.before.before.before.before.before.before.understand.ensures.asked)) (complained c.before.before.before.put-usage.ensures usage_most c.complaint.ensures)
 
 returns-2 : tie.Need-returns-2
-returns-2 c = rw (← (rw c.before.before.before.before.before.before.enum-told2.given.1 at c.before.before.before.before.before.before.before.before.before.understand.ensures.asked), ← c.before.before.before.before.nth-word.ensures) (complained c.before.before.before.put-no-verb.ensures (no-verb-most _) c.complaint2.ensures)
+returns-2 c = rw (← (rw c.before.before.before.before.before.before.enum-told2.given.1 at c.before.before.before.before.before.before.before.before.before.understand.ensures.asked), ← c.before.before.before.before.nth-word.ensures) (complained c.before.before.before.put-no-verb.ensures (no_verb_most _) c.complaint2.ensures)
 
 returns-3 : tie.Need-returns-3
 returns-3 c =
     let r = rw c.before.before.before.before.before.before.before.call.given.1 at c.before.before.before.before.before.before.before.before.before.before.understand.ensures.in_range in
     let name = rw (← c.before.before.before.before.nth-word2.ensures) at r.name in
-    rw (← (rw c.before.before.before.before.before.before.before.call.given.1 at c.before.before.before.before.before.before.before.before.before.before.understand.ensures.asked), ← c.before.before.before.before.nth-word2.ensures) (complained c.before.before.before.put-wrong-count.ensures (wrong-count-most _ _ _ name (omega (arith, r.least)) (omega (arith, r.most)) (omega (arith, r.count))) c.complaint3.ensures)
+    rw (← (rw c.before.before.before.before.before.before.before.call.given.1 at c.before.before.before.before.before.before.before.before.before.before.understand.ensures.asked), ← c.before.before.before.before.nth-word2.ensures) (complained c.before.before.before.put-wrong-count.ensures (wrong_count_most _ _ _ name (omega (arith, r.least)) (omega (arith, r.most)) (omega (arith, r.count))) c.complaint3.ensures)
 
 returns-4 : tie.Need-returns-4
 returns-4 c =
     let r = rw c.before.before.before.before.before.before.before.call2.given.1 at c.before.before.before.before.before.before.before.before.before.before.understand.ensures.in_range in
-    rw (← (rw c.before.before.before.before.before.before.before.call2.given.1 at c.before.before.before.before.before.before.before.before.before.before.understand.ensures.asked), ← c.before.before.before.before.nth-word3.ensures) (complained c.before.before.before.put-unread.ensures (unread-most _ _ _ (omega (arith, r.largest))) c.complaint4.ensures)
+    rw (← (rw c.before.before.before.before.before.before.before.call2.given.1 at c.before.before.before.before.before.before.before.before.before.before.understand.ensures.asked), ← c.before.before.before.before.nth-word3.ensures) (complained c.before.before.before.put-unread.ensures (unread_most _ _ _ (omega (arith, r.largest))) c.complaint4.ensures)
 
 returns-5 : tie.Need-returns-5
 returns-5 c = rw (← (rw c.before.before.before.before.before.before.call3.given.1 at c.before.before.before.before.before.before.before.before.before.understand.ensures.asked)) c.before.before.perform.ensures

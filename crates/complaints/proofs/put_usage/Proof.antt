@@ -1,12 +1,12 @@
 -- `put_usage` meets its contract: the code's text is the definition's.
-use Rattle.text.specs.Text.{decimalWithin, decimal}
-use Rattle.tool.specs.Texts.{listed, variantsText, lines, usage}
+use Rattle.text.specs.Text.{decimal_within, decimal}
+use Rattle.tool.specs.Texts.{listed, variants_text, lines, usage}
 use borrow.Author.Rules.{rules}
 use Rattle.complaints.proofs.put_usage.Statement.{statement}
 use Rattle.complaints.proofs.put_usage.Tie as tie
 
 returns : tie.Need-returns
-unfolding usage lines variantsText listed decimal decimalWithin
+unfolding usage lines variants_text listed decimal decimal_within
 returns c = c.before.before.put.ensures
 
 pub put-usage-spec : {M : Type 1} → statement M

@@ -3,13 +3,13 @@ use mathlib.Core.Path.{sym, ◌∙◌}
 use native.Mathlib.Omega.{arith}
 use borrow.Author.Rules.{rules}
 use Rattle.refusal.specs.Outcomes.{gives, passes, answers}
-use Rattle.sequencer.specs.Services.{baseRules}
+use Rattle.sequencer.specs.Services.{base_rules}
 use Rattle.sequencer.proofs.Laws.Answers.{good-register}
 use Rattle.conditions.proofs.check_one.Statement.{statement}
 use Rattle.conditions.proofs.check_one.Tie as tie
 
 returns : tie.Need-returns
-unfolding baseRules
+unfolding base_rules
 returns c = sym (gives _ _ _ (sym c.before.is-bad-register.ensures ∙ c.if1.true))
 
 is-bad-base-requires : tie.Need-is-bad-base-requires
@@ -17,7 +17,7 @@ is-bad-base-requires c κs =
     (omega (arith, (good-register _ _ (sym c.before.is-bad-register.ensures ∙ c.if1.false)).high), c.before.before.before.requires)
 
 returns-2 : tie.Need-returns-2
-unfolding baseRules
+unfolding base_rules
 returns-2 c =
     let first = c.before.before in
     sym
@@ -25,7 +25,7 @@ returns-2 c =
     ∙ gives _ _ _ (sym c.before.is-bad-base.ensures ∙ c.if2.true))
 
 returns-3 : tie.Need-returns-3
-unfolding baseRules
+unfolding base_rules
 returns-3 c =
     let first = c.before.before in
     sym

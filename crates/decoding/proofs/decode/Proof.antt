@@ -4,7 +4,7 @@ use mathlib.Core.Path.{◌≡◌, sym, ◌∙◌}
 use borrow.Author.Rules.{rules}
 use Rattle.tape.specs.declared.Decoded.TheVariants.{Bad}
 use Rattle.tape.specs.Words.{decoded}
-use Rattle.tape.proofs.Laws.Payloads.{decoded-nothing}
+use Rattle.tape.proofs.Laws.Payloads.{decoded_nothing}
 use Rattle.decoding.proofs.decode.Statement.{statement}
 use Rattle.decoding.proofs.decode.Tie as tie
 
@@ -12,16 +12,16 @@ nothing : (c : tie.At-match-rest) → Bad ≡ decoded c.before.args.word
 nothing c =
     let n = c.match.rest.0 in
     sym
-    (decoded-nothing _
+    (decoded_nothing _
     (record {
-      not-1 = n.0.0.0.0.0.0.0.1;
-      not-2 = n.0.0.0.0.0.0.1;
-      not-3 = n.0.0.0.0.0.1;
-      not-4 = n.0.0.0.0.1;
-      not-5 = n.0.0.0.1;
-      not-6 = n.0.0.1;
-      not-7 = n.0.1;
-      not-15 = n.1;
+      not_1 = n.0.0.0.0.0.0.0.1;
+      not_2 = n.0.0.0.0.0.0.1;
+      not_3 = n.0.0.0.0.0.1;
+      not_4 = n.0.0.0.0.1;
+      not_5 = n.0.0.0.1;
+      not_6 = n.0.0.1;
+      not_7 = n.0.1;
+      not_15 = n.1;
     }))
 
 returns : tie.Need-returns

@@ -2,21 +2,21 @@
 use mathlib.Core.Path.{sym, ap, ◌∙◌}
 use borrow.Author.Rules.{rules}
 use borrow.Author.Tests.{eqb-true, not-true, not-false}
-use Rattle.tape.specs.Layout.{step_of, meansAt}
-use Rattle.tape.proofs.Laws.Words.{step-none}
-use Rattle.tape.proofs.Laws.Rows.{means-past}
+use Rattle.tape.specs.Layout.{step_of, means_at}
+use Rattle.tape.proofs.Laws.Words.{step_none}
+use Rattle.tape.proofs.Laws.Rows.{means_past}
 use Rattle.decoding.proofs.nth_step.Statement.{statement}
 use Rattle.decoding.proofs.nth_step.Tie as tie
 
 returns : tie.Need-returns
 returns c =
     let args = c.before.before.args in
-    sym (ap step_of (means-past args.words.now args.i c.if1.true))
+    sym (ap step_of (means_past args.words.now args.i c.if1.true))
 
 returns-2 : tie.Need-returns-2
 returns-2 c =
     let args = c.before.before.before.before.before.args in
-    sym (step-none (meansAt args.words.now args.i) (sym c.before.is-step.ensures ∙ not-true _ c.if2.true))
+    sym (step_none (means_at args.words.now args.i) (sym c.before.is-step.ensures ∙ not-true _ c.if2.true))
 
 step-in-requires : tie.Need-step-in-requires
 step-in-requires c κs = eqb-true _ 5 (sym c.before.is-step.ensures ∙ not-false _ c.if2.false)

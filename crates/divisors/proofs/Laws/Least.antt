@@ -22,7 +22,7 @@ module _ (ds : List ℕ) (p : ℕ) where
 
   -- with the next, the lesser of the two
   pub least_more : (i least r next : ℕ) → LeastOf ds p i least → ZeroWhereDivided p (get_or ds i 0) r → next ≤ least → next ≤ r → (next ≡ r) ⊎ (next ≡ least) → LeastOf ds p (i + 1) next
-  least_more i least r next l h under-least under one = record { some = some; none = none }
+  least_more i least r next l h under_least under one = record { some = some; none = none }
     where
       some : next ≡ 0 → (j : ℕ) × (j < i + 1) × (get_or ds j 0 ∣ p)
       some z =
@@ -41,8 +41,8 @@ module _ (ds : List ℕ) (p : ℕ) where
           ]
 
   -- the least of all
-  pub least-end : {xs : List ℕ} (i least : ℕ) → limit < p → Inverses ds xs → i ≡ length ds → LeastOf ds p i least → DividedByOne ds p (eqb least 0)
-  least-end i least above v all l =
+  pub least_end : {xs : List ℕ} (i least : ℕ) → limit < p → Inverses ds xs → i ≡ length ds → LeastOf ds p i least → DividedByOne ds p (eqb least 0)
+  least_end i least above v all l =
       record {
         some = λ e.
             let at : (j : ℕ) × (j < i) × (get_or ds j 0 ∣ p) = l.some (eqb-true least 0 e) in

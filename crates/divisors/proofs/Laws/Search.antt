@@ -7,7 +7,7 @@ use native.Mathlib.Nat.{eq-or-lt_of_le}
 use native.Mathlib.Omega.{arith}
 use mathlib.Core.Logic.{⊎_elim}
 use Rattle.divisors.specs.Search.{greatest}
-use Rattle.refusal.proofs.Laws.Tests.{by-test}
+use Rattle.refusal.proofs.Laws.Tests.{by_test}
 
 found : (f : ℕ → Bool) (n : ℕ) → f (suc n) ≡ true → greatest f (suc n) ≡ suc n
 unfolding greatest
@@ -17,36 +17,36 @@ left : (f : ℕ → Bool) (n : ℕ) → f (suc n) ≡ false → greatest f (suc 
 unfolding greatest
 left f n e = rw (e, greatest)
 
-pub greatest-at-most : (f : ℕ → Bool) (n : ℕ) → greatest f n ≤ n
+pub greatest_at_most : (f : ℕ → Bool) (n : ℕ) → greatest f n ≤ n
 unfolding greatest
-greatest-at-most f zero = omega arith
-greatest-at-most f (suc n) =
-    let below : greatest f n ≤ n = greatest-at-most f n in
-    by-test (f (suc n)) (λ e. omega (arith, found f n e)) (λ e. omega (arith, left f n e))
+greatest_at_most f zero = omega arith
+greatest_at_most f (suc n) =
+    let below : greatest f n ≤ n = greatest_at_most f n in
+    by_test (f (suc n)) (λ e. omega (arith, found f n e)) (λ e. omega (arith, left f n e))
 
-pub greatest-passes : (f : ℕ → Bool) (n : ℕ) → 1 ≤ greatest f n → f (greatest f n) ≡ true
+pub greatest_passes : (f : ℕ → Bool) (n : ℕ) → 1 ≤ greatest f n → f (greatest f n) ≡ true
 unfolding greatest
-greatest-passes f zero some = absurd (omega arith)
-greatest-passes f (suc n) some =
-    let below : 1 ≤ greatest f n → f (greatest f n) ≡ true = greatest-passes f n in
-    by-test (f (suc n))
+greatest_passes f zero some = absurd (omega arith)
+greatest_passes f (suc n) some =
+    let below : 1 ≤ greatest f n → f (greatest f n) ≡ true = greatest_passes f n in
+    by_test (f (suc n))
     (λ e. ap f (found f n e) ∙ e)
     (λ e. ap f (left f n e) ∙ below (omega (arith, left f n e)))
 
-pub greatest-most : (f : ℕ → Bool) (n y : ℕ) → 1 ≤ y → y ≤ n → f y ≡ true → y ≤ greatest f n
-greatest-most f zero y low high passes = absurd (omega arith)
-greatest-most f (suc n) y low high passes =
-    let below : y ≤ n → y ≤ greatest f n = λ h. greatest-most f n y low h passes in
+pub greatest_most : (f : ℕ → Bool) (n y : ℕ) → 1 ≤ y → y ≤ n → f y ≡ true → y ≤ greatest f n
+greatest_most f zero y low high passes = absurd (omega arith)
+greatest_most f (suc n) y low high passes =
+    let below : y ≤ n → y ≤ greatest f n = λ h. greatest_most f n y low h passes in
     let other : f (suc n) ≡ false → ¬ (y ≡ suc n) = λ e q. true≢false (sym passes ∙ ap f q ∙ e) in
-    by-test (f (suc n))
+    by_test (f (suc n))
     (λ e. omega (arith, found f n e))
     (λ e. omega (arith, left f n e, below (omega (arith, other e))))
 
 -- y passes, and nothing above it up to n does
-pub greatest-is : (f : ℕ → Bool) (n y : ℕ) → 1 ≤ y → y ≤ n → f y ≡ true → ((z : ℕ) → y < z → z ≤ n → ¬ (f z ≡ true)) → greatest f n ≡ y
-greatest-is f n y low high passes none =
-    let most : y ≤ greatest f n = greatest-most f n y low high passes in
+pub greatest_is : (f : ℕ → Bool) (n y : ℕ) → 1 ≤ y → y ≤ n → f y ≡ true → ((z : ℕ) → y < z → z ≤ n → ¬ (f z ≡ true)) → greatest f n ≡ y
+greatest_is f n y low high passes none =
+    let most : y ≤ greatest f n = greatest_most f n y low high passes in
     ⊎_elim
     (λ e. sym e)
-    (λ l. absurd (none (greatest f n) l (greatest-at-most f n) (greatest-passes f n (omega arith))))
+    (λ l. absurd (none (greatest f n) l (greatest_at_most f n) (greatest_passes f n (omega arith))))
     (eq-or-lt_of_le most)

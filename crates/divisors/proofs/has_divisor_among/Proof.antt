@@ -4,7 +4,7 @@ use Prim.Native.Nat.{◌-◌, ◌≤◌}
 use native.Mathlib.Omega.{arith}
 use lib.ListN.{length}
 use borrow.Author.Rules.{rules}
-use Rattle.divisors.proofs.Laws.Least.{LeastOf, least_start, least_more, least-end}
+use Rattle.divisors.proofs.Laws.Least.{LeastOf, least_start, least_more, least_end}
 use Rattle.divisors.proofs.has_divisor_among.Statement.{statement}
 use Rattle.divisors.proofs.has_divisor_among.Tie as tie
 
@@ -42,7 +42,7 @@ loop-again c =
 returns : tie.Need-returns invariant-loop decreases-loop
 returns c =
     let start = c.before.before.before.before in
-    least-end _ _ _ _ start.requires.reach.above start.requires.inverses (omega arith) c.before.loop.invariant.1
+    least_end _ _ _ _ start.requires.reach.above start.requires.inverses (omega arith) c.before.loop.invariant.1
 
 pub has-divisor-among-spec : {M : Type 1} → statement M
 has-divisor-among-spec =

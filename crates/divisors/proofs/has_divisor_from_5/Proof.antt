@@ -4,8 +4,8 @@ use Prim.Native.Nat.{◌-◌, ◌%◌, ◌≤◌}
 use native.Mathlib.Nat.{dvd_of_mod-eq-zero, mod-eq-zero_of_dvd}
 use native.Mathlib.Omega.{arith}
 use Rattle.divisors.specs.Inner.Inverted.{NoneBelow}
-use Rattle.divisors.proofs.Laws.Small.{small-test, none_told}
-use Rattle.divisors.proofs.Laws.Covering.{none-below-five, past}
+use Rattle.divisors.proofs.Laws.Small.{small_test, none_told}
+use Rattle.divisors.proofs.Laws.Covering.{none_below_five, past}
 use Rattle.divisors.proofs.has_divisor_from_5.Statement.{statement}
 use Rattle.divisors.proofs.has_divisor_from_5.Tie as tie
 
@@ -16,7 +16,7 @@ abbrev decreases-loop : tie.decreases-loop
 decreases-loop p d₀ d = 16385 - d
 
 loop-holds : tie.Need-loop-init invariant-loop decreases-loop
-loop-holds c = (omega arith, omega arith, omega arith, none-below-five _ c.requires.odd c.requires.not-by-three)
+loop-holds c = (omega arith, omega arith, omega arith, none_below_five _ c.requires.odd c.requires.not_by_three)
 
 returns : tie.Need-returns invariant-loop decreases-loop
 returns c = none_told _ (λ d s. c.before.before.loop.invariant.3 d (omega (arith, s.less)) s)
@@ -27,7 +27,7 @@ rem-if2 c = omega arith
 returns-2 : tie.Need-returns-2 invariant-loop decreases-loop
 returns-2 c =
     let inv = c.before.before.before.loop.invariant in
-    sym (small-test _ _ (record { low = omega arith; high = omega arith; less = omega arith; divides = dvd_of_mod-eq-zero _ c.if2.true }))
+    sym (small_test _ _ (record { low = omega arith; high = omega arith; less = omega arith; divides = dvd_of_mod-eq-zero _ c.if2.true }))
 
 add-d : tie.Need-overflow-add-d invariant-loop decreases-loop
 add-d c = omega arith

@@ -4,10 +4,10 @@ use Prim.Native.Nat.{ℕ}
 use native.Mathlib.Omega.{arith}
 use lib.Seq.{length-take-le}
 use borrow.Author.Rules.{rules}
-use Rattle.tool.specs.Verbs.{limitIn}
-use Rattle.scripting.specs.Script.{State, inScript}
-use Rattle.tool.specs.Inner.Held.{heldTo}
-use Rattle.scripting.proofs.Laws.Used.{inside-used, did-used}
+use Rattle.tool.specs.Verbs.{limit_in}
+use Rattle.scripting.specs.Script.{State, in_script}
+use Rattle.tool.specs.Inner.Held.{held_to}
+use Rattle.scripting.proofs.Laws.Used.{inside_used, did_used}
 use Rattle.edits.proofs.edit.Statement.{statement}
 use Rattle.edits.proofs.edit.Tie as tie
 
@@ -17,12 +17,12 @@ slice-aggregate-edit-inside c = sym (length-take-le c.before.least.result c.befo
 edit-inside-requires : tie.Need-edit-inside-requires
 edit-inside-requires c κs =
     let s = c.before.before.before.before.before.before.before in
-    inside-used s.args.marks s.args.tapes.now c.before.before.before.least.ensures c.before.inside.ensures
+    inside_used s.args.marks s.args.tapes.now c.before.before.before.least.ensures c.before.inside.ensures
 
 returns : tie.Need-returns
 returns c =
     let s = c.before.before.before.before.before.before.before.before.before.before.before.before in
-    did-used s.args.marks s.args.tapes.now c.before.before.before.before.before.before.before.before.least.ensures c.before.before.before.before.before.before.inside.ensures (λ (capacity : ℕ) (state : State). inScript capacity s.args.verb (heldTo (limitIn s.args.verb) s.args.values.now) state)
+    did_used s.args.marks s.args.tapes.now c.before.before.before.before.before.before.before.before.least.ensures c.before.before.before.before.before.before.inside.ensures (λ (capacity : ℕ) (state : State). in_script capacity s.args.verb (held_to (limit_in s.args.verb) s.args.values.now) state)
     c.before.before.before.before.edit-inside.auto.1.1.0 c.before.before.before.before.edit-inside.ensures
 
 pub edit-spec : {M : Type 1} → statement M

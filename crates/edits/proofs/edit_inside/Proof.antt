@@ -2,9 +2,9 @@
 use native.Mathlib.Omega.{arith}
 use borrow.Author.Rules.{rules}
 use Rattle.tool.specs.Verbs.{largest32}
-use Rattle.scripting.specs.Script.{inScript}
-use Rattle.tool.specs.Inner.Held.{heldTo}
-use Rattle.scripting.proofs.Laws.Edits.{did-set, did-appended}
+use Rattle.scripting.specs.Script.{in_script}
+use Rattle.tool.specs.Inner.Held.{held_to}
+use Rattle.scripting.proofs.Laws.Edits.{did_set, did_appended}
 use Rattle.edits.proofs.edit_inside.Statement.{statement}
 use Rattle.edits.proofs.edit_inside.Tie as tie
 
@@ -15,10 +15,10 @@ put-words-requires-2 : tie.Need-put-words-requires-2
 put-words-requires-2 c κs = record { inside = c.before.before.before.before.before.before.before.requires; behind = c.before.before.before.before.before.before.before.requires.begin; within = omega arith }
 
 returns : tie.Need-returns
-returns c = rw c.before.before.before.before.before.before.before.enum_told.given.1 (did-set c.before.before.before.before.before.before.before.before.before.before.before.before.requires (heldTo largest32 c.before.before.before.before.before.before.before.before.before.before.before.before.args.values.now) c.before.before.before.before.put-words.ensures)
+returns c = rw c.before.before.before.before.before.before.before.enum_told.given.1 (did_set c.before.before.before.before.before.before.before.before.before.before.before.before.requires (held_to largest32 c.before.before.before.before.before.before.before.before.before.before.before.before.args.values.now) c.before.before.before.before.put-words.ensures)
 
 returns-2 : tie.Need-returns-2
-returns-2 c = rw c.before.before.before.before.before.before.before.enum-told2.given.1 (did-appended c.before.before.before.before.before.before.before.before.before.before.before.before.requires (heldTo largest32 c.before.before.before.before.before.before.before.before.before.before.before.before.args.values.now) c.before.before.before.before.put-words2.ensures)
+returns-2 c = rw c.before.before.before.before.before.before.before.enum-told2.given.1 (did_appended c.before.before.before.before.before.before.before.before.before.before.before.before.requires (held_to largest32 c.before.before.before.before.before.before.before.before.before.before.before.before.args.values.now) c.before.before.before.before.put-words2.ensures)
 
 returns-3 : tie.Need-returns-3
 returns-3 c = rw c.before.before.before.before.before.before.before.enum-told3.given.1 c.before.before.before.before.change.ensures
@@ -27,7 +27,7 @@ returns-4 : tie.Need-returns-4
 returns-4 c = rw c.before.before.before.before.before.enum-told4.given.1 c.before.before.drop-words.ensures
 
 returns-5 : tie.Need-returns-5
-unfolding inScript
+unfolding in_script
 returns-5 c = rw c.before.before.before.before.before.enum-told5.given.1 c.before.before.behind.ensures
 
 returns-6 : tie.Need-returns-6

@@ -4,13 +4,13 @@ use Prim.Native.Nat.{ℕ, ◌+◌, ◌≤◌}
 use native.Mathlib.Omega.{arith}
 use lib.ListN.{length}
 use borrow.Author.Rules.{rules}
-use Rattle.text.proofs.Laws.Puts.{put-fits}
+use Rattle.text.proofs.Laws.Puts.{put_fits}
 use Rattle.tool.specs.Verbs.{largest32}
 use Rattle.scripting.specs.declared.Marks.{Marks}
-use Rattle.tool.specs.Inner.Held.{heldTo}
-use Rattle.tool.proofs.Laws.Held.{held-length}
+use Rattle.tool.specs.Inner.Held.{held_to}
+use Rattle.tool.proofs.Laws.Held.{held_length}
 use Rattle.scripting.proofs.Laws.Tapes.{ended}
-use Rattle.scripting.proofs.Laws.Edits.{did-no-words, did-words}
+use Rattle.scripting.proofs.Laws.Edits.{did_no_words, did_words}
 use Rattle.edits.proofs.put_words.Statement.{statement}
 use Rattle.edits.proofs.put_words.Tie as tie
 
@@ -18,7 +18,7 @@ returns : tie.Need-returns
 returns c =
     let s = c.before.before.before.before.before.before.before.before in
     let values = s.args.values.now in
-    did-no-words s.requires.inside (heldTo largest32 values) s.requires.behind s.requires.within (omega (arith, held-length largest32 values, c.before.before.before.before.if1.true)) refl c.before.before.put_full.ensures
+    did_no_words s.requires.inside (held_to largest32 values) s.requires.behind s.requires.within (omega (arith, held_length largest32 values, c.before.before.before.before.if1.true)) refl c.before.before.put_full.ensures
 
 count-words-requires : tie.Need-count-words-requires
 count-words-requires c κs = omega (arith, c.before.before.before.before.before.before.before.before.before.before.requires.behind, ap (λ (m : Marks). m.begin) c.before.ending.ensures, ap (λ (m : Marks). m.end) c.before.ending.ensures)
@@ -27,9 +27,9 @@ returns-2 : tie.Need-returns-2
 returns-2 c =
     let s = c.before.before.before.before.before.before.before.before.before.before.before.before.before in
     let values = s.args.values.now in
-    let same = held-length largest32 values in
-    let room : s.args.at + length (heldTo largest32 values) ≤ length s.args.tapes.now = omega (arith, same, c.before.before.before.before.before.before.before.before.before.if1.false, s.requires.within, s.requires.inside.end) in
-    did-words s.requires.inside s.requires.behind room (put-fits c.before.before.before.before.before.before.before.words.ensures room)
+    let same = held_length largest32 values in
+    let room : s.args.at + length (held_to largest32 values) ≤ length s.args.tapes.now = omega (arith, same, c.before.before.before.before.before.before.before.before.before.if1.false, s.requires.within, s.requires.inside.end) in
+    did_words s.requires.inside s.requires.behind room (put_fits c.before.before.before.before.before.before.before.words.ensures room)
     (c.before.before.before.before.ending.ensures ∙ ap (λ (n : ℕ). ended s.args.marks (s.args.at + n)) (sym same)) c.before.before.count-words.ensures
 
 pub put-words-spec : {M : Type 1} → statement M

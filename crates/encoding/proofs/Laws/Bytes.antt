@@ -6,32 +6,32 @@ use native.Mathlib.Numerals.{add-one}
 use native.Mathlib.Omega.{arith}
 use lib.ListN.{length, get_or, take}
 use lib.Seq.{take-suc}
-use Rattle.tape.specs.Layout.{maxWords}
+use Rattle.tape.specs.Layout.{max_words}
 use Rattle.text.specs.Rows.{Put}
-use Rattle.text.proofs.Laws.Puts.{puts-join}
-use Rattle.encoding.specs.Encoding.{word_of, tapeOf, tapeIn, bytes_of}
-use Rattle.encoding.proofs.Laws.Cases.{words-whole}
+use Rattle.text.proofs.Laws.Puts.{puts_join}
+use Rattle.encoding.specs.Encoding.{word_of, tape_of, tape_in, bytes_of}
+use Rattle.encoding.proofs.Laws.Cases.{words_whole}
 
 -- four for each word
-pub bytes-length : (words : List ℕ) → length (bytes_of words) ≡ 4 * length words
+pub bytes_length : (words : List ℕ) → length (bytes_of words) ≡ 4 * length words
 unfolding bytes_of
-bytes-length [] = refl
-bytes-length (w ∷ words) = omega (arith, bytes-length words)
+bytes_length [] = refl
+bytes_length (w ∷ words) = omega (arith, bytes_length words)
 
-bytes-append : (xs ys : List ℕ) → bytes_of (xs ++ ys) ≡ bytes_of xs ++ bytes_of ys
+bytes_append : (xs ys : List ℕ) → bytes_of (xs ++ ys) ≡ bytes_of xs ++ bytes_of ys
 unfolding bytes_of
-bytes-append [] ys = refl
-bytes-append (x ∷ xs) ys = rw (bytes-append xs ys)
+bytes_append [] ys = refl
+bytes_append (x ∷ xs) ys = rw (bytes_append xs ys)
 
 -- the bytes of the word at i, behind those of the words in front of it
 pub bytes_next : {a b c : List ℕ} {at m n : ℕ} (words : List ℕ) (i : ℕ) → i < length words → Put a at (bytes_of (take i words)) m b
     → Put b m (bytes_of (get_or words i 0 ∷ [])) n c → Put a at (bytes_of (take (i + 1) words)) n c
-bytes_next words i h v w = rw (add-one i, take-suc words i 0, bytes-append) (puts-join v w)
+bytes_next words i h v w = rw (add-one i, take-suc words i 0, bytes_append) (puts_join v w)
 
 -- ---- what is written is read back as it was
 
-digits-back : (w x y z : ℕ) → x ≡ w / 256 → y ≡ x / 256 → z ≡ y / 256 → z < 256 → word_of (w % 256) (x % 256) (y % 256) (z % 256) ≡ w
-digits-back w x y z d e f h = omega arith
+digits_back : (w x y z : ℕ) → x ≡ w / 256 → y ≡ x / 256 → z ≡ y / 256 → z < 256 → word_of (w % 256) (x % 256) (y % 256) (z % 256) ≡ w
+digits_back w x y z d e f h = omega arith
 
 two_bytes : (w : ℕ) → w / 65536 ≡ w / 256 / 256
 two_bytes w = omega arith
@@ -40,15 +40,15 @@ word_back : (w : ℕ) → w < 4294967296 → word_of (w % 256) (w / 256 % 256) (
 word_back w h =
     let twice : w / 65536 ≡ w / 256 / 256 = two_bytes w in
     let thrice : w / 16777216 ≡ w / 65536 / 256 = omega arith in
-    digits-back w (w / 256) (w / 65536) (w / 16777216) refl twice thrice (omega arith)
+    digits_back w (w / 256) (w / 65536) (w / 16777216) refl twice thrice (omega arith)
 
-words_back : (words : List ℕ) → ((i : ℕ) → get_or words i 0 < 4294967296) → tapeOf (bytes_of words) ≡ words
-unfolding tapeOf bytes_of
+words_back : (words : List ℕ) → ((i : ℕ) → get_or words i 0 < 4294967296) → tape_of (bytes_of words) ≡ words
+unfolding tape_of bytes_of
 words_back [] h = refl
 words_back (w ∷ words) h = ap₂ ◌∷◌ (word_back w (h 0)) (words_back words (λ i. h (suc i)))
 
 -- up to the most words of a tape, each of 32 bits
-pub tape-back : (words : List ℕ) → ((i : ℕ) → get_or words i 0 < 4294967296) → length words ≤ maxWords → tapeIn (bytes_of words) ≡ words
-tape-back words h most =
-    let long = bytes-length words in
-    words-whole (bytes_of words) (omega arith) (omega arith) ∙ words_back words h
+pub tape_back : (words : List ℕ) → ((i : ℕ) → get_or words i 0 < 4294967296) → length words ≤ max_words → tape_in (bytes_of words) ≡ words
+tape_back words h most =
+    let long = bytes_length words in
+    words_whole (bytes_of words) (omega arith) (omega arith) ∙ words_back words h

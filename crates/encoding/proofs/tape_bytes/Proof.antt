@@ -4,7 +4,7 @@ use native.Mathlib.Omega.{arith}
 use lib.ListN.{length, take}
 use lib.Seq.{take_all}
 use Rattle.text.specs.Rows.{Put}
-use Rattle.text.proofs.Laws.Puts.{put-none, put-length}
+use Rattle.text.proofs.Laws.Puts.{put_none, put_length}
 use Rattle.encoding.specs.Encoding.{bytes_of}
 use Rattle.encoding.proofs.Laws.Bytes.{bytes_next}
 use borrow.Author.Rules.{rules}
@@ -19,7 +19,7 @@ decreases-loop buffer₀ at words next₀ i₀ buffer next i = length words - i
 
 loop-holds : tie.Need-loop-init invariant-loop decreases-loop
 unfolding bytes_of
-loop-holds c = (omega arith, put-none _ _)
+loop-holds c = (omega arith, put_none _ _)
 
 mul-word-bytes : tie.Need-overflow-mul-word-bytes invariant-loop decreases-loop
 mul-word-bytes c = omega arith
@@ -37,7 +37,7 @@ loop-again : tie.Need-loop-preserved invariant-loop decreases-loop
 loop-again c = (omega arith, bytes_next _ c.before.before.before.before.before.before.loop.i (omega arith) c.before.before.before.before.before.before.loop.invariant.1 c.before.before.word_Bytes.ensures)
 
 same_length : tie.Need-same-length invariant-loop decreases-loop
-same_length c = put-length c.before.loop.invariant.1
+same_length c = put_length c.before.loop.invariant.1
 
 returns : tie.Need-returns invariant-loop decreases-loop
 returns c = rw (take_all c.before.loop.i c.before.before.before.before.args.words.now (omega arith)) at c.before.loop.invariant.1

@@ -1,5 +1,5 @@
 -- `word_bytes` meets its contract: each byte is a remainder by 256.
-use Rattle.text.proofs.Laws.Puts.{puts-join}
+use Rattle.text.proofs.Laws.Puts.{puts_join}
 use Rattle.encoding.specs.Encoding.{bytes_of}
 use borrow.Author.Rules.{rules}
 use Rattle.encoding.proofs.word_bytes.Statement.{statement}
@@ -12,9 +12,9 @@ returns c =
     let third = fourth.before.before.before.before.before in
     let second = third.before.before.before.before.before in
     let first = second.before.before.before.before.before in
-    puts-join
-    (puts-join
-    (puts-join (rw first.before.low.ensures at first.put_byte.ensures) (rw second.before.low2.ensures at second.put-byte2.ensures))
+    puts_join
+    (puts_join
+    (puts_join (rw first.before.low.ensures at first.put_byte.ensures) (rw second.before.low2.ensures at second.put-byte2.ensures))
     (rw third.before.low3.ensures at third.put-byte3.ensures))
     (rw fourth.before.low4.ensures at fourth.put-byte4.ensures)
 

@@ -3,7 +3,7 @@ use mathlib.Core.Path.{refl}
 use lib.IntN.{◌+ℤ◌}
 use borrow.Author.Rules.{rules}
 use Rattle.tape.specs.declared.Step.TheVariants.{Mul}
-use Rattle.machine.proofs.Laws.Sums.{mul-makes}
+use Rattle.machine.proofs.Laws.Sums.{mul_makes}
 use Rattle.exponent_steps.proofs.Laws.Bits.{Arm, arm}
 use Rattle.exponent_steps.proofs.add.Statement.{statement}
 use Rattle.exponent_steps.proofs.add.Tie as tie
@@ -13,7 +13,7 @@ sum : (c : tie.After-is-sum-in-range) → let second = c.before in let first = s
 sum c =
     let second = c.before in
     let first = second.before.before in
-    arm ◌+ℤ◌ _ _ first.exponent.type-inv second.exponent2.type-inv _ _ _ _ (mul-makes _ _ _ _ _ _ first.exponent.ensures second.exponent2.ensures refl) c.is-sum-in-range.ensures
+    arm ◌+ℤ◌ _ _ first.exponent.type-inv second.exponent2.type-inv _ _ _ _ (mul_makes _ _ _ _ _ _ first.exponent.ensures second.exponent2.ensures refl) c.is-sum-in-range.ensures
 
 returns : tie.Need-returns
 returns c = (sum c.before).stops c.if1.true

@@ -1,17 +1,17 @@
 -- `shift` meets its contract: what a step does has its own function, by its opcode.
 use native.Mathlib.Omega.{arith}
 use borrow.Author.Rules.{rules}
-use Rattle.tape.specs.Inner.Operations.{stepBy}
+use Rattle.tape.specs.Inner.Operations.{step_by}
 use Rattle.tape.proofs.Laws.Shapes.{exchanges}
 use Rattle.exponent_steps.proofs.shift.Statement.{statement}
 use Rattle.exponent_steps.proofs.shift.Tie as tie
 
 returns : tie.Need-returns
-unfolding stepBy
+unfolding step_by
 returns c = rw c.before.before.before.if1.true c.before.add.ensures
 
 returns-2 : tie.Need-returns-2
-unfolding stepBy
+unfolding step_by
 returns-2 c = rw c.before.before.before.if2.true c.before.subtract.ensures
 
 returns-3 : tie.Need-returns-3

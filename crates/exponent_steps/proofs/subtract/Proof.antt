@@ -3,7 +3,7 @@ use mathlib.Core.Path.{refl}
 use lib.IntN.{◌-ℤ◌}
 use borrow.Author.Rules.{rules}
 use Rattle.tape.specs.declared.Step.TheVariants.{Div}
-use Rattle.machine.proofs.Laws.Sums.{div-makes}
+use Rattle.machine.proofs.Laws.Sums.{div_makes}
 use Rattle.exponent_steps.proofs.Laws.Bits.{Arm, arm}
 use Rattle.exponent_steps.proofs.subtract.Statement.{statement}
 use Rattle.exponent_steps.proofs.subtract.Tie as tie
@@ -13,7 +13,7 @@ difference : (c : tie.After-is-difference-in-range) → let second = c.before in
 difference c =
     let second = c.before in
     let first = second.before.before in
-    arm ◌-ℤ◌ _ _ first.exponent.type-inv second.exponent2.type-inv _ _ _ _ (div-makes _ _ _ _ _ _ first.exponent.ensures second.exponent2.ensures refl) c.is-difference-in-range.ensures
+    arm ◌-ℤ◌ _ _ first.exponent.type-inv second.exponent2.type-inv _ _ _ _ (div_makes _ _ _ _ _ _ first.exponent.ensures second.exponent2.ensures refl) c.is-difference-in-range.ensures
 
 returns : tie.Need-returns
 returns c = (difference c.before).stops c.if1.true

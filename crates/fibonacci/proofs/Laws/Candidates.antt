@@ -16,7 +16,7 @@ pub record Golden (k m n p q : ℕ) : Type 0 where
   pub grows : k ≤ m
   pub next : n ≡ m + k
   pub double : p ≡ m * n + k * m
-  pub double-less : q ≡ m * m + k * k
+  pub double_less : q ≡ m * m + k * k
   pub cassini : p * p + 1 ≡ p * q + q * q
 
 module _ {k m n p q : ℕ} (g : Golden k m n p q) where
@@ -30,10 +30,10 @@ module _ {k m n p q : ℕ} (g : Golden k m n p q) where
 
   ratio : p < 2 * q
   ratio = let d : ℕ = m - k in let e : m ≡ k + d = omega (arith, g.grows) in
-      omega (arith, g.double, g.double-less, g.some, ap (λ (x : ℕ). m * x) g.next, ap (λ (x : ℕ). m * x) e, ap (λ (x : ℕ). k * x) e, ap (λ (x : ℕ). d * x) e, mul-le-mul g.some g.some)
+      omega (arith, g.double, g.double_less, g.some, ap (λ (x : ℕ). m * x) g.next, ap (λ (x : ℕ). m * x) e, ap (λ (x : ℕ). k * x) e, ap (λ (x : ℕ). d * x) e, mul-le-mul g.some g.some)
 
-  near-pair : (u v : ℕ) → suc v ≤ p → n * (u * p) < n * (suc v * q) → n * (suc v * q) < n * (suc u * p) → Pair u v
-  near-pair u v small low high =
+  near_pair : (u v : ℕ) → suc v ≤ p → n * (u * p) < n * (suc v * q) → n * (suc v * q) < n * (suc u * p) → Pair u v
+  near_pair u v small low high =
       let l : u * p < suc v * q = lt_of_mul-lt-mul_left n low in
       let h : suc v * q < suc u * p = lt_of_mul-lt-mul_left n high in
       let t : ℕ = suc v * q - u * p in
@@ -66,32 +66,32 @@ module _ {k m n p q : ℕ} (g : Golden k m n p q) where
     point w i x e = omega (arith, ap (λ (y : ℕ). y * r) e, ap (λ (y : ℕ). y * n) split)
 
     -- no candidate has w = 0 and i = 0
-    candidate-some : (w i y : ℕ) → w * m + i ≡ n * y → (w ≡ 0 → i ≡ 0 → ⊥) → (x : ℕ) × (w * m + i ≡ n * suc x)
-    candidate-some w i zero e none =
+    candidate_some : (w i y : ℕ) → w * m + i ≡ n * y → (w ≡ 0 → i ≡ 0 → ⊥) → (x : ℕ) × (w * m + i ≡ n * suc x)
+    candidate_some w i zero e none =
         let some : 1 ≤ m = omega (arith, g.some, g.grows) in
         absurd (none (omega (arith, mul-le-mul_left w some)) (omega arith))
-    candidate-some w i (suc x) e none = (x, e)
+    candidate_some w i (suc x) e none = (x, e)
 
     module _ (i w : ℕ) (on : (y : ℕ) × (w * m + i ≡ n * y)) (small : past w ≤ p) where
       one : 1 ≤ m
       one = omega (arith, g.some, g.grows)
 
       module _ (x : ℕ) (is : past w * m + i * r ≡ (x * r + s) * n + a) where
-        even-near : n * q + k ≡ m * p → i * r * p + k * past w < a * p → a * p < n * p + i * r * p + k * past w → Pair (x * r + s) (w * r + t)
-        even-near cross above below =
-            near-pair (x * r + s) (w * r + t) small
+        even_near : n * q + k ≡ m * p → i * r * p + k * past w < a * p → a * p < n * p + i * r * p + k * past w → Pair (x * r + s) (w * r + t)
+        even_near cross above below =
+            near_pair (x * r + s) (w * r + t) small
             (omega (arith, ap (λ (z : ℕ). past w * z) cross, ap (λ (z : ℕ). z * p) is))
             (omega (arith, ap (λ (z : ℕ). past w * z) cross, ap (λ (z : ℕ). z * p) is))
 
-        odd-near : n * q ≡ m * p + k → i * r * p < a * p + k * past w → a * p + k * past w < n * p + i * r * p → Pair (x * r + s) (w * r + t)
-        odd-near cross above below =
-            near-pair (x * r + s) (w * r + t) small
+        odd_near : n * q ≡ m * p + k → i * r * p < a * p + k * past w → a * p + k * past w < n * p + i * r * p → Pair (x * r + s) (w * r + t)
+        odd_near cross above below =
+            near_pair (x * r + s) (w * r + t) small
             (omega (arith, ap (λ (z : ℕ). past w * z) cross, ap (λ (z : ℕ). z * p) is))
             (omega (arith, ap (λ (z : ℕ). past w * z) cross, ap (λ (z : ℕ). z * p) is))
 
       -- even h
-      even-hit : n * q + k ≡ m * p → i * r * p + k * past w < a * p → a * p < n * p + i * r * p + k * past w → Hit w
-      even-hit cross above below =
+      even_hit : n * q + k ≡ m * p → i * r * p + k * past w < a * p → a * p < n * p + i * r * p + k * past w → Hit w
+      even_hit cross above below =
           let less : k ≤ p = omega (arith, wide, square, mul-le-mul_left k g.some, mul-le-mul_left k one, ap (λ (x : ℕ). k * x) g.next) in
           let none : w ≡ 0 → i ≡ 0 → ⊥ =
           λ ew ei. omega (
@@ -102,25 +102,25 @@ module _ {k m n p q : ℕ} (g : Golden k m n p q) where
             mul-le-mul_left (suc t * p) one,
             mul-le-mul_left (suc t) less,
           ) in
-          let found = candidate-some w i on.0 on.1 none in
-          (found.0, even-near found.0 (point w i found.0 found.1) cross above below)
+          let found = candidate_some w i on.0 on.1 none in
+          (found.0, even_near found.0 (point w i found.0 found.1) cross above below)
 
       -- odd h
-      odd-hit : n * q ≡ m * p + k → i * r * p < a * p + k * past w → a * p + k * past w < n * p + i * r * p → Hit w
-      odd-hit cross above below =
+      odd_hit : n * q ≡ m * p + k → i * r * p < a * p + k * past w → a * p + k * past w < n * p + i * r * p → Hit w
+      odd_hit cross above below =
           let none : w ≡ 0 → i ≡ 0 → ⊥ = λ ew ei. omega (arith, ap (λ (x : ℕ). x * r * p) ei, mul-le-mul_right (n * p) low) in
-          let found = candidate-some w i on.0 on.1 none in
-          (found.0, odd-near found.0 (point w i found.0 found.1) cross above below)
+          let found = candidate_some w i on.0 on.1 none in
+          (found.0, odd_near found.0 (point w i found.0 found.1) cross above below)
 
     -- ---- one of two neighbours
 
     module _ (span : r * n < p) (fits : r ≤ n) (below : t < r) where
-      past-most : (w : ℕ) → w < n → past w ≤ r * n
-      past-most w h = omega (arith, mul-le-mul_left r h)
+      past_most : (w : ℕ) → w < n → past w ≤ r * n
+      past_most w h = omega (arith, mul-le-mul_left r h)
 
       -- the neighbour is k less at most
-      neighbour-near : (w : ℕ) → w < n → w ≤ (w + m) % n + k
-      neighbour-near w h = elim (dec_lt (w + m) n) [
+      neighbour_near : (w : ℕ) → w < n → w ≤ (w + m) % n + k
+      neighbour_near w h = elim (dec_lt (w + m) n) [
         | yes l ↦ omega (arith, mod-eq_of_lt l)
         | no l ↦
             let high : n ≤ w + m = omega arith in
@@ -129,52 +129,52 @@ module _ {k m n p q : ℕ} (g : Golden k m n p q) where
       ]
 
       past_near : (w : ℕ) → w < n → past w ≤ past ((w + m) % n) + r * k
-      past_near w h = omega (arith, mul-le-mul_left r (neighbour-near w h))
+      past_near w h = omega (arith, mul-le-mul_left r (neighbour_near w h))
 
       module _ (w : ℕ) (inside : w < n) where
         abbrev next : ℕ
         next = (w + m) % n
 
-        inside-next : next < n
-        inside-next = mod-lt (w + m) (omega (arith, inside))
+        inside_next : next < n
+        inside_next = mod-lt (w + m) (omega (arith, inside))
 
         small : (x : ℕ) → x < n → past x ≤ p
-        small x h = omega (arith, past-most x h, span)
+        small x h = omega (arith, past_most x h, span)
 
-        even-two : (j : ℕ) → n * q + k ≡ m * p → (y : ℕ) × (w * m + suc j ≡ n * y) → (y : ℕ) × (next * m + j ≡ n * y)
+        even_two : (j : ℕ) → n * q + k ≡ m * p → (y : ℕ) × (w * m + suc j ≡ n * y) → (y : ℕ) × (next * m + j ≡ n * y)
             → suc j * r ≤ a → a < suc j * r + r → Hit w ⊎ Hit next
-        even-two j cross on on-next most least = elim (dec_lt (suc j * r * p + k * past w) (a * p)) [
+        even_two j cross on on_next most least = elim (dec_lt (suc j * r * p + k * past w) (a * p)) [
           | yes above ↦
               let near : a + 1 ≤ suc j * r + n = omega (arith, least, fits) in
-              inl (even-hit (suc j) w on (small w inside) cross above (omega (arith, mul-le-mul_right p near, wide)))
-          | no above ↦ inr (even-hit j next on-next (small next inside-next) cross
-              (omega (arith, mul-le-mul_right p most, mul-le-mul_left k (past-most next inside-next), mul-le-mul_left r wide))
+              inl (even_hit (suc j) w on (small w inside) cross above (omega (arith, mul-le-mul_right p near, wide)))
+          | no above ↦ inr (even_hit j next on_next (small next inside_next) cross
+              (omega (arith, mul-le-mul_right p most, mul-le-mul_left k (past_most next inside_next), mul-le-mul_left r wide))
               (omega (arith, mul-le-mul_left k (past_near w inside), ap (λ (x : ℕ). r * x) square, mul-le-mul_left n span)))
         ]
 
-        odd-two : (i : ℕ) → n * q ≡ m * p + k → (y : ℕ) × (w * m + i ≡ n * y) → (y : ℕ) × (next * m + suc i ≡ n * y)
+        odd_two : (i : ℕ) → n * q ≡ m * p + k → (y : ℕ) × (w * m + i ≡ n * y) → (y : ℕ) × (next * m + suc i ≡ n * y)
             → i * r ≤ a → a < i * r + r → Hit w ⊎ Hit next
-        odd-two i cross on on-next most least = elim (dec_lt (a * p + k * past w) (n * p + i * r * p)) [
+        odd_two i cross on on_next most least = elim (dec_lt (a * p + k * past w) (n * p + i * r * p)) [
           | yes below ↦
               let one : 1 ≤ past w = omega arith in
-              inl (odd-hit i w on (small w inside) cross (omega (arith, mul-le-mul_right p most, mul-le-mul g.some one)) below)
-          | no below ↦ inr (odd-hit (suc i) next on-next (small next inside-next) cross
+              inl (odd_hit i w on (small w inside) cross (omega (arith, mul-le-mul_right p most, mul-le-mul g.some one)) below)
+          | no below ↦ inr (odd_hit (suc i) next on_next (small next inside_next) cross
               (omega (arith, mul-le-mul_left k (past_near w inside), ap (λ (x : ℕ). r * x) square, mul-le-mul_left n span))
-              (omega (arith, mul-le-mul_right p least, mul-le-mul_left k (past-most next inside-next), mul-le-mul_left r wide, mul-le-mul_right p fits, wide)))
+              (omega (arith, mul-le-mul_right p least, mul-le-mul_left k (past_most next inside_next), mul-le-mul_left r wide, mul-le-mul_right p fits, wide)))
         ]
 
-      some-high : 0 < n
-      some-high = omega (arith, g.next, g.some)
+      some_high : 0 < n
+      some_high = omega (arith, g.next, g.some)
 
-      pub even-one : (j z : ℕ) → n * q + k ≡ m * p → k * m + 1 ≡ n * z → suc j * r ≤ a → a < suc j * r + r
+      pub even_one : (j z : ℕ) → n * q + k ≡ m * p → k * m + 1 ≡ n * z → suc j * r ≤ a → a < suc j * r + r
           → Hit (suc j * k % n) ⊎ Hit ((suc j * k % n + m) % n)
-      even-one j z cross shift =
+      even_one j z cross shift =
           let same : suc j * k + m ≡ j * k + n = omega (arith, g.next) in
-          let next-is : (suc j * k % n + m) % n ≡ j * k % n = mod-add-mod (suc j * k) n m ∙ ap (λ (x : ℕ). x % n) same ∙ add-mod_right (j * k) n in
-          even-two (suc j * k % n) (mod-lt (suc j * k) some-high) j cross (multiple k z (suc j) shift) (rw next-is (multiple k z j shift))
+          let next_is : (suc j * k % n + m) % n ≡ j * k % n = mod-add-mod (suc j * k) n m ∙ ap (λ (x : ℕ). x % n) same ∙ add-mod_right (j * k) n in
+          even_two (suc j * k % n) (mod-lt (suc j * k) some_high) j cross (multiple k z (suc j) shift) (rw next_is (multiple k z j shift))
 
-      pub odd-one : (i : ℕ) → n * q ≡ m * p + k → m * m + 1 ≡ n * k → i * r ≤ a → a < i * r + r → Hit (i * m % n) ⊎ Hit ((i * m % n + m) % n)
-      odd-one i cross shift =
+      pub odd_one : (i : ℕ) → n * q ≡ m * p + k → m * m + 1 ≡ n * k → i * r ≤ a → a < i * r + r → Hit (i * m % n) ⊎ Hit ((i * m % n + m) % n)
+      odd_one i cross shift =
           let same : i * m + m ≡ suc i * m = omega arith in
-          let next-is : (i * m % n + m) % n ≡ suc i * m % n = mod-add-mod (i * m) n m ∙ ap (λ (x : ℕ). x % n) same in
-          odd-two (i * m % n) (mod-lt (i * m) some-high) i cross (multiple m k i shift) (rw next-is (multiple m k (suc i) shift))
+          let next_is : (i * m % n + m) % n ≡ suc i * m % n = mod-add-mod (i * m) n m ∙ ap (λ (x : ℕ). x % n) same in
+          odd_two (i * m % n) (mod-lt (i * m) some_high) i cross (multiple m k i shift) (rw next_is (multiple m k (suc i) shift))

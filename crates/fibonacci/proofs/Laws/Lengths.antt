@@ -7,63 +7,63 @@ use native.Mathlib.Nat.{add-suc, mul-le-mul, mul-le-mul_right}
 use native.Mathlib.Omega.{arith}
 use lib.ListN.{length}
 use Rattle.fibonacci.specs.Fibonacci.{fib, lucas, odd}
-use Rattle.fibonacci.specs.Forms.{fibsumFrom, zeckendorf, places}
-use Rattle.fibonacci.specs.Height.{height, oddHeight}
-use Rattle.fibonacci.proofs.Laws.Fibonacci.{fib-one, fib-next, fib-positive, fib-monotone, fib-sum, lucas-fib, lucas-positive, cassini-odd, cassini-even}
+use Rattle.fibonacci.specs.Forms.{fibsum_from, zeckendorf, places}
+use Rattle.fibonacci.specs.Height.{height, odd_height}
+use Rattle.fibonacci.proofs.Laws.Fibonacci.{fib_one, fib_next, fib_positive, fib_monotone, fib_sum, lucas_fib, lucas_positive, cassini_odd, cassini_even}
 use Rattle.fibonacci.proofs.Laws.Hofstadter.{G-multiple}
-use Rattle.fibonacci.proofs.Laws.Forms.{sparse-count}
-use Rattle.fibonacci.proofs.Laws.Zeckendorf.{zeckendorf-form, zeckendorf-shift, zeckendorf-length, zeckendorf-count}
-use Rattle.fibonacci.proofs.Laws.Height.{odd-reaches, even-reaches, height-least, zeckendorf-height, height-28, odd-height-is, odd-height-odd, odd-height-reaches, odd-height-le}
+use Rattle.fibonacci.proofs.Laws.Forms.{sparse_count}
+use Rattle.fibonacci.proofs.Laws.Zeckendorf.{zeckendorf_form, zeckendorf_shift, zeckendorf_length, zeckendorf_count}
+use Rattle.fibonacci.proofs.Laws.Height.{odd_reaches, even_reaches, height_least, zeckendorf_height, height_28, odd_height_is, odd_height_odd, odd_height_reaches, odd_height_le}
 
 -- ---- what F_(2h+2) is above
 
-span-odd : (h r : ℕ) → odd h ≡ true → r ≤ lucas h → r * fib (suc (suc h)) < fib (suc (suc (h + h)))
-span-odd h r o l =
-    rw (← add-suc, fib-sum h (suc h), fib-next)
-    (omega (arith, cassini-odd h o, mul-le-mul_right (fib (suc h) + fib h) l, ap (λ (x : ℕ). x * (fib (suc h) + fib h)) (lucas-fib h)))
+span_odd : (h r : ℕ) → odd h ≡ true → r ≤ lucas h → r * fib (suc (suc h)) < fib (suc (suc (h + h)))
+span_odd h r o l =
+    rw (← add-suc, fib_sum h (suc h), fib_next)
+    (omega (arith, cassini_odd h o, mul-le-mul_right (fib (suc h) + fib h) l, ap (λ (x : ℕ). x * (fib (suc h) + fib h)) (lucas_fib h)))
 
-span-even : (h r : ℕ) → odd h ≡ false → 0 < h → r < lucas h → r * fib (suc (suc h)) < fib (suc (suc (h + h)))
-span-even h r o p l =
-    rw (← add-suc, fib-sum h (suc h), fib-next)
-    (omega (arith, cassini-even h o, mul-le-mul_right (fib (suc h) + fib h) l, ap (λ (x : ℕ). x * (fib (suc h) + fib h)) (lucas-fib h), fib-positive h, fib-monotone {m = 1} {n = h} p, fib-one))
+span_even : (h r : ℕ) → odd h ≡ false → 0 < h → r < lucas h → r * fib (suc (suc h)) < fib (suc (suc (h + h)))
+span_even h r o p l =
+    rw (← add-suc, fib_sum h (suc h), fib_next)
+    (omega (arith, cassini_even h o, mul-le-mul_right (fib (suc h) + fib h) l, ap (λ (x : ℕ). x * (fib (suc h) + fib h)) (lucas_fib h), fib_positive h, fib_monotone {m = 1} {n = h} p, fib_one))
 
 -- r F_(h+2) is, with the h of r
-pub height-span : (r : ℕ) → r * fib (suc (suc (height r))) < fib (suc (suc (height r + height r)))
-height-span r = go (odd (height r)) refl
+pub height_span : (r : ℕ) → r * fib (suc (suc (height r))) < fib (suc (suc (height r + height r)))
+height_span r = go (odd (height r)) refl
   where
     go : (t : Bool) → odd (height r) ≡ t → r * fib (suc (suc (height r))) < fib (suc (suc (height r + height r)))
-    go true o = span-odd (height r) r o (odd-reaches r (height r) o (height-least r).passes)
+    go true o = span_odd (height r) r o (odd_reaches r (height r) o (height_least r).passes)
     go false o =
-        span-even (height r) r o (height-least r).from (even-reaches r (height r) o (lucas-positive (height r)) (height-least r).passes)
+        span_even (height r) r o (height_least r).from (even_reaches r (height r) o (lucas_positive (height r)) (height_least r).passes)
 
 -- ---- the multiple of F_(ℓ'+1)
 
-multiple-below : (r k : ℕ) → k < r → k * fib (suc (oddHeight r)) < fib (suc (suc (height r + height r)))
-multiple-below r k l =
+multiple_below : (r k : ℕ) → k < r → k * fib (suc (odd_height r)) < fib (suc (suc (height r + height r)))
+multiple_below r k l =
     let m : k ≤ r = omega arith in
-    omega (arith, height-span r, mul-le-mul m (fib-monotone {m = suc (oddHeight r)} {n = suc (suc (height r))} (omega (arith, odd-height-le r))))
+    omega (arith, height_span r, mul-le-mul m (fib_monotone {m = suc (odd_height r)} {n = suc (suc (height r))} (omega (arith, odd_height_le r))))
 
-pub multiple-length : (r k : ℕ) → k < r → length (zeckendorf (k * fib (suc (oddHeight r)))) ≤ height r + height r
-multiple-length r k l = zeckendorf-length (height r + height r) (k * fib (suc (oddHeight r))) (multiple-below r k l)
+pub multiple_length : (r k : ℕ) → k < r → length (zeckendorf (k * fib (suc (odd_height r)))) ≤ height r + height r
+multiple_length r k l = zeckendorf_length (height r + height r) (k * fib (suc (odd_height r))) (multiple_below r k l)
 
 -- for the moduli of format 1
-pub multiple-64 : (r k : ℕ) → r < 2 ^ 28 → k < r → k * fib (suc (oddHeight r)) < 2 ^ 62
+pub multiple_64 : (r k : ℕ) → r < 2 ^ 28 → k < r → k * fib (suc (odd_height r)) < 2 ^ 62
 unfolding fib
-multiple-64 r k h l =
+multiple_64 r k h l =
     let m : k ≤ 2 ^ 28 = omega arith in
-    omega (arith, mul-le-mul m (fib-monotone {m = suc (oddHeight r)} {n = 43} (omega (arith, odd-height-le r, height-28 r h))))
+    omega (arith, mul-le-mul m (fib_monotone {m = suc (odd_height r)} {n = 43} (omega (arith, odd_height_le r, height_28 r h))))
 
 -- its form with each place moved down by one
-pub multiple-shift : (r k : ℕ) → k < r → fibsumFrom 0 (zeckendorf (k * fib (suc (oddHeight r)))) ≡ k * fib (oddHeight r)
-multiple-shift r k l =
-    let v : ℕ = k * fib (suc (oddHeight r)) in
-    let b : k ≤ lucas (oddHeight r) = omega (arith, odd-reaches r (oddHeight r) (odd-height-odd r) (odd-height-reaches r)) in
-    zeckendorf-shift v ∙ G-multiple (oddHeight r) k (odd-height-odd r) b
+pub multiple_shift : (r k : ℕ) → k < r → fibsum_from 0 (zeckendorf (k * fib (suc (odd_height r)))) ≡ k * fib (odd_height r)
+multiple_shift r k l =
+    let v : ℕ = k * fib (suc (odd_height r)) in
+    let b : k ≤ lucas (odd_height r) = omega (arith, odd_reaches r (odd_height r) (odd_height_odd r) (odd_height_reaches r)) in
+    zeckendorf_shift v ∙ G-multiple (odd_height r) k (odd_height_odd r) b
 
 -- ---- how many places are set
 
-pub ones-count : (r n : ℕ) → n < r → 2 * length (places (zeckendorf n)) ≤ height r + 1
-ones-count r n l = omega (arith, sparse-count 1 (zeckendorf n) (zeckendorf-form n).sparse, zeckendorf-height r n l)
+pub ones_count : (r n : ℕ) → n < r → 2 * length (places (zeckendorf n)) ≤ height r + 1
+ones_count r n l = omega (arith, sparse_count 1 (zeckendorf n) (zeckendorf_form n).sparse, zeckendorf_height r n l)
 
-pub multiple-count : (r k : ℕ) → k < r → length (places (zeckendorf (k * fib (suc (oddHeight r))))) ≤ height r
-multiple-count r k l = omega (arith, zeckendorf-count (height r + height r) (k * fib (suc (oddHeight r))) (multiple-below r k l))
+pub multiple_count : (r k : ℕ) → k < r → length (places (zeckendorf (k * fib (suc (odd_height r))))) ≤ height r
+multiple_count r k l = omega (arith, zeckendorf_count (height r + height r) (k * fib (suc (odd_height r))) (multiple_below r k l))

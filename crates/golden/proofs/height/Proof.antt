@@ -5,8 +5,8 @@ use Prim.Native.Nat.{◌-◌}
 use native.Mathlib.Omega.{arith}
 use borrow.Author.Rules.{rules}
 use Rattle.fibonacci.specs.Fibonacci.{lucas}
-use Rattle.fibonacci.proofs.Laws.Height.{height-32}
-use Rattle.fibonacci.proofs.Laws.Ranges.{last_of, isRange, areRanges, Searching, searching-starts, searching-next, searching-ends}
+use Rattle.fibonacci.proofs.Laws.Height.{height_32}
+use Rattle.fibonacci.proofs.Laws.Ranges.{last_of, is_range, are_ranges, Searching, searching_starts, searching_next, searching_ends}
 use Rattle.golden.proofs.height.Statement.{statement}
 use Rattle.golden.proofs.height.Tie as tie
 
@@ -17,17 +17,17 @@ abbrev decreases-loop : tie.decreases-loop
 decreases-loop r ranges row₀ row = 46 - row
 
 loop-holds : tie.Need-loop-init invariant-loop decreases-loop
-unfolding areRanges isRange last_of lucas
-loop-holds c = searching-starts c.args.r _ refl
+unfolding are_ranges is_range last_of lucas
+loop-holds c = searching_starts c.args.r _ refl
 
 returns : tie.Need-returns invariant-loop decreases-loop
-returns c = searching-ends c.before.before.before.loop.invariant (search rules) (omega arith) c.if1.true
+returns c = searching_ends c.before.before.before.loop.invariant (search rules) (omega arith) c.if1.true
 
 loop-again : tie.Need-loop-preserved invariant-loop decreases-loop
-loop-again c = searching-next c.before.before.before.loop.invariant (search rules) (omega arith) c.if1.false
+loop-again c = searching_next c.before.before.before.loop.invariant (search rules) (omega arith) c.if1.false
 
 returns-2 : tie.Need-returns-2 invariant-loop decreases-loop
-returns-2 c = omega (arith, c.before.loop.invariant.past, height-32 c.before.before.args.r (omega arith))
+returns-2 c = omega (arith, c.before.loop.invariant.past, height_32 c.before.before.args.r (omega arith))
 
 pub height_spec : {M : Type 1} → statement M
 height_spec =

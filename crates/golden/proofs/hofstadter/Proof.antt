@@ -3,8 +3,8 @@ use mathlib.Core.Path.{◌≡◌, refl, sym}
 use Prim.Native.Nat.{ℕ, suc, ◌+◌, ◌*◌, ◌-◌, ◌/◌, ◌%◌, ◌≤◌, ◌<◌}
 use native.Mathlib.Omega.{arith}
 use borrow.Author.Rules.{rules}
-use Rattle.fibonacci.proofs.Laws.Hofstadter.{pair-G}
-use Rattle.fibonacci.proofs.Laws.Quotients.{quotient_is, quotient-less}
+use Rattle.fibonacci.proofs.Laws.Hofstadter.{pair_g}
+use Rattle.fibonacci.proofs.Laws.Quotients.{quotient_is, quotient_less}
 use Rattle.golden.proofs.hofstadter.Statement.{statement}
 use Rattle.golden.proofs.hofstadter.Tie as tie
 
@@ -34,12 +34,12 @@ beyond n t h = omega arith
 returns : tie.Need-returns
 returns c =
     let n = c.before.args.n in
-    sym (pair-G (quotient-less short long lucas refl refl (omega arith) _ (part n % long) n (divided n) (omega arith) (omega arith) (within n _ (omega arith))))
+    sym (pair_g (quotient_less short long lucas refl refl (omega arith) _ (part n % long) n (divided n) (omega arith) (omega arith) (within n _ (omega arith))))
 
 returns-2 : tie.Need-returns-2
 returns-2 c =
     let n = c.before.args.n in
-    sym (pair-G (quotient_is short long lucas refl refl (omega arith) _ (part n % long) n (divided n) (omega arith) (beyond n _ c.if1.false)))
+    sym (pair_g (quotient_is short long lucas refl refl (omega arith) _ (part n % long) n (divided n) (omega arith) (beyond n _ c.if1.false)))
 
 pub hofstadter-spec : {M : Type 1} → statement M
 hofstadter-spec =

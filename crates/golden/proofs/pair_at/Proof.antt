@@ -5,14 +5,14 @@ use Prim.Native.Nat.{ℕ, zero, suc, ◌+◌, ◌*◌, ◌≤◌}
 use native.Mathlib.Omega.{arith}
 use borrow.Author.Tests.{lt-leb}
 use Rattle.fibonacci.specs.Fibonacci.{fib}
-use Rattle.fibonacci.specs.Services.{fibonacciOrZero}
+use Rattle.fibonacci.specs.Services.{fibonacci_or_zero}
 use Rattle.fibonacci.specs.Inner.Pairs.{PairAt}
 use Rattle.golden.proofs.pair_at.Statement.{statement}
 use Rattle.golden.proofs.pair_at.Tie as tie
 
-entry : {j k : ℕ} → j ≡ k → PairAt j (fibonacciOrZero (2 * k)) (fibonacciOrZero (2 * k + 1))
+entry : {j k : ℕ} → j ≡ k → PairAt j (fibonacci_or_zero (2 * k)) (fibonacci_or_zero (2 * k + 1))
 entry e =
-    record { even_is = sym (ap (λ (n : ℕ). fibonacciOrZero (2 * n)) e); odd_is = sym (ap (λ (n : ℕ). fibonacciOrZero (2 * n + 1)) e) }
+    record { even_is = sym (ap (λ (n : ℕ). fibonacci_or_zero (2 * n)) e); odd_is = sym (ap (λ (n : ℕ). fibonacci_or_zero (2 * n + 1)) e) }
 
 -- j is none of the numbers below n
 abbrev Missed : ℕ → ℕ → Type 0
@@ -24,7 +24,7 @@ missed zero m = omega arith
 missed (suc n) m = omega (arith, missed n m.0, m.1)
 
 rest : tie.Need-returns-48
-unfolding fibonacciOrZero
+unfolding fibonacci_or_zero
 rest c =
     let high = missed 47 c.match.rest in
     record {
@@ -33,7 +33,7 @@ rest c =
     }
 
 pub pair-at-spec : {M : Type 1} → statement M
-unfolding fibonacciOrZero fib
+unfolding fibonacci_or_zero fib
 pair-at-spec =
     tie.close
     (tie.spec

@@ -1,15 +1,15 @@
 -- `equals_in` meets its contract: with i places passed, the equals sign stands so far past i as it does in what is left.
 use mathlib.Core.Path.{◌≡◌, sym, ◌∙◌}
 use native.Mathlib.Omega.{arith}
-use Rattle.scripting.proofs.Laws.Equals.{equals-here, equals-next, equals-nowhere}
+use Rattle.scripting.proofs.Laws.Equals.{equals_here, equals_next, equals_nowhere}
 use Prim.Native.Nat.{◌+◌, ◌-◌, ◌≤◌}
 use lib.ListN.{length, drop}
-use Rattle.scripting.specs.Script.{equalsIn}
+use Rattle.scripting.specs.Script.{equals_in}
 use Rattle.judging.proofs.equals_in.Statement.{statement}
 use Rattle.judging.proofs.equals_in.Tie as tie
 
 abbrev invariant-loop : tie.invariant-loop
-invariant-loop line i₀ i = (i ≤ length line) × (equalsIn line ≡ i + equalsIn (drop i line))
+invariant-loop line i₀ i = (i ≤ length line) × (equals_in line ≡ i + equals_in (drop i line))
 
 abbrev decreases-loop : tie.decreases-loop
 decreases-loop line i₀ i = length line - i
@@ -21,7 +21,7 @@ is-equals-requires : tie.Need-is-equals-requires invariant-loop decreases-loop
 is-equals-requires c κs = c.loop-test.true
 
 returns : tie.Need-returns invariant-loop decreases-loop
-returns c = let none : equalsIn (drop c.before.before.before.loop.i c.before.before.before.before.before.args.line.now) ≡ 0 = equals-here c.before.before.before.before.before.args.line.now c.before.before.before.loop.i c.before.before.loop-test.true (sym c.before.is-equals.ensures ∙ c.if1.true) in
+returns c = let none : equals_in (drop c.before.before.before.loop.i c.before.before.before.before.before.args.line.now) ≡ 0 = equals_here c.before.before.before.before.before.args.line.now c.before.before.before.loop.i c.before.before.loop-test.true (sym c.before.is-equals.ensures ∙ c.if1.true) in
     omega (arith, none, c.before.before.before.loop.invariant.1)
 
 add-i : tie.Need-overflow-add-i invariant-loop decreases-loop
@@ -31,10 +31,10 @@ loop-less : tie.Need-loop-smaller invariant-loop decreases-loop
 loop-less c = omega arith
 
 loop-again : tie.Need-loop-preserved invariant-loop decreases-loop
-loop-again c = (omega (arith, c.before.before.loop-test.true), c.before.before.before.loop.invariant.1 ∙ equals-next c.before.before.before.before.before.args.line.now c.before.before.before.loop.i c.before.before.loop-test.true (sym c.before.is-equals.ensures ∙ c.if1.false))
+loop-again c = (omega (arith, c.before.before.loop-test.true), c.before.before.before.loop.invariant.1 ∙ equals_next c.before.before.before.before.before.args.line.now c.before.before.before.loop.i c.before.before.loop-test.true (sym c.before.is-equals.ensures ∙ c.if1.false))
 
 returns-2 : tie.Need-returns-2 invariant-loop decreases-loop
-returns-2 c = let none : equalsIn (drop c.before.loop.i c.before.before.before.args.line.now) ≡ 0 = equals-nowhere c.before.before.before.args.line.now c.before.loop.i c.loop-test.false in
+returns-2 c = let none : equals_in (drop c.before.loop.i c.before.before.before.args.line.now) ≡ 0 = equals_nowhere c.before.before.before.args.line.now c.before.loop.i c.loop-test.false in
     omega (arith, none, c.before.loop.invariant.1)
 
 pub equals-in-spec : {M : Type 1} → statement M

@@ -4,18 +4,18 @@ use native.Mathlib.Omega.{arith}
 use lib.ListN.{length}
 use lib.Seq.{length-take-le}
 use borrow.Author.Rules.{rules}
-use Rattle.scripting.proofs.Laws.Verdicts.{line-length, line-end, line_same}
+use Rattle.scripting.proofs.Laws.Verdicts.{line_length, line_end, line_same}
 use Rattle.judging.proofs.is_line.Statement.{statement}
 use Rattle.judging.proofs.is_line.Tie as tie
 
 returns : tie.Need-returns
-returns c = sym (line-length c.before.before.before.args.text.now c.before.before.before.args.line.now (λ e. omega (arith, e, c.if1.true)))
+returns c = sym (line_length c.before.before.before.args.text.now c.before.before.before.args.line.now (λ e. omega (arith, e, c.if1.true)))
 
 returns-2 : tie.Need-returns-2
-returns-2 c = sym (line-length c.before.before.before.before.args.text.now c.before.before.before.before.args.line.now (λ e. c.if2.true (omega (arith, e))))
+returns-2 c = sym (line_length c.before.before.before.before.args.text.now c.before.before.before.before.args.line.now (λ e. c.if2.true (omega (arith, e))))
 
 returns-3 : tie.Need-returns-3
-returns-3 c = sym (line-end c.before.before.before.before.before.before.args.text.now c.before.before.before.before.before.before.args.line.now c.if3.true)
+returns-3 c = sym (line_end c.before.before.before.before.before.before.args.text.now c.before.before.before.before.before.before.args.line.now c.if3.true)
 
 slice-aggregate-same : tie.Need-slice-aggregate-same
 slice-aggregate-same c = sym (length-take-le (length c.before.before.before.before.before.before.before.args.line.now) c.before.before.before.before.before.before.before.args.text.now (omega (arith, c.before.before.before.before.if1.false)))

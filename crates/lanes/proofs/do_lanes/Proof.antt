@@ -7,19 +7,19 @@ use Prim.Native.Nat.{ℕ, ◌+◌, ◌-◌, ◌≤◌, ◌<◌}
 use native.Mathlib.Omega.{arith}
 use borrow.Author.Rules.{rules}
 use lib.ListN.{length}
-use Rattle.tape.specs.Inner.Operations.{rawSteps, stepFor}
-use Rattle.montgomery.specs.Inner.Forms.{formTimes}
-use Rattle.register_steps.specs.Inner.Ways.{stepsAfter}
-use Rattle.register_steps.proofs.Laws.Going.{Going, going_start, going_next, going_end, after_none, after_next, after-all}
+use Rattle.tape.specs.Inner.Operations.{raw_steps, step_for}
+use Rattle.montgomery.specs.Inner.Forms.{form_times}
+use Rattle.register_steps.specs.Inner.Ways.{steps_after}
+use Rattle.register_steps.proofs.Laws.Going.{Going, going_start, going_next, going_end, after_none, after_next, after_all_lem}
 use Rattle.lanes.specs.Inner.Lanes.{lane}
-use Rattle.lanes.proofs.Laws.Steps.{raw-between}
+use Rattle.lanes.proofs.Laws.Steps.{raw_between}
 use Rattle.lanes.proofs.do_lanes.Statement.{statement}
 use Rattle.lanes.proofs.do_lanes.Tie as tie
 
 abbrev invariant-loop : tie.invariant-loop
 invariant-loop words m count rows₀ i₀ rows i =
     (i ≤ length words)
-    × ((j : ℕ) → j < count → Going (formTimes m) (rawSteps words) (stepsAfter false words i) (lane rows₀ 0 j) (lane rows₀ 4 j) (lane rows 0 j) (lane rows 4 j))
+    × ((j : ℕ) → j < count → Going (form_times m) (raw_steps words) (steps_after false words i) (lane rows₀ 0 j) (lane rows₀ 4 j) (lane rows 0 j) (lane rows 4 j))
     × (length rows ≡ length rows₀)
 
 abbrev decreases-loop : tie.decreases-loop
@@ -33,7 +33,7 @@ step-lanes-requires c κs =
     let at = c.before.before.before.before in
     let start = at.before.before.before in (
       record { few = start.requires.few; eight = at.loop.invariant.2 ∙ start.requires.eight },
-      raw-between _ _ c.before.operation-of.ensures,
+      raw_between _ _ c.before.operation-of.ensures,
     )
 
 loop-again : tie.Need-loop-preserved invariant-loop decreases-loop
@@ -43,7 +43,7 @@ loop-again c =
     let at = c.before.before.before.before.before.before.before in
     let start = at.before.before.before in
     let stepped = done.step-lanes.ensures in
-    let next : stepsAfter false start.args.words.now at.loop.i ≡ stepFor read.operation-of.result ∷ stepsAfter false start.args.words.now (at.loop.i + 1) =
+    let next : steps_after false start.args.words.now at.loop.i ≡ step_for read.operation-of.result ∷ steps_after false start.args.words.now (at.loop.i + 1) =
     rw read.operation-of.ensures (after_next start.args.words.now false at.loop.i (omega arith)) in (
       omega arith,
       λ j less. going_next _ _ _ _ _ _ _ _ _ _ _ next (stepped.values j less) (stepped.inverses j less) (at.loop.invariant.1 j less),
@@ -58,7 +58,7 @@ returns c =
     let at = c.before in
     let start = at.before.before.before in
     record {
-      each = λ j less. (going_end _ _ _ _ _ _ _ (after-all start.args.words.now false at.loop.i (omega arith)) (at.loop.invariant.1 j less)).0;
+      each = λ j less. (going_end _ _ _ _ _ _ _ (after_all_lem start.args.words.now false at.loop.i (omega arith)) (at.loop.invariant.1 j less)).0;
       long = at.loop.invariant.2;
     }
 

@@ -4,21 +4,21 @@ use Prim.Native.Nat.{◌-◌, ◌≤◌, ◌<◌}
 use native.Mathlib.Omega.{arith}
 use borrow.Author.Rules.{rules}
 use lib.ListN.{length, get_or, length-set}
-use Rattle.montgomery.specs.Inner.Forms.{enter, formInverse}
-use Rattle.lanes.specs.Inner.Lanes.{maxLanes, Changed}
-use Rattle.lanes.proofs.Laws.Rows.{changed-none, changed-next}
+use Rattle.montgomery.specs.Inner.Forms.{enter, form_inverse}
+use Rattle.lanes.specs.Inner.Lanes.{max_lanes, Changed}
+use Rattle.lanes.proofs.Laws.Rows.{changed_none, changed_next}
 use Rattle.lanes.proofs.load_lanes.Statement.{statement}
 use Rattle.lanes.proofs.load_lanes.Tie as tie
 
 abbrev invariant-loop : tie.invariant-loop
 invariant-loop m bases rows₀ j₀ rows j =
-    (j ≤ length bases) × Changed 1 5 (λ i. enter m (get_or bases i 0)) (λ i. formInverse m (enter m (get_or bases i 0))) j rows₀ rows
+    (j ≤ length bases) × Changed 1 5 (λ i. enter m (get_or bases i 0)) (λ i. form_inverse m (enter m (get_or bases i 0))) j rows₀ rows
 
 abbrev decreases-loop : tie.decreases-loop
 decreases-loop m bases rows₀ j₀ rows j = length bases - j
 
 loop-holds : tie.Need-loop-init invariant-loop decreases-loop
-loop-holds c = (omega arith, changed-none _ _ _ _ _)
+loop-holds c = (omega arith, changed_none _ _ _ _ _)
 
 slice-write-rows : tie.Need-slice-write-rows invariant-loop decreases-loop
 slice-write-rows c = let at = c.before.before.before.before in omega (arith, at.loop.invariant.1.long, at.before.before.before.requires.few, at.before.before.before.requires.eight)
@@ -31,10 +31,10 @@ loop-again c =
     let at = c.before.before.before.before in
     let done = at.loop.invariant.1 in
     let given = at.before.before.before in
-    let inside : at.loop.j < maxLanes = omega (arith, given.requires.few) in (
+    let inside : at.loop.j < max_lanes = omega (arith, given.requires.few) in (
       omega arith,
-      changed-next 1 5 _ _ _ _ _ _ _ inside given.requires.eight (omega arith) (omega arith) done
-          c.before.enter.ensures (c.invert.ensures ∙ ap (formInverse given.args.m) c.before.enter.ensures),
+      changed_next 1 5 _ _ _ _ _ _ _ inside given.requires.eight (omega arith) (omega arith) done
+          c.before.enter.ensures (c.invert.ensures ∙ ap (form_inverse given.args.m) c.before.enter.ensures),
     )
 
 same_length : tie.Need-same-length invariant-loop decreases-loop

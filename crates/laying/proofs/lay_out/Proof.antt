@@ -8,30 +8,30 @@ use borrow.Author.Rules.{rules}
 use borrow.Author.Tests.{not-true, not-false}
 use lib.ListN.{length, length-set}
 use Rattle.tape.specs.Words.{encoded}
-use Rattle.tape.specs.Layout.{wordCount, numbersFit}
+use Rattle.tape.specs.Layout.{word_count, numbers_fit}
 use Rattle.tape.proofs.Laws.Layout.{HeaderFits}
-use Rattle.tape.proofs.Laws.Writing.{numbers_fit, place_short, place-unfit, place-there, none-laid, laid-there}
+use Rattle.tape.proofs.Laws.Writing.{numbers_fit_lem, place_short, place_unfit, place_there, none_laid, laid_there}
 use Rattle.laying.proofs.lay_out.Statement.{statement}
 use Rattle.laying.proofs.lay_out.Tie as tie
 
-long : (c : tie.Else1) → let args = c.before.before.before.args in wordCount args.header ≤ length args.buffer.now
+long : (c : tie.Else1) → let args = c.before.before.before.args in word_count args.header ≤ length args.buffer.now
 long c = omega (arith, c.before.word_count.ensures, c.if1.false)
 
-fit : (c : tie.Else2) → numbersFit c.before.before.before.before.before.args.header ≡ true
+fit : (c : tie.Else2) → numbers_fit c.before.before.before.before.before.args.header ≡ true
 fit c = sym c.before.numbers_fit.ensures ∙ not-false _ c.if2.false
 
 fits : (c : tie.Else2) → HeaderFits c.before.before.before.before.before.args.header
-fits c = numbers_fit _ (fit c)
+fits c = numbers_fit_lem _ (fit c)
 
 returns : tie.Need-returns
 returns c =
     let args = c.before.before.before.args in
-    none-laid args.header args.buffer.now (place_short _ _ (omega (arith, c.before.word_count.ensures, c.if1.true)))
+    none_laid args.header args.buffer.now (place_short _ _ (omega (arith, c.before.word_count.ensures, c.if1.true)))
 
 returns-2 : tie.Need-returns-2
 returns-2 c =
     let args = c.before.before.before.before.before.args in
-    none-laid args.header args.buffer.now (place-unfit _ _ (sym c.before.numbers_fit.ensures ∙ not-true _ c.if2.true))
+    none_laid args.header args.buffer.now (place_unfit _ _ (sym c.before.numbers_fit.ensures ∙ not-true _ c.if2.true))
 
 mul-buffer : tie.Need-overflow-mul-buffer
 mul-buffer c = let f = fits c.before in omega arith
@@ -73,7 +73,7 @@ returns-3 : tie.Need-returns-3
 unfolding encoded
 returns-3 c =
     let args = c.before.before.before.before.before.before.before.before.before.before.before.args in
-    laid-there args.header args.buffer.now (place-there _ _ (long c.before.before.before.before.before.before.before.before) (fit c.before.before.before.before.before.before))
+    laid_there args.header args.buffer.now (place_there _ _ (long c.before.before.before.before.before.before.before.before) (fit c.before.before.before.before.before.before))
 
 pub lay-out-spec : {M : Type 1} → statement M
 lay-out-spec =

@@ -4,16 +4,16 @@ use mathlib.Core.Bool.{true}
 use borrow.Author.Rules.{rules}
 use borrow.Author.Tests.{not-true, not-false}
 use Rattle.refusal.specs.Outcomes.{answered}
-use Rattle.tape.specs.Layout.{isLength}
-use Rattle.tape.proofs.Laws.Reading.{length_most, header-length, header_read}
+use Rattle.tape.specs.Layout.{is_length}
+use Rattle.tape.proofs.Laws.Reading.{length_most, header_length, header_read}
 use Rattle.layout.proofs.read_header.Statement.{statement}
 use Rattle.layout.proofs.read_header.Tie as tie
 
-long : (c : tie.Else1) → isLength c.before.before.before.args.tape.now ≡ true
+long : (c : tie.Else1) → is_length c.before.before.before.args.tape.now ≡ true
 long c = sym c.before.is-length.ensures ∙ not-false _ c.if1.false
 
 returns : tie.Need-returns
-returns c = sym (header-length _ (sym c.before.is-length.ensures ∙ not-true _ c.if1.true))
+returns c = sym (header_length _ (sym c.before.is-length.ensures ∙ not-true _ c.if1.true))
 
 header-of-requires : tie.Need-header-of-requires
 header-of-requires c κs = length_most _ (long c)

@@ -6,59 +6,59 @@ use native.Mathlib.Numerals.{add-one}
 use native.Mathlib.Omega.{arith}
 use lib.ListN.{length, get_or, drop, length-append, length-map, drop_of_length-le}
 use lib.Seq.{drop-cons}
-use Rattle.text.specs.Text.{decimal, blank, newline, line, numberLine, numbersLine}
+use Rattle.text.specs.Text.{decimal, blank, newline, line, number_line, numbers_line}
 use Rattle.text.specs.Rows.{Put}
-use Rattle.text.proofs.Laws.Decimal.{decimal-length, decimal-64}
-use Rattle.text.proofs.Laws.Lines.{line-most}
-use Rattle.text.proofs.Laws.Puts.{RestToPut, puts-join, left-next}
+use Rattle.text.proofs.Laws.Decimal.{decimal_length, decimal_64}
+use Rattle.text.proofs.Laws.Lines.{line_most}
+use Rattle.text.proofs.Laws.Puts.{RestToPut, puts_join, left_next}
 
 -- what follows a number on its line
 unfoldable pub following : List ℕ → List ℕ
 following [] = newline ∷ []
 following (n ∷ values) = blank ∷ [] ++ decimal n ++ following values
 
-line_first : (n : ℕ) (values : List ℕ) → numbersLine (n ∷ values) ≡ decimal n ++ following values
+line_first : (n : ℕ) (values : List ℕ) → numbers_line (n ∷ values) ≡ decimal n ++ following values
 unfolding line following
 line_first n [] = refl
 line_first n (m ∷ values) =
     ap (λ (l : List ℕ). decimal n ++ blank ∷ [] ++ l) (line_first m values)
     ∙ append_assoc (decimal n) (blank ∷ []) (decimal m ++ following values)
 
-pub no-numbers : {buffer after : List ℕ} {at next : ℕ} (values : List ℕ) → length values ≡ 0 → Put buffer at (newline ∷ []) next after
-    → Put buffer at (numbersLine values) next after
+pub no_numbers : {buffer after : List ℕ} {at next : ℕ} (values : List ℕ) → length values ≡ 0 → Put buffer at (newline ∷ []) next after
+    → Put buffer at (numbers_line values) next after
 unfolding line
-no-numbers [] none w = w
-no-numbers (n ∷ values) none w = absurd (omega arith)
+no_numbers [] none w = w
+no_numbers (n ∷ values) none w = absurd (omega arith)
 
 -- the first number, then what follows it
-pub numbers-line : {a b c : List ℕ} {at m n : ℕ} (values : List ℕ) → 0 < length values → Put a at (decimal (get_or values 0 0)) m b
-    → Put b m (following (drop 1 values)) n c → Put a at (numbersLine values) n c
-numbers-line [] some w v = absurd (omega arith)
-numbers-line (n ∷ values) some w v = rw (line_first n values) (puts-join w v)
+pub numbers_line_lem : {a b c : List ℕ} {at m n : ℕ} (values : List ℕ) → 0 < length values → Put a at (decimal (get_or values 0 0)) m b
+    → Put b m (following (drop 1 values)) n c → Put a at (numbers_line values) n c
+numbers_line_lem [] some w v = absurd (omega arith)
+numbers_line_lem (n ∷ values) some w v = rw (line_first n values) (puts_join w v)
 
 module _ (values : List ℕ) (i : ℕ) {buffer : List ℕ} {at : ℕ} {whole : List ℕ} {next : ℕ} {now : List ℕ}
     (left : RestToPut buffer at whole next now (following (drop i values))) where
-  pub next-left : {m n : ℕ} {b c : List ℕ} → i < length values → Put now next (blank ∷ []) m b → Put b m (decimal (get_or values i 0)) n c
+  pub next_left : {m n : ℕ} {b c : List ℕ} → i < length values → Put now next (blank ∷ []) m b → Put b m (decimal (get_or values i 0)) n c
       → RestToPut buffer at whole n c (following (drop (i + 1) values))
   unfolding following
-  next-left h w x = rw (add-one i) (left-next _ _ (rw (drop-cons values i 0 h) at left) (puts-join w x))
+  next_left h w x = rw (add-one i) (left_next _ _ (rw (drop-cons values i 0 h) at left) (puts_join w x))
 
-  pub last-left : {end : ℕ} {after : List ℕ} → length values ≤ i → Put now next (newline ∷ []) end after → Put buffer at whole end after
+  pub last_left : {end : ℕ} {after : List ℕ} → length values ≤ i → Put now next (newline ∷ []) end after → Put buffer at whole end after
   unfolding following
-  last-left h w = left.whole (rw (drop_of_length-le values {i = i} h) w)
+  last_left h w = left.whole (rw (drop_of_length-le values {i = i} h) w)
 
 -- ---- how long a line is
 
-decimals-most : (k : ℕ) (values : List ℕ) → ((i : ℕ) → get_or values i 0 < 10 ^ suc k) → (i : ℕ) → length (get_or (map decimal values) i []) ≤ suc k
-decimals-most k [] small i = omega arith
-decimals-most k (n ∷ values) small zero = decimal-length k n (small 0)
-decimals-most k (n ∷ values) small (suc i) = decimals-most k values (λ j. small (suc j)) i
+decimals_most : (k : ℕ) (values : List ℕ) → ((i : ℕ) → get_or values i 0 < 10 ^ suc k) → (i : ℕ) → length (get_or (map decimal values) i []) ≤ suc k
+decimals_most k [] small i = omega arith
+decimals_most k (n ∷ values) small zero = decimal_length k n (small 0)
+decimals_most k (n ∷ values) small (suc i) = decimals_most k values (λ j. small (suc j)) i
 
 -- numbers of at most so many digits
-pub numbers-short : (k : ℕ) (values : List ℕ) → ((i : ℕ) → get_or values i 0 < 10 ^ suc k) → length (numbersLine values) ≤ (suc k + 1) * length values + 1
-numbers-short k values small =
-    omega (arith, rw (length-map values decimal) at (line-most (suc k) (map decimal values) (decimals-most k values small)))
+pub numbers_short : (k : ℕ) (values : List ℕ) → ((i : ℕ) → get_or values i 0 < 10 ^ suc k) → length (numbers_line values) ≤ (suc k + 1) * length values + 1
+numbers_short k values small =
+    omega (arith, rw (length-map values decimal) at (line_most (suc k) (map decimal values) (decimals_most k values small)))
 
-pub number_short : (n : ℕ) → n < 18446744073709551616 → length (numberLine n) ≤ 21
+pub number_short : (n : ℕ) → n < 18446744073709551616 → length (number_line n) ≤ 21
 unfolding line
-number_short n h = omega (arith, length-append (decimal n) (newline ∷ []), decimal-64 n h)
+number_short n h = omega (arith, length-append (decimal n) (newline ∷ []), decimal_64 n h)

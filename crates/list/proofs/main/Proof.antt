@@ -4,13 +4,13 @@ use Prim.Native.Nat.{◌≤◌}
 use native.Mathlib.Omega.{arith}
 use lib.ListN.{length}
 use lib.Seq.{length-take-le}
-use Rattle.listing.proofs.Laws.Cases.{written-fits}
+use Rattle.listing.proofs.Laws.Cases.{written_fits}
 use borrow.Author.Rules.{rules}
 use Rattle.list.proofs.main.Statement.{statement}
 use Rattle.list.proofs.main.Tie as tie
 
 fits : (c : tie.After-listing) → c.listing.result.written ≤ length c.listing.new.1.0
-fits c = let some = written-fits _ _ _ c.listing.ensures.0 in omega (arith, c.listing.auto.1.0)
+fits c = let some = written_fits _ _ _ c.listing.ensures.0 in omega (arith, c.listing.auto.1.0)
 
 slice-aggregate-listing : tie.Need-slice-aggregate-listing
 slice-aggregate-listing c = sym (length-take-le _ _ c.before.before.before.read-input.ensures)

@@ -6,21 +6,21 @@ use native.Mathlib.Omega.{arith}
 use borrow.Author.Rules.{rules}
 use lib.ListN.{length, take}
 use lib.Seq.{length-take-le}
-use Rattle.text.proofs.Laws.Puts.{put-taken, put-inside}
-use Rattle.program.specs.Services.{acceptOutcome}
-use Rattle.refusal.specs.Outcomes.{refusalNumber}
-use Rattle.encoding.specs.Encoding.{tapeIn}
-use Rattle.encoding.proofs.Laws.Cases.{words-most}
-use Rattle.listing.proofs.Laws.Cases.{listing-words, listing-lines}
+use Rattle.text.proofs.Laws.Puts.{put_taken, put_inside}
+use Rattle.program.specs.Services.{accept_outcome}
+use Rattle.refusal.specs.Outcomes.{refusal_number}
+use Rattle.encoding.specs.Encoding.{tape_in}
+use Rattle.encoding.proofs.Laws.Cases.{words_most}
+use Rattle.listing.proofs.Laws.Cases.{listing_words, listing_lines}
 use Rattle.lister.proofs.list_bytes.Statement.{statement}
 use Rattle.lister.proofs.list_bytes.Tie as tie
 
 -- the words that are read
-read : (c : tie.After-tape-words) → take c.tape-words.result c.tape-words.new.1.0 ≡ tapeIn c.before.before.before.before.args.bytes.now
-read c = put-taken c.tape-words.ensures (words-most _)
+read : (c : tie.After-tape-words) → take c.tape-words.result c.tape-words.new.1.0 ≡ tape_in c.before.before.before.before.args.bytes.now
+read c = put_taken c.tape-words.ensures (words_most _)
 
 fits : (c : tie.After-tape-words) → c.tape-words.result ≤ length c.tape-words.new.1.0
-fits c = put-inside c.tape-words.ensures (omega arith)
+fits c = put_inside c.tape-words.ensures (omega arith)
 
 array-share-prefix-tape : tie.Need-array-share-prefix-tape
 array-share-prefix-tape c = fits (c)
@@ -32,7 +32,7 @@ returns : tie.Need-returns
 returns c =
     let words = c.before.before.before.before.before in
     let r = c.before.before.list-tape.ensures in
-    (rw (listing-lines, ← read words) r.0, r.1 ∙ ap (λ (l : List ℕ). refusalNumber (acceptOutcome l)) (read words) ∙ ap refusalNumber (sym (listing-words _)))
+    (rw (listing_lines, ← read words) r.0, r.1 ∙ ap (λ (l : List ℕ). refusal_number (accept_outcome l)) (read words) ∙ ap refusal_number (sym (listing_words _)))
 
 pub list-bytes-spec : {M : Type 1} → statement M
 list-bytes-spec =

@@ -7,127 +7,127 @@ use native.Mathlib.Decide.{dec_lt}
 use native.Mathlib.Omega.{arith}
 use lib.ListN.{length, drop, length-append}
 use Rattle.refusal.specs.Outcomes.{Outcome, refused, answered, after}
-use Rattle.refusal.proofs.Laws.Rules.{refused-range}
+use Rattle.refusal.proofs.Laws.Rules.{refused_range}
 use Rattle.tape.specs.declared.Step.{Step}
 use Rattle.tape.specs.declared.Step.TheVariants.{Mul, Div, Swp}
 use Rattle.tape.specs.declared.Header.{Header}
 use Rattle.tape.specs.Steps.{Distinct, Sound, AllSound}
-use Rattle.tape.specs.Layout.{stepWordsOf, headerOf, steps_of}
+use Rattle.tape.specs.Layout.{step_words_of, header_of, steps_of}
 use Rattle.tape.proofs.Laws.Reading.{length_most}
-use Rattle.tape.proofs.Laws.Rows.{all-steps-sound}
-use Rattle.tape.proofs.Laws.Layout.{HeaderFits, steps-count, header-fits}
-use Rattle.encoding.specs.Encoding.{tapeOf, tapeIn}
-use Rattle.named.specs.Named.{variantNames, variantName, longest}
-use Rattle.named.proofs.Laws.Names.{longest-most}
-use Rattle.program.specs.Services.{roomOutcome, checkRules, acceptOutcome}
+use Rattle.tape.proofs.Laws.Rows.{all_steps_sound}
+use Rattle.tape.proofs.Laws.Layout.{HeaderFits, steps_count, header_fits_lem}
+use Rattle.encoding.specs.Encoding.{tape_of, tape_in}
+use Rattle.named.specs.Named.{variant_names, variant_name, longest}
+use Rattle.named.proofs.Laws.Names.{longest_most}
+use Rattle.program.specs.Services.{room_outcome, check_rules, accept_outcome}
 use Rattle.program.proofs.Laws.Building.{short, enough}
 use Rattle.program.proofs.Laws.Checking.{accepted, header_is}
 use Rattle.text.specs.Text.{ascii, decimal, line}
 use Rattle.listing.specs.declared.Listed.{Listed}
-use Rattle.listing.specs.Listing.{listingOutcome, refusedLine, firstLine, namedLine, stepLine, stepLines, linesFor, listingNumber, listingOf, listingAnswer, maxWritten}
-use Rattle.text.proofs.Laws.Decimal.{decimal-length}
-use Rattle.text.proofs.Laws.Lines.{line-length}
-use Rattle.listing.proofs.Laws.Cases.{listing-lines, ListingContract, row-enough}
+use Rattle.listing.specs.Listing.{listing_outcome, refused_line, first_line, named_line, step_line, step_lines, lines_for, listing_number, listing_of, listing_answer, max_written}
+use Rattle.text.proofs.Laws.Decimal.{decimal_length}
+use Rattle.text.proofs.Laws.Lines.{line_length}
+use Rattle.listing.proofs.Laws.Cases.{listing_lines, ListingContract, row_enough}
 
-line-some : (w : List ℕ) (words : List (List ℕ)) → 1 ≤ length (line (w ∷ words))
-line-some w words = omega (arith, line-length w words)
+line_some : (w : List ℕ) (words : List (List ℕ)) → 1 ≤ length (line (w ∷ words))
+line_some w words = omega (arith, line_length w words)
 
 -- ---- refusals
 
-refused-most : (n : ℕ) → n ≤ 15 → length (refusedLine n) ≤ 11
-refused-most n h = omega (arith, line-length (ascii "refused") (decimal n ∷ []), decimal-length 1 n (omega arith))
+refused_most : (n : ℕ) → n ≤ 15 → length (refused_line n) ≤ 11
+refused_most n h = omega (arith, line_length (ascii "refused") (decimal n ∷ []), decimal_length 1 n (omega arith))
 
 -- ---- the first line
 
-first-most : (h : Header) → HeaderFits h → h.steps < 1000 → length (firstLine h) ≤ 47 + longest variantNames
-first-most h fits n =
+first_most : (h : Header) → HeaderFits h → h.steps < 1000 → length (first_line h) ≤ 47 + longest variant_names
+first_most h fits n =
     let words = (ascii "p=" ++ decimal h.modulus) ∷ (ascii "r=" ++ decimal h.order) ∷ (ascii "k=" ++ decimal h.exponent) ∷ (ascii "steps=" ++ decimal h.steps) ∷ [] in
     omega (
       arith,
-      line-length (variantName h.variant) words,
-      longest-most variantNames h.variant,
-      decimal-length 8 h.modulus (omega arith),
-      decimal-length 8 h.order (omega arith),
-      decimal-length 8 h.exponent (omega arith),
-      decimal-length 2 h.steps n,
+      line_length (variant_name h.variant) words,
+      longest_most variant_names h.variant,
+      decimal_length 8 h.modulus (omega arith),
+      decimal_length 8 h.order (omega arith),
+      decimal_length 8 h.exponent (omega arith),
+      decimal_length 2 h.steps n,
     )
 
 -- ---- the steps' lines
 
-named-most : (n : ℕ) (name : List ℕ) (t s : ℕ) → n < 1000 → length name ≡ 3 → Distinct t s → length (namedLine n name t s) ≤ 12
-named-most n name t s small three a =
+named_most : (n : ℕ) (name : List ℕ) (t s : ℕ) → n < 1000 → length name ≡ 3 → Distinct t s → length (named_line n name t s) ≤ 12
+named_most n name t s small three a =
     omega
-    (arith, line-length (decimal n) (name ∷ decimal t ∷ decimal s ∷ []), decimal-length 2 n small, decimal-length 0 t (omega arith), decimal-length 0 s (omega arith))
+    (arith, line_length (decimal n) (name ∷ decimal t ∷ decimal s ∷ []), decimal_length 2 n small, decimal_length 0 t (omega arith), decimal_length 0 s (omega arith))
 
-step-most : (n : ℕ) (x : Step) → n < 1000 → Sound x → length (stepLine n x) ≤ 12
-step-most n (Mul t s) small sound = named-most n (ascii "mul") t s small refl sound
-step-most n (Div t s) small sound = named-most n (ascii "div") t s small refl sound
-step-most n (Swp t s) small sound = named-most n (ascii "swp") t s small refl sound.0
+step_most : (n : ℕ) (x : Step) → n < 1000 → Sound x → length (step_line n x) ≤ 12
+step_most n (Mul t s) small sound = named_most n (ascii "mul") t s small refl sound
+step_most n (Div t s) small sound = named_most n (ascii "div") t s small refl sound
+step_most n (Swp t s) small sound = named_most n (ascii "swp") t s small refl sound.0
 
-steps-most : (n : ℕ) (steps : List Step) → n + length steps ≤ 1000 → AllSound steps → length (stepLines n steps) ≤ 12 * length steps
-unfolding stepLines
-steps-most n [] h sound = omega arith
-steps-most n (x ∷ steps) h sound =
-    omega (arith, length-append (stepLine n x) (stepLines (n + 1) steps), step-most n x (omega arith) sound.0, steps-most (n + 1) steps (omega arith) sound.1)
+steps_most : (n : ℕ) (steps : List Step) → n + length steps ≤ 1000 → AllSound steps → length (step_lines n steps) ≤ 12 * length steps
+unfolding step_lines
+steps_most n [] h sound = omega arith
+steps_most n (x ∷ steps) h sound =
+    omega (arith, length-append (step_line n x) (step_lines (n + 1) steps), step_most n x (omega arith) sound.0, steps_most (n + 1) steps (omega arith) sound.1)
 
 -- ---- the listing
 
-accepted-most : (tape : List ℕ) (h : Header) → acceptOutcome tape ≡ answered h → length (firstLine h ++ stepLines 1 (steps_of tape)) ≤ maxWritten
-accepted-most tape h e =
-    let passed = accepted (headerOf tape) tape e in
+accepted_most : (tape : List ℕ) (h : Header) → accept_outcome tape ≡ answered h → length (first_line h ++ step_lines 1 (steps_of tape)) ≤ max_written
+accepted_most tape h e =
+    let passed = accepted (header_of tape) tape e in
     let most = length_most tape passed.long in
-    let count = steps-count tape in
+    let count = steps_count tape in
     rw (header_is tape h e)
     (omega (
       arith,
-      length-append (firstLine (headerOf tape)) (stepLines 1 (steps_of tape)),
-      first-most (headerOf tape) (header-fits tape passed.laid) (omega arith),
-      steps-most 1 (steps_of tape) (omega arith) (all-steps-sound (stepWordsOf tape)),
+      length-append (first_line (header_of tape)) (step_lines 1 (steps_of tape)),
+      first_most (header_of tape) (header_fits_lem tape passed.laid) (omega arith),
+      steps_most 1 (steps_of tape) (omega arith) (all_steps_sound (step_words_of tape)),
     ))
 
-lines-most : (tape : List ℕ) (o : Outcome Header) → acceptOutcome tape ≡ o → length (linesFor o (steps_of tape)) ≤ maxWritten
-lines-most tape (refused n) e = omega (arith, refused-most n (refused-range (checkRules tape) (headerOf tape) e).1)
-lines-most tape (answered h) e = accepted-most tape h e
+lines_most : (tape : List ℕ) (o : Outcome Header) → accept_outcome tape ≡ o → length (lines_for o (steps_of tape)) ≤ max_written
+lines_most tape (refused n) e = omega (arith, refused_most n (refused_range (check_rules tape) (header_of tape) e).1)
+lines_most tape (answered h) e = accepted_most tape h e
 
 -- of a tape's words
-pub tape-listing-most : (tape : List ℕ) → length (linesFor (acceptOutcome tape) (steps_of tape)) ≤ maxWritten
-tape-listing-most tape = lines-most tape (acceptOutcome tape) refl
+pub tape_listing_most : (tape : List ℕ) → length (lines_for (accept_outcome tape) (steps_of tape)) ≤ max_written
+tape_listing_most tape = lines_most tape (accept_outcome tape) refl
 
 -- and of bytes
-pub listing-most : (bytes : List ℕ) → length (listingOf bytes) ≤ maxWritten
-listing-most bytes = rw listing-lines (tape-listing-most (tapeIn bytes))
+pub listing_most : (bytes : List ℕ) → length (listing_of bytes) ≤ max_written
+listing_most bytes = rw listing_lines (tape_listing_most (tape_in bytes))
 
 -- refusal 5 is never given into a row of that length
-pub never-short : (bytes row : List ℕ) → maxWritten ≤ length row
-    → ListingContract bytes row (record { written = length (listingOf bytes); number = listingNumber bytes }) (listingOf bytes ++ drop (length (listingOf bytes)) row)
-never-short bytes row h = row-enough bytes row (omega (arith, listing-most bytes))
+pub never_short : (bytes row : List ℕ) → max_written ≤ length row
+    → ListingContract bytes row (record { written = length (listing_of bytes); number = listing_number bytes }) (listing_of bytes ++ drop (length (listing_of bytes)) row)
+never_short bytes row h = row_enough bytes row (omega (arith, listing_most bytes))
 
 -- ---- what was written
 
 -- no listing is empty
-lines-some : (o : Outcome Header) (steps : List Step) → 1 ≤ length (linesFor o steps)
-lines-some (refused n) steps = line-some _ _
-lines-some (answered h) steps = let first : 1 ≤ length (firstLine h) = line-some _ _ in omega (arith, length-append (firstLine h) (stepLines 1 steps))
+lines_some : (o : Outcome Header) (steps : List Step) → 1 ≤ length (lines_for o steps)
+lines_some (refused n) steps = line_some _ _
+lines_some (answered h) steps = let first : 1 ≤ length (first_line h) = line_some _ _ in omega (arith, length-append (first_line h) (step_lines 1 steps))
 
 -- so a count of 0 says that there was no room, and then a place for the count holds what it held
-module _ (bytes : List ℕ) (room held : ℕ) (l : Listed) (e : l ≡ listingAnswer bytes room) where
-  written_is : length (listingOf bytes) ≤ room → l.written ≡ length (listingOf bytes)
-  unfolding listingAnswer
-  written_is h = ap (λ (x : Listed). x.written) e ∙ rw (enough (listingOf bytes) room h)
+module _ (bytes : List ℕ) (room held : ℕ) (l : Listed) (e : l ≡ listing_answer bytes room) where
+  written_is : length (listing_of bytes) ≤ room → l.written ≡ length (listing_of bytes)
+  unfolding listing_answer
+  written_is h = ap (λ (x : Listed). x.written) e ∙ rw (enough (listing_of bytes) room h)
 
-  not_written : room < length (listingOf bytes) → l.written ≡ 0
-  unfolding listingAnswer
-  not_written h = ap (λ (x : Listed). x.written) e ∙ rw (short (listingOf bytes) room h)
+  not_written : room < length (listing_of bytes) → l.written ≡ 0
+  unfolding listing_answer
+  not_written h = ap (λ (x : Listed). x.written) e ∙ rw (short (listing_of bytes) room h)
 
-  pub none_written : l.written ≡ 0 → after (roomOutcome (listingOf bytes) room) held ≡ held
-  unfolding listingOf
-  none_written none = elim (dec_lt room (length (listingOf bytes))) [
-    | yes h ↦ rw (short (listingOf bytes) room h)
-    | no h ↦ absurd (omega (arith, written_is (omega arith), lines-some (listingOutcome bytes) (steps_of (tapeOf bytes))))
+  pub none_written : l.written ≡ 0 → after (room_outcome (listing_of bytes) room) held ≡ held
+  unfolding listing_of
+  none_written none = elim (dec_lt room (length (listing_of bytes))) [
+    | yes h ↦ rw (short (listing_of bytes) room h)
+    | no h ↦ absurd (omega (arith, written_is (omega arith), lines_some (listing_outcome bytes) (steps_of (tape_of bytes))))
   ]
 
-  pub some_written : ¬ (l.written ≡ 0) → (after (roomOutcome (listingOf bytes) room) held ≡ l.written) × (l.written ≤ maxWritten)
-  some_written some = elim (dec_lt room (length (listingOf bytes))) [
+  pub some_written : ¬ (l.written ≡ 0) → (after (room_outcome (listing_of bytes) room) held ≡ l.written) × (l.written ≤ max_written)
+  some_written some = elim (dec_lt room (length (listing_of bytes))) [
     | yes h ↦ absurd (some (not_written h))
-    | no h ↦ let is = written_is (omega arith) in (rw (enough (listingOf bytes) room (omega arith)) (sym is), omega (arith, listing-most bytes))
+    | no h ↦ let is = written_is (omega arith) in (rw (enough (listing_of bytes) room (omega arith)) (sym is), omega (arith, listing_most bytes))
   ]

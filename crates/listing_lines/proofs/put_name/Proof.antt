@@ -7,7 +7,7 @@ use borrow.Author.Rules.{rules}
 use lib.ListN.{length, get_or}
 use Rattle.text.specs.Text.{blank}
 use Rattle.text.specs.Rows.{Put}
-use Rattle.text.proofs.Laws.Puts.{puts-join}
+use Rattle.text.proofs.Laws.Puts.{puts_join}
 use Rattle.listing_lines.proofs.put_name.Statement.{statement}
 use Rattle.listing_lines.proofs.put_name.Tie as tie
 
@@ -30,7 +30,7 @@ returns c =
     let start = first.before.before.before in
     let good = start.well-formed in
     whole start.args.t3 (search rules)
-    (puts-join first.put_byte.ensures (puts-join second.put-byte2.ensures (puts-join third.put-byte3.ensures last.put-byte4.ensures)))
+    (puts_join first.put_byte.ensures (puts_join second.put-byte2.ensures (puts_join third.put-byte3.ensures last.put-byte4.ensures)))
 
 pub put-name-spec : {M : Type 1} → statement M
 put-name-spec =

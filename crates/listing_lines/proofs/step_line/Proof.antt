@@ -2,7 +2,7 @@
 use mathlib.Core.Path.{subst}
 use borrow.Author.Rules.{rules}
 use Rattle.tape.specs.Steps.{Sound}
-use Rattle.text.proofs.Laws.Puts.{puts-join}
+use Rattle.text.proofs.Laws.Puts.{puts_join}
 use Rattle.text.proofs.Laws.Lines.{put_word}
 use Rattle.listing_lines.proofs.step_line.Statement.{statement}
 use Rattle.listing_lines.proofs.step_line.Tie as tie
@@ -26,7 +26,7 @@ returns c =
     let step = pair.before.before.before in
     let byte = step.before.before.before.before in
     rw step.step.given.1
-    (put_word _ _ _ (puts-join byte.before.before.before.before.put_count.ensures byte.put_byte.ensures) pair.put_rest.ensures)
+    (put_word _ _ _ (puts_join byte.before.before.before.before.put_count.ensures byte.put_byte.ensures) pair.put_rest.ensures)
 
 returns-2 : tie.Need-returns-2
 returns-2 c =
@@ -34,7 +34,7 @@ returns-2 c =
     let step = pair.before.before.before in
     let byte = step.before.before.before.before in
     rw step.step2.given.1
-    (put_word _ _ _ (puts-join byte.before.before.before.before.put_count.ensures byte.put_byte.ensures) pair.put-rest2.ensures)
+    (put_word _ _ _ (puts_join byte.before.before.before.before.put_count.ensures byte.put_byte.ensures) pair.put-rest2.ensures)
 
 returns-3 : tie.Need-returns-3
 returns-3 c =
@@ -42,7 +42,7 @@ returns-3 c =
     let step = pair.before.before.before in
     let byte = step.before.before.before.before in
     rw step.step3.given.1
-    (put_word _ _ _ (puts-join byte.before.before.before.before.put_count.ensures byte.put_byte.ensures) pair.put-rest3.ensures)
+    (put_word _ _ _ (puts_join byte.before.before.before.before.put_count.ensures byte.put_byte.ensures) pair.put-rest3.ensures)
 
 pub step-line-spec : {M : Type 1} → statement M
 step-line-spec =

@@ -1,13 +1,13 @@
 -- `variant_name` meets its contract: the table's words are the names.
 use mathlib.Core.Path.{◌≡◌}
 use borrow.Author.Rules.{rules}
-use Rattle.text.specs.Reading.{splitWords}
-use Rattle.named.specs.Named.{variantName}
+use Rattle.text.specs.Reading.{split_words}
+use Rattle.named.specs.Named.{variant_name}
 use Rattle.listing_lines.proofs.variant_name.Statement.{statement}
 use Rattle.listing_lines.proofs.variant_name.Tie as tie
 
-name : (c : tie.After-nth-word) → c.nth-word.result.now ≡ variantName c.before.before.before.before.args.variant
-unfolding splitWords
+name : (c : tie.After-nth-word) → c.nth-word.result.now ≡ variant_name c.before.before.before.before.args.variant
+unfolding split_words
 name c = c.nth-word.ensures
 
 returns : tie.Need-returns

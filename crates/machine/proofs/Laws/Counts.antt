@@ -12,32 +12,32 @@ use lib.Seq.{slice, length-slice}
 use borrow.Author.Tests.{ne_eqb}
 use Rattle.tape.specs.declared.Step.{Step}
 use Rattle.tape.specs.declared.Step.TheVariants.{Mul, Div, Swp}
-use Rattle.tape.specs.Inner.Operations.{stepBy}
-use Rattle.tape.proofs.Laws.Rows.{drop-next}
-use Rattle.machine.specs.Machine.{inverseStep, inverted}
-use Rattle.machine.specs.Ways.{way, countWhere, isMul, isDiv, isSwp, countsOf}
-use Rattle.machine.specs.Inner.Kinds.{isKind}
-use Rattle.machine.proofs.Laws.Steps.{length-inverted}
-use Rattle.machine.proofs.Laws.Ways.{way-forward, way-backward, way-here, way_back}
+use Rattle.tape.specs.Inner.Operations.{step_by}
+use Rattle.tape.proofs.Laws.Rows.{drop_next}
+use Rattle.machine.specs.Machine.{inverse_step, inverted}
+use Rattle.machine.specs.Ways.{way, count_where, is_mul, is_div, is_swp, counts_of}
+use Rattle.machine.specs.Inner.Kinds.{is_kind}
+use Rattle.machine.proofs.Laws.Steps.{length_inverted}
+use Rattle.machine.proofs.Laws.Ways.{way_forward, way_backward, way_here, way_back}
 
 -- ---- one count
 
 module _ (test : Step → Bool) where
-  count-append : (xs ys : List Step) → countWhere test (xs ++ ys) ≡ countWhere test xs + countWhere test ys
-  unfolding countWhere
-  count-append [] ys = omega arith
-  count-append (x ∷ xs) ys = go (test x) _ _ _ (count-append xs ys)
+  count_append : (xs ys : List Step) → count_where test (xs ++ ys) ≡ count_where test xs + count_where test ys
+  unfolding count_where
+  count_append [] ys = omega arith
+  count_append (x ∷ xs) ys = go (test x) _ _ _ (count_append xs ys)
     where
       go : (b : Bool) (m k n : ℕ) → m ≡ k + n → cond b (suc m) m ≡ cond b (suc k) k + n
       go true m k n e = omega (arith, e)
       go false m k n e = e
 
   -- those of a list taken back, by what the opposite step is
-  count-inverted : (other : Step → Bool) → ((x : Step) → test (inverseStep x) ≡ other x) → (xs : List Step) → countWhere test (inverted xs) ≡ countWhere other xs
-  unfolding countWhere inverted
-  count-inverted other same [] = refl
-  count-inverted other same (x ∷ xs) =
-      count-append (inverted xs) (inverseStep x ∷ []) ∙ rw (same x, count-inverted other same xs) (go (other x) (countWhere other xs))
+  count_inverted : (other : Step → Bool) → ((x : Step) → test (inverse_step x) ≡ other x) → (xs : List Step) → count_where test (inverted xs) ≡ count_where other xs
+  unfolding count_where inverted
+  count_inverted other same [] = refl
+  count_inverted other same (x ∷ xs) =
+      count_append (inverted xs) (inverse_step x ∷ []) ∙ rw (same x, count_inverted other same xs) (go (other x) (count_where other xs))
     where
       go : (b : Bool) (n : ℕ) → n + cond b 1 0 ≡ cond b (suc n) n
       go true n = omega arith
@@ -46,96 +46,96 @@ module _ (test : Step → Bool) where
   -- from one step of a list on, and behind its end
   module _ (xs : List Step) (i : ℕ) where
     pub count_next : (other : Step) → i < length xs → (b : Bool) → test (get_or xs i other) ≡ b
-        → countWhere test (drop i xs) ≡ cond b (suc (countWhere test (drop (i + 1) xs))) (countWhere test (drop (i + 1) xs))
-    unfolding countWhere
-    count_next other inside b e = ap (countWhere test) (drop-next xs i (i + 1) other refl inside) ∙ rw e
+        → count_where test (drop i xs) ≡ cond b (suc (count_where test (drop (i + 1) xs))) (count_where test (drop (i + 1) xs))
+    unfolding count_where
+    count_next other inside b e = ap (count_where test) (drop_next xs i (i + 1) other refl inside) ∙ rw e
 
-    pub count-end : length xs ≤ i → countWhere test (drop i xs) ≡ 0
-    unfolding countWhere
-    count-end past = ap (countWhere test) (drop_of_length-le xs past)
+    pub count_end : length xs ≤ i → count_where test (drop i xs) ≡ 0
+    unfolding count_where
+    count_end past = ap (count_where test) (drop_of_length-le xs past)
 
 -- a kind by its opcode; swp is every other
-pub kind-by : (k n t s : ℕ) → k < 2 → isKind k (stepBy n t s) ≡ eqb n k
-unfolding isKind isMul isDiv stepBy
-kind-by zero zero t s low = refl
-kind-by zero (suc zero) t s low = refl
-kind-by zero (suc (suc n)) t s low = sym (ne_eqb (suc (suc n)) 0 (λ e. omega arith))
-kind-by (suc zero) zero t s low = refl
-kind-by (suc zero) (suc zero) t s low = refl
-kind-by (suc zero) (suc (suc n)) t s low = sym (ne_eqb (suc (suc n)) 1 (λ e. omega arith))
-kind-by (suc (suc k)) n t s low = absurd (omega arith)
+pub kind_by : (k n t s : ℕ) → k < 2 → is_kind k (step_by n t s) ≡ eqb n k
+unfolding is_kind is_mul is_div step_by
+kind_by zero zero t s low = refl
+kind_by zero (suc zero) t s low = refl
+kind_by zero (suc (suc n)) t s low = sym (ne_eqb (suc (suc n)) 0 (λ e. omega arith))
+kind_by (suc zero) zero t s low = refl
+kind_by (suc zero) (suc zero) t s low = refl
+kind_by (suc zero) (suc (suc n)) t s low = sym (ne_eqb (suc (suc n)) 1 (λ e. omega arith))
+kind_by (suc (suc k)) n t s low = absurd (omega arith)
 
 -- ---- the three counts
 
-counts-sum : (xs : List Step) → countWhere isMul xs + countWhere isDiv xs + countWhere isSwp xs ≡ length xs
-unfolding countWhere isMul isDiv isSwp
-counts-sum [] = refl
-counts-sum (Mul t s ∷ xs) = omega (arith, counts-sum xs)
-counts-sum (Div t s ∷ xs) = omega (arith, counts-sum xs)
-counts-sum (Swp t s ∷ xs) = omega (arith, counts-sum xs)
+counts_sum : (xs : List Step) → count_where is_mul xs + count_where is_div xs + count_where is_swp xs ≡ length xs
+unfolding count_where is_mul is_div is_swp
+counts_sum [] = refl
+counts_sum (Mul t s ∷ xs) = omega (arith, counts_sum xs)
+counts_sum (Div t s ∷ xs) = omega (arith, counts_sum xs)
+counts_sum (Swp t s ∷ xs) = omega (arith, counts_sum xs)
 
-pub counts-total : (xs : List Step) → get_or (countsOf xs) 0 0 + get_or (countsOf xs) 1 0 + get_or (countsOf xs) 2 0 ≡ length xs
-unfolding countsOf
-counts-total xs = counts-sum xs
+pub counts_total : (xs : List Step) → get_or (counts_of xs) 0 0 + get_or (counts_of xs) 1 0 + get_or (counts_of xs) 2 0 ≡ length xs
+unfolding counts_of
+counts_total xs = counts_sum xs
 
 -- so two of them tell the third
 module _ (xs : List Step) where
   abbrev mul : ℕ
-  mul = countWhere (isKind 0) xs
+  mul = count_where (is_kind 0) xs
 
   abbrev div : ℕ
-  div = countWhere (isKind 1) xs
+  div = count_where (is_kind 1) xs
 
-  pub kinds-within : mul + div ≤ length xs
-  unfolding isKind
-  kinds-within = omega (arith, counts-sum xs)
+  pub kinds_within : mul + div ≤ length xs
+  unfolding is_kind
+  kinds_within = omega (arith, counts_sum xs)
 
-  pub counts-by-kinds : mul ∷ div ∷ (length xs - mul - div) ∷ [] ≡ countsOf xs
-  unfolding isKind countsOf
-  counts-by-kinds = let swp : length xs - mul - div ≡ countWhere isSwp xs = omega (arith, counts-sum xs) in rw swp refl
+  pub counts_by_kinds : mul ∷ div ∷ (length xs - mul - div) ∷ [] ≡ counts_of xs
+  unfolding is_kind counts_of
+  counts_by_kinds = let swp : length xs - mul - div ≡ count_where is_swp xs = omega (arith, counts_sum xs) in rw swp refl
 
-undone-mul : (x : Step) → isMul (inverseStep x) ≡ isDiv x
-unfolding isMul isDiv inverseStep
-undone-mul (Mul t s) = refl
-undone-mul (Div t s) = refl
-undone-mul (Swp t s) = refl
+undone_mul : (x : Step) → is_mul (inverse_step x) ≡ is_div x
+unfolding is_mul is_div inverse_step
+undone_mul (Mul t s) = refl
+undone_mul (Div t s) = refl
+undone_mul (Swp t s) = refl
 
-undone-div : (x : Step) → isDiv (inverseStep x) ≡ isMul x
-unfolding isMul isDiv inverseStep
-undone-div (Mul t s) = refl
-undone-div (Div t s) = refl
-undone-div (Swp t s) = refl
+undone_div : (x : Step) → is_div (inverse_step x) ≡ is_mul x
+unfolding is_mul is_div inverse_step
+undone_div (Mul t s) = refl
+undone_div (Div t s) = refl
+undone_div (Swp t s) = refl
 
-undone-swp : (x : Step) → isSwp (inverseStep x) ≡ isSwp x
-unfolding isSwp inverseStep
-undone-swp (Mul t s) = refl
-undone-swp (Div t s) = refl
-undone-swp (Swp t s) = refl
+undone_swp : (x : Step) → is_swp (inverse_step x) ≡ is_swp x
+unfolding is_swp inverse_step
+undone_swp (Mul t s) = refl
+undone_swp (Div t s) = refl
+undone_swp (Swp t s) = refl
 
 -- taken back, mul and div are exchanged
 abbrev pub exchanged : List ℕ → List ℕ
 exchanged counts = get_or counts 1 0 ∷ get_or counts 0 0 ∷ get_or counts 2 0 ∷ []
 
-pub counts-inverted : (xs : List Step) → countsOf (inverted xs) ≡ exchanged (countsOf xs)
-unfolding countsOf
-counts-inverted xs = rw (count-inverted isMul isDiv undone-mul xs, count-inverted isDiv isMul undone-div xs, count-inverted isSwp isSwp undone-swp xs) refl
+pub counts_inverted : (xs : List Step) → counts_of (inverted xs) ≡ exchanged (counts_of xs)
+unfolding counts_of
+counts_inverted xs = rw (count_inverted is_mul is_div undone_mul xs, count_inverted is_div is_mul undone_div xs, count_inverted is_swp is_swp undone_swp xs) refl
 
 -- ---- on the way from one position to another
 
 module _ (xs : List Step) where
   -- from a position to itself
-  pub counts-here : (i : ℕ) → countsOf (way xs i i) ≡ 0 ∷ 0 ∷ 0 ∷ []
-  unfolding countsOf countWhere
-  counts-here i = ap countsOf (way-here xs i)
+  pub counts_here : (i : ℕ) → counts_of (way xs i i) ≡ 0 ∷ 0 ∷ 0 ∷ []
+  unfolding counts_of count_where
+  counts_here i = ap counts_of (way_here xs i)
 
   -- the way back, against the way there
-  pub counts-back : (i j : ℕ) → countsOf (way xs j i) ≡ exchanged (countsOf (way xs i j))
-  counts-back i j = ap countsOf (way_back xs i j) ∙ counts-inverted (way xs i j)
+  pub counts_back : (i j : ℕ) → counts_of (way xs j i) ≡ exchanged (counts_of (way xs i j))
+  counts_back i j = ap counts_of (way_back xs i j) ∙ counts_inverted (way xs i j)
 
   -- it has as many steps as the positions are apart
-  pub way-length : (i j : ℕ) → i ≤ length xs → j ≤ length xs → length (way xs i j) ≡ (j - i) + (i - j)
-  way-length i j from-inside goal-inside =
+  pub way_length : (i j : ℕ) → i ≤ length xs → j ≤ length xs → length (way xs i j) ≡ (j - i) + (i - j)
+  way_length i j from_inside goal_inside =
       elim (dec_lt j i) [
-        | yes h ↦ ap length (way-backward xs i j h) ∙ length-inverted (slice j i xs) ∙ length-slice j i xs from-inside ∙ omega arith
-        | no h ↦ ap length (way-forward xs i j (omega arith)) ∙ length-slice i j xs goal-inside ∙ omega arith
+        | yes h ↦ ap length (way_backward xs i j h) ∙ length_inverted (slice j i xs) ∙ length-slice j i xs from_inside ∙ omega arith
+        | no h ↦ ap length (way_forward xs i j (omega arith)) ∙ length-slice i j xs goal_inside ∙ omega arith
       ]

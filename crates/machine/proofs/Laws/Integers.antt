@@ -28,91 +28,91 @@ same (negsuc m) (negsuc n) e = ap negsuc (omega arith)
 
 -- ---- a difference of natural numbers
 
-over-difference : (m n : ℕ) → over (sub_ℕ m n) ≡ m - n
-over-difference m n = elim (dec_lt m n) [ yes l ↦ rw (lt-ltb m n l) (omega arith) | no l ↦ rw (le-ltb m n (omega arith)) ]
+over_difference : (m n : ℕ) → over (sub_ℕ m n) ≡ m - n
+over_difference m n = elim (dec_lt m n) [ yes l ↦ rw (lt-ltb m n l) (omega arith) | no l ↦ rw (le-ltb m n (omega arith)) ]
 
-under-difference : (m n : ℕ) → under (sub_ℕ m n) ≡ n - m
-under-difference m n = elim (dec_lt m n) [ yes l ↦ rw (lt-ltb m n l) (omega arith) | no l ↦ rw (le-ltb m n (omega arith)) (omega arith) ]
+under_difference : (m n : ℕ) → under (sub_ℕ m n) ≡ n - m
+under_difference m n = elim (dec_lt m n) [ yes l ↦ rw (lt-ltb m n l) (omega arith) | no l ↦ rw (le-ltb m n (omega arith)) (omega arith) ]
 
 -- ---- sums, opposites and differences
 
-pub over-sum : (a b : ℤ) → over (a +ℤ b) ≡ over a + over b - (under a + under b)
-over-sum (pos m) (pos n) = omega arith
-over-sum (pos m) (negsuc n) = omega (arith, over-difference m (suc n))
-over-sum (negsuc m) (pos n) = omega (arith, over-difference n (suc m))
-over-sum (negsuc m) (negsuc n) = omega arith
+pub over_sum : (a b : ℤ) → over (a +ℤ b) ≡ over a + over b - (under a + under b)
+over_sum (pos m) (pos n) = omega arith
+over_sum (pos m) (negsuc n) = omega (arith, over_difference m (suc n))
+over_sum (negsuc m) (pos n) = omega (arith, over_difference n (suc m))
+over_sum (negsuc m) (negsuc n) = omega arith
 
-pub under-sum : (a b : ℤ) → under (a +ℤ b) ≡ under a + under b - (over a + over b)
-under-sum (pos m) (pos n) = omega arith
-under-sum (pos m) (negsuc n) = omega (arith, under-difference m (suc n))
-under-sum (negsuc m) (pos n) = omega (arith, under-difference n (suc m))
-under-sum (negsuc m) (negsuc n) = omega arith
+pub under_sum : (a b : ℤ) → under (a +ℤ b) ≡ under a + under b - (over a + over b)
+under_sum (pos m) (pos n) = omega arith
+under_sum (pos m) (negsuc n) = omega (arith, under_difference m (suc n))
+under_sum (negsuc m) (pos n) = omega (arith, under_difference n (suc m))
+under_sum (negsuc m) (negsuc n) = omega arith
 
-pub over-opposite : (a : ℤ) → over (neg_ℤ a) ≡ under a
-over-opposite (pos zero) = refl
-over-opposite (pos (suc n)) = refl
-over-opposite (negsuc n) = refl
+pub over_opposite : (a : ℤ) → over (neg_ℤ a) ≡ under a
+over_opposite (pos zero) = refl
+over_opposite (pos (suc n)) = refl
+over_opposite (negsuc n) = refl
 
-pub under-opposite : (a : ℤ) → under (neg_ℤ a) ≡ over a
-under-opposite (pos zero) = refl
-under-opposite (pos (suc n)) = refl
-under-opposite (negsuc n) = refl
+pub under_opposite : (a : ℤ) → under (neg_ℤ a) ≡ over a
+under_opposite (pos zero) = refl
+under_opposite (pos (suc n)) = refl
+under_opposite (negsuc n) = refl
 
-pub over-less : (a b : ℤ) → over (a -ℤ b) ≡ over a + under b - (under a + over b)
-over-less a b = omega (arith, over-sum a (neg_ℤ b), over-opposite b, under-opposite b)
+pub over_less : (a b : ℤ) → over (a -ℤ b) ≡ over a + under b - (under a + over b)
+over_less a b = omega (arith, over_sum a (neg_ℤ b), over_opposite b, under_opposite b)
 
-pub under-less : (a b : ℤ) → under (a -ℤ b) ≡ under a + over b - (over a + under b)
-under-less a b = omega (arith, under-sum a (neg_ℤ b), over-opposite b, under-opposite b)
+pub under_less : (a b : ℤ) → under (a -ℤ b) ≡ under a + over b - (over a + under b)
+under_less a b = omega (arith, under_sum a (neg_ℤ b), over_opposite b, under_opposite b)
 
 -- ---- the tests
 
-leZ-is : (a b : ℤ) → le_z a b ≡ leb (over a + under b) (over b + under a)
-leZ-is (pos m) (pos n) = rw (add-zero m, add-zero n)
-leZ-is (pos m) (negsuc n) = sym (lt-leb (m + suc n) 0 (omega arith))
-leZ-is (negsuc m) (pos n) = sym (le-leb 0 (n + suc m) (omega arith))
-leZ-is (negsuc m) (negsuc n) = sym (rw (zero-add (suc m), zero-add (suc n)) (leb-suc-suc n m))
+le_z_is : (a b : ℤ) → le_z a b ≡ leb (over a + under b) (over b + under a)
+le_z_is (pos m) (pos n) = rw (add-zero m, add-zero n)
+le_z_is (pos m) (negsuc n) = sym (lt-leb (m + suc n) 0 (omega arith))
+le_z_is (negsuc m) (pos n) = sym (le-leb 0 (n + suc m) (omega arith))
+le_z_is (negsuc m) (negsuc n) = sym (rw (zero-add (suc m), zero-add (suc n)) (leb-suc-suc n m))
 
-ltZ-is : (a b : ℤ) → lt_z a b ≡ ltb (over a + under b) (over b + under a)
-ltZ-is (pos m) (pos n) = rw (add-zero m, add-zero n)
-ltZ-is (pos m) (negsuc n) = sym (le-ltb (m + suc n) 0 (omega arith))
-ltZ-is (negsuc m) (pos n) = sym (lt-ltb 0 (n + suc m) (omega arith))
-ltZ-is (negsuc m) (negsuc n) = sym (rw (zero-add (suc m), zero-add (suc n)) (leb-suc-suc (suc n) m))
+lt_z_is : (a b : ℤ) → lt_z a b ≡ ltb (over a + under b) (over b + under a)
+lt_z_is (pos m) (pos n) = rw (add-zero m, add-zero n)
+lt_z_is (pos m) (negsuc n) = sym (le-ltb (m + suc n) 0 (omega arith))
+lt_z_is (negsuc m) (pos n) = sym (lt-ltb 0 (n + suc m) (omega arith))
+lt_z_is (negsuc m) (negsuc n) = sym (rw (zero-add (suc m), zero-add (suc n)) (leb-suc-suc (suc n) m))
 
 module _ (a b : ℤ) where
-  pub le-leZ : over a + under b ≤ over b + under a → le_z a b ≡ true
-  le-leZ h = leZ-is a b ∙ le-leb _ _ h
+  pub le_le_z : over a + under b ≤ over b + under a → le_z a b ≡ true
+  le_le_z h = le_z_is a b ∙ le-leb _ _ h
 
-  pub leZ-true : le_z a b ≡ true → over a + under b ≤ over b + under a
-  leZ-true e = leb-true _ _ (sym (leZ-is a b) ∙ e)
+  pub le_z_true : le_z a b ≡ true → over a + under b ≤ over b + under a
+  le_z_true e = leb-true _ _ (sym (le_z_is a b) ∙ e)
 
-  pub ltZ-true : lt_z a b ≡ true → over a + under b < over b + under a
-  ltZ-true e = ltb-true _ _ (sym (ltZ-is a b) ∙ e)
+  pub lt_z_true : lt_z a b ≡ true → over a + under b < over b + under a
+  lt_z_true e = ltb-true _ _ (sym (lt_z_is a b) ∙ e)
 
-  pub ltZ-false : lt_z a b ≡ false → over b + under a ≤ over a + under b
-  ltZ-false e = ltb-false _ _ (sym (ltZ-is a b) ∙ e)
+  pub lt_z_false : lt_z a b ≡ false → over b + under a ≤ over a + under b
+  lt_z_false e = ltb-false _ _ (sym (lt_z_is a b) ∙ e)
 
 -- a number moved from one side to the other
-same-difference : (a b c d : ℕ) → a + d ≡ c + b → leb a b ≡ leb c d
-same-difference a b c d e = elim (dec_lt b a) [
+same_difference : (a b c d : ℕ) → a + d ≡ c + b → leb a b ≡ leb c d
+same_difference a b c d e = elim (dec_lt b a) [
   | yes l ↦ lt-leb a b l ∙ sym (lt-leb c d (omega arith))
   | no l ↦ le-leb a b (omega arith) ∙ sym (le-leb c d (omega arith))
 ]
 
 same_test : (a b c d : ℤ) → over a + under b + (over d + under c) ≡ over c + under d + (over b + under a) → le_z a b ≡ le_z c d
-same_test a b c d e = leZ-is a b ∙ same-difference _ _ _ _ e ∙ sym (leZ-is c d)
+same_test a b c d e = le_z_is a b ∙ same_difference _ _ _ _ e ∙ sym (le_z_is c d)
 
 module _ (a b m : ℤ) where
-  pub most-less : le_z a (m -ℤ b) ≡ le_z (a +ℤ b) m
-  most-less = same_test a (m -ℤ b) (a +ℤ b) m (omega (arith, over-less m b, under-less m b, over-sum a b, under-sum a b))
+  pub most_less : le_z a (m -ℤ b) ≡ le_z (a +ℤ b) m
+  most_less = same_test a (m -ℤ b) (a +ℤ b) m (omega (arith, over_less m b, under_less m b, over_sum a b, under_sum a b))
 
-  pub least-less : le_z (m -ℤ b) a ≡ le_z m (a +ℤ b)
-  least-less = same_test (m -ℤ b) a m (a +ℤ b) (omega (arith, over-less m b, under-less m b, over-sum a b, under-sum a b))
+  pub least_less : le_z (m -ℤ b) a ≡ le_z m (a +ℤ b)
+  least_less = same_test (m -ℤ b) a m (a +ℤ b) (omega (arith, over_less m b, under_less m b, over_sum a b, under_sum a b))
 
-  pub most-more : le_z a (m +ℤ b) ≡ le_z (a -ℤ b) m
-  most-more = same_test a (m +ℤ b) (a -ℤ b) m (omega (arith, over-sum m b, under-sum m b, over-less a b, under-less a b))
+  pub most_more : le_z a (m +ℤ b) ≡ le_z (a -ℤ b) m
+  most_more = same_test a (m +ℤ b) (a -ℤ b) m (omega (arith, over_sum m b, under_sum m b, over_less a b, under_less a b))
 
   pub least_more : le_z (m +ℤ b) a ≡ le_z m (a -ℤ b)
-  least_more = same_test (m +ℤ b) a m (a -ℤ b) (omega (arith, over-sum m b, under-sum m b, over-less a b, under-less a b))
+  least_more = same_test (m +ℤ b) a m (a -ℤ b) (omega (arith, over_sum m b, under_sum m b, over_less a b, under_less a b))
 
 -- ---- from -m to m
 
@@ -120,11 +120,11 @@ pub record Within (m : ℕ) (a : ℤ) : Type 0 where
   pub high : over a ≤ m
   pub low : under a ≤ m
 
-pub within-natural : {n : ℕ} (m : ℕ) → m ≤ n → Within n (pos m)
-within-natural m h = record { high = h; low = omega arith }
+pub within_natural : {n : ℕ} (m : ℕ) → m ≤ n → Within n (pos m)
+within_natural m h = record { high = h; low = omega arith }
 
-pub within-less : {m n : ℕ} (a b : ℤ) → Within m a → Within n b → Within (m + n) (a -ℤ b)
-within-less a b v w = record { high = omega (arith, over-less a b); low = omega (arith, under-less a b) }
+pub within_less : {m n : ℕ} (a b : ℤ) → Within m a → Within n b → Within (m + n) (a -ℤ b)
+within_less a b v w = record { high = omega (arith, over_less a b); low = omega (arith, under_less a b) }
 
 pub within_more : {m n : ℕ} {a : ℤ} → m ≤ n → Within m a → Within n a
 within_more h v = record { high = omega arith; low = omega arith }

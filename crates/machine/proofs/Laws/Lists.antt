@@ -21,15 +21,15 @@ of_four P h (a ∷ b ∷ c ∷ d ∷ []) n = h a b c d
 of_four P h (a ∷ b ∷ c ∷ d ∷ e ∷ v) n = absurd (omega arith)
 
 -- they are the first four
-pub four-first : {A : Type 0} (d : A) (v : List A) → length v ≡ 4 → get_or v 0 d ∷ get_or v 1 d ∷ get_or v 2 d ∷ get_or v 3 d ∷ [] ≡ v
-four-first d = of_four (λ v. get_or v 0 d ∷ get_or v 1 d ∷ get_or v 2 d ∷ get_or v 3 d ∷ [] ≡ v) (λ x y z w. refl)
+pub four_first : {A : Type 0} (d : A) (v : List A) → length v ≡ 4 → get_or v 0 d ∷ get_or v 1 d ∷ get_or v 2 d ∷ get_or v 3 d ∷ [] ≡ v
+four_first d = of_four (λ v. get_or v 0 d ∷ get_or v 1 d ∷ get_or v 2 d ∷ get_or v 3 d ∷ [] ≡ v) (λ x y z w. refl)
 
 -- ---- an entry changed and changed back
 
 -- x is stored at t; f of it and of another entry is what stood there before
-pub changed-back : {A : Type 0} (d : A) (f : A → A → A) (v : List A) (t s : ℕ) (x : A) → t < length v → s ≢ t → f x (get_or v s d) ≡ get_or v t d
+pub changed_back : {A : Type 0} (d : A) (f : A → A → A) (v : List A) (t s : ℕ) (x : A) → t < length v → s ≢ t → f x (get_or v s d) ≡ get_or v t d
     → set (set v t x) t (f (get_or (set v t x) t d) (get_or (set v t x) s d)) ≡ v
-changed-back d f v t s x inside ne e = simp (get_or-set_same, get_or-set_other, set-set, e, set-get_or)
+changed_back d f v t s x inside ne e = simp (get_or-set_same, get_or-set_other, set-set, e, set-get_or)
 
 -- ---- two places exchanged
 
@@ -47,8 +47,8 @@ module _ {A : Type 0} (d : A) where
       ∙ ap (λ (x : A). set v s x) (sym eb)
       ∙ set-get_or v s d
 
-  pub exchange-twice : (v : List A) (t s : ℕ) → t < length v → s < length v → t ≢ s → exchange (exchange v t s) t s ≡ v
-  exchange-twice v t s ht hs ne =
+  pub exchange_twice : (v : List A) (t s : ℕ) → t < length v → s < length v → t ≢ s → exchange (exchange v t s) t s ≡ v
+  exchange_twice v t s ht hs ne =
       let ks : s < length (set v t (get_or v s d)) = rw (length-set v t (get_or v s d)) hs in
       let es : get_or (exchange v t s) s d ≡ get_or v t d = get_or-set_same (set v t (get_or v s d)) s (get_or v t d) d ks in
       let et : get_or (exchange v t s) t d ≡ get_or v s d =
@@ -63,20 +63,20 @@ module _ {A B : Type 0} (f : A → B) where
   get_d_map (x ∷ xs) zero d e h = refl
   get_d_map (x ∷ xs) (suc i) d e h = get_d_map xs i d e (le_of_suc-le-suc h)
 
-  pub map-set : (l : List A) (i : ℕ) (y : A) → map f (set l i y) ≡ set (map f l) i (f y)
-  map-set [] i y = refl
-  map-set (x ∷ xs) zero y = refl
-  map-set (x ∷ xs) (suc i) y = ap (λ (l : List B). f x ∷ l) (map-set xs i y)
+  pub map_set : (l : List A) (i : ℕ) (y : A) → map f (set l i y) ≡ set (map f l) i (f y)
+  map_set [] i y = refl
+  map_set (x ∷ xs) zero y = refl
+  map_set (x ∷ xs) (suc i) y = ap (λ (l : List B). f x ∷ l) (map_set xs i y)
 
-  map-take : (n : ℕ) (v : List A) → map f (take n v) ≡ take n (map f v)
-  map-take zero v = refl
-  map-take (suc n) [] = refl
-  map-take (suc n) (x ∷ v) = ap (λ (l : List B). f x ∷ l) (map-take n v)
+  map_take : (n : ℕ) (v : List A) → map f (take n v) ≡ take n (map f v)
+  map_take zero v = refl
+  map_take (suc n) [] = refl
+  map_take (suc n) (x ∷ v) = ap (λ (l : List B). f x ∷ l) (map_take n v)
 
-  map-drop : (n : ℕ) (v : List A) → map f (drop n v) ≡ drop n (map f v)
-  map-drop zero v = refl
-  map-drop (suc n) [] = refl
-  map-drop (suc n) (x ∷ v) = map-drop n v
+  map_drop : (n : ℕ) (v : List A) → map f (drop n v) ≡ drop n (map f v)
+  map_drop zero v = refl
+  map_drop (suc n) [] = refl
+  map_drop (suc n) (x ∷ v) = map_drop n v
 
-  pub map-slice : (i j : ℕ) (v : List A) → map f (slice i j v) ≡ slice i j (map f v)
-  map-slice i j v = map-drop i (take j v) ∙ ap (drop i) (map-take j v)
+  pub map_slice : (i j : ℕ) (v : List A) → map f (slice i j v) ≡ slice i j (map f v)
+  map_slice i j v = map_drop i (take j v) ∙ ap (drop i) (map_take j v)

@@ -12,58 +12,58 @@ use borrow.Author.Tests.{leb-true, leb-false}
 use Rattle.modular.specs.Primes.{Prime}
 use Rattle.tape.specs.declared.Step.{Step}
 use Rattle.tape.specs.Steps.{AllSound}
-use Rattle.machine.specs.Machine.{doAll, undoAll, run, Residues}
-use Rattle.machine.proofs.Laws.Steps.{sound-append-left, sound-append-right, doAll-append, undoAll-append, residues-doAll, residues-undoAll, undo-do, do-undo}
+use Rattle.machine.specs.Machine.{do_all, undo_all, run, Residues}
+use Rattle.machine.proofs.Laws.Steps.{sound_append_left, sound_append_right, do_all_append, undo_all_append, residues_do_all, residues_undo_all, undo_do, do_undo}
 
-pub sound-take : (n : ℕ) (xs : List Step) → AllSound xs → AllSound (take n xs)
-sound-take n xs a = sound-append-left (take n xs) (drop n xs) (rw take-append-drop a)
+pub sound_take : (n : ℕ) (xs : List Step) → AllSound xs → AllSound (take n xs)
+sound_take n xs a = sound_append_left (take n xs) (drop n xs) (rw take-append-drop a)
 
 -- the first j steps are the first i and those between
-take-slice : (i j : ℕ) (xs : List Step) → i ≤ j → take j xs ≡ take i xs ++ slice i j xs
-take-slice i j xs h =
+take_slice : (i j : ℕ) (xs : List Step) → i ≤ j → take j xs ≡ take i xs ++ slice i j xs
+take_slice i j xs h =
     sym (take-append-drop i (take j xs)) ∙ ap (λ (l : List Step). l ++ slice i j xs) (take-take i j xs h)
 
 -- ---- runs
 
 module _ (p : ℕ) (pr : Prime p) (xs : List Step) (a : AllSound xs) where
-  pub run-form : (i j : ℕ) (v : List ℕ) → Residues p v → run p xs i j v ≡ doAll p (take j xs) (undoAll p (take i xs) v)
+  pub run_form : (i j : ℕ) (v : List ℕ) → Residues p v → run p xs i j v ≡ do_all p (take j xs) (undo_all p (take i xs) v)
   unfolding run
-  run-form i j v g = go (leb i j) refl
+  run_form i j v g = go (leb i j) refl
     where
       go : (b : Bool) → leb i j ≡ b
-          → cond b (doAll p (slice i j xs) v) (undoAll p (slice j i xs) v) ≡ doAll p (take j xs) (undoAll p (take i xs) v)
+          → cond b (do_all p (slice i j xs) v) (undo_all p (slice j i xs) v) ≡ do_all p (take j xs) (undo_all p (take i xs) v)
       go true e =
           sym
-          (ap (λ (l : List Step). doAll p l (undoAll p (take i xs) v)) (take-slice i j xs (leb-true i j e))
-          ∙ doAll-append p (take i xs) (slice i j xs) (undoAll p (take i xs) v)
-          ∙ ap (doAll p (slice i j xs)) (do-undo p pr (take i xs) v (sound-take i xs a) g))
+          (ap (λ (l : List Step). do_all p l (undo_all p (take i xs) v)) (take_slice i j xs (leb-true i j e))
+          ∙ do_all_append p (take i xs) (slice i j xs) (undo_all p (take i xs) v)
+          ∙ ap (do_all p (slice i j xs)) (do_undo p pr (take i xs) v (sound_take i xs a) g))
       go false e =
           let h : j ≤ i = omega (arith, leb-false i j e) in
-          let s : AllSound (slice j i xs) = sound-append-right (take j xs) (slice j i xs) (rw (← (take-slice j i xs h)) (sound-take i xs a)) in
+          let s : AllSound (slice j i xs) = sound_append_right (take j xs) (slice j i xs) (rw (← (take_slice j i xs h)) (sound_take i xs a)) in
           sym
-          (ap (λ (l : List Step). doAll p (take j xs) (undoAll p l v)) (take-slice j i xs h)
-          ∙ ap (doAll p (take j xs)) (undoAll-append p (take j xs) (slice j i xs) v)
-          ∙ do-undo p pr (take j xs) (undoAll p (slice j i xs) v) (sound-take j xs a) (residues-undoAll p pr (slice j i xs) v s g))
+          (ap (λ (l : List Step). do_all p (take j xs) (undo_all p l v)) (take_slice j i xs h)
+          ∙ ap (do_all p (take j xs)) (undo_all_append p (take j xs) (slice j i xs) v)
+          ∙ do_undo p pr (take j xs) (undo_all p (slice j i xs) v) (sound_take j xs a) (residues_undo_all p pr (slice j i xs) v s g))
 
-  pub run-residues : (i j : ℕ) (v : List ℕ) → Residues p v → Residues p (run p xs i j v)
-  run-residues i j v g =
-      rw (run-form i j v g)
-      (residues-doAll p pr (take j xs) _ (sound-take j xs a) (residues-undoAll p pr (take i xs) v (sound-take i xs a) g))
+  pub run_residues : (i j : ℕ) (v : List ℕ) → Residues p v → Residues p (run p xs i j v)
+  run_residues i j v g =
+      rw (run_form i j v g)
+      (residues_do_all p pr (take j xs) _ (sound_take j xs a) (residues_undo_all p pr (take i xs) v (sound_take i xs a) g))
 
-  pub run-compose : (i j k : ℕ) (v : List ℕ) → Residues p v → run p xs j k (run p xs i j v) ≡ run p xs i k v
-  run-compose i j k v g =
-      let w : List ℕ = undoAll p (take i xs) v in
-      let gw : Residues p w = residues-undoAll p pr (take i xs) v (sound-take i xs a) g in
-      run-form j k (run p xs i j v) (run-residues i j v g)
-      ∙ ap (λ (u : List ℕ). doAll p (take k xs) (undoAll p (take j xs) u)) (run-form i j v g)
-      ∙ ap (doAll p (take k xs)) (undo-do p pr (take j xs) w (sound-take j xs a) gw)
-      ∙ sym (run-form i k v g)
+  pub run_compose : (i j k : ℕ) (v : List ℕ) → Residues p v → run p xs j k (run p xs i j v) ≡ run p xs i k v
+  run_compose i j k v g =
+      let w : List ℕ = undo_all p (take i xs) v in
+      let gw : Residues p w = residues_undo_all p pr (take i xs) v (sound_take i xs a) g in
+      run_form j k (run p xs i j v) (run_residues i j v g)
+      ∙ ap (λ (u : List ℕ). do_all p (take k xs) (undo_all p (take j xs) u)) (run_form i j v g)
+      ∙ ap (do_all p (take k xs)) (undo_do p pr (take j xs) w (sound_take j xs a) gw)
+      ∙ sym (run_form i k v g)
 
   -- end to end
-  pub run-forward : (v : List ℕ) → Residues p v → run p xs 0 (length xs) v ≡ doAll p xs v
-  unfolding undoAll
-  run-forward v g = run-form 0 (length xs) v g ∙ ap (λ (l : List Step). doAll p l v) (take-length xs)
+  pub run_forward : (v : List ℕ) → Residues p v → run p xs 0 (length xs) v ≡ do_all p xs v
+  unfolding undo_all
+  run_forward v g = run_form 0 (length xs) v g ∙ ap (λ (l : List Step). do_all p l v) (take-length xs)
 
-  pub run-backward : (v : List ℕ) → Residues p v → run p xs (length xs) 0 v ≡ undoAll p xs v
-  unfolding doAll
-  run-backward v g = run-form (length xs) 0 v g ∙ ap (λ (l : List Step). undoAll p l v) (take-length xs)
+  pub run_backward : (v : List ℕ) → Residues p v → run p xs (length xs) 0 v ≡ undo_all p xs v
+  unfolding do_all
+  run_backward v g = run_form (length xs) 0 v g ∙ ap (λ (l : List Step). undo_all p l v) (take-length xs)

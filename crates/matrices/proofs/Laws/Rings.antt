@@ -19,43 +19,43 @@ sum_left a b c = sym (+ℤ_assoc a b c) ∙ ap (λ x. x +ℤ c) (+ℤ_comm a b) 
 pub cancel_left : (a b : ℤ) → a +ℤ (neg_ℤ a +ℤ b) ≡ b
 cancel_left a b = sym (+ℤ_assoc a (neg_ℤ a) b) ∙ ap (λ x. x +ℤ b) (+ℤ_invr a) ∙ +ℤ_idl b
 
-pub cancel-opposite : (a b : ℤ) → neg_ℤ a +ℤ (a +ℤ b) ≡ b
-cancel-opposite a b = sym (+ℤ_assoc (neg_ℤ a) a b) ∙ ap (λ x. x +ℤ b) (+ℤ_invl a) ∙ +ℤ_idl b
+pub cancel_opposite : (a b : ℤ) → neg_ℤ a +ℤ (a +ℤ b) ≡ b
+cancel_opposite a b = sym (+ℤ_assoc (neg_ℤ a) a b) ∙ ap (λ x. x +ℤ b) (+ℤ_invl a) ∙ +ℤ_idl b
 
 -- a sum with its terms in one order and its brackets to the right
-pub ruleset sums = (+ℤ_assoc, +ℤ_comm, sum_left, +ℤ_idl, +ℤ_idr, +ℤ_invr, +ℤ_invl, cancel_left, cancel-opposite, neg_ℤ-+ℤ, neg_ℤ-neg_ℤ)
+pub ruleset sums = (+ℤ_assoc, +ℤ_comm, sum_left, +ℤ_idl, +ℤ_idr, +ℤ_invr, +ℤ_invl, cancel_left, cancel_opposite, neg_ℤ-+ℤ, neg_ℤ-neg_ℤ)
 
 -- ---- products
 
-pub one-times : (a : ℤ) → pos 1 *ℤ a ≡ a
-one-times a = suc_ℤ-*ℤ (pos 0) a ∙ simp (zero-*ℤ, +ℤ_idl)
+pub one_times : (a : ℤ) → pos 1 *ℤ a ≡ a
+one_times a = suc_ℤ-*ℤ (pos 0) a ∙ simp (zero-*ℤ, +ℤ_idl)
 
-pub sum-times : (a b c : ℤ) → (a +ℤ b) *ℤ c ≡ a *ℤ c +ℤ b *ℤ c
-sum-times a b c =
+pub sum_times : (a b c : ℤ) → (a +ℤ b) *ℤ c ≡ a *ℤ c +ℤ b *ℤ c
+sum_times a b c =
     every (λ x. (x +ℤ b) *ℤ c ≡ x *ℤ c +ℤ b *ℤ c)
     (simp (+ℤ_idl, zero-*ℤ))
     (λ k h. simp (suc_ℤ-+ℤ, suc_ℤ-*ℤ, h) (simp sums))
     (λ k h. simp (pred_ℤ-+ℤ, pred_ℤ-*ℤ, h) (simp sums)) a
 
-pub opposite-times : (a b : ℤ) → neg_ℤ a *ℤ b ≡ neg_ℤ (a *ℤ b)
-opposite-times a b =
+pub opposite_times : (a b : ℤ) → neg_ℤ a *ℤ b ≡ neg_ℤ (a *ℤ b)
+opposite_times a b =
     every (λ x. neg_ℤ x *ℤ b ≡ neg_ℤ (x *ℤ b))
     (simp zero-*ℤ)
     (λ k h. simp (neg_ℤ-suc_ℤ, suc_ℤ-*ℤ, pred_ℤ-*ℤ, h, sums))
     (λ k h. simp (neg_ℤ-pred_ℤ, suc_ℤ-*ℤ, pred_ℤ-*ℤ, h, sums)) a
 
-pub times-sum : (a b c : ℤ) → a *ℤ (b +ℤ c) ≡ a *ℤ b +ℤ a *ℤ c
-times-sum a b c = *ℤ_comm a (b +ℤ c) ∙ sum-times b c a ∙ rw (*ℤ_comm b a, *ℤ_comm c a)
+pub times_sum : (a b c : ℤ) → a *ℤ (b +ℤ c) ≡ a *ℤ b +ℤ a *ℤ c
+times_sum a b c = *ℤ_comm a (b +ℤ c) ∙ sum_times b c a ∙ rw (*ℤ_comm b a, *ℤ_comm c a)
 
-pub times-opposite : (a b : ℤ) → a *ℤ neg_ℤ b ≡ neg_ℤ (a *ℤ b)
-times-opposite a b = *ℤ_comm a (neg_ℤ b) ∙ opposite-times b a ∙ ap neg_ℤ (*ℤ_comm b a)
+pub times_opposite : (a b : ℤ) → a *ℤ neg_ℤ b ≡ neg_ℤ (a *ℤ b)
+times_opposite a b = *ℤ_comm a (neg_ℤ b) ∙ opposite_times b a ∙ ap neg_ℤ (*ℤ_comm b a)
 
-times-assoc : (a b c : ℤ) → (a *ℤ b) *ℤ c ≡ a *ℤ (b *ℤ c)
-times-assoc a b c =
+times_assoc : (a b c : ℤ) → (a *ℤ b) *ℤ c ≡ a *ℤ (b *ℤ c)
+times_assoc a b c =
     every (λ x. (x *ℤ b) *ℤ c ≡ x *ℤ (b *ℤ c))
     (simp zero-*ℤ)
-    (λ k h. simp (suc_ℤ-*ℤ, sum-times, h))
-    (λ k h. simp (pred_ℤ-*ℤ, sum-times, opposite-times, h)) a
+    (λ k h. simp (suc_ℤ-*ℤ, sum_times, h))
+    (λ k h. simp (pred_ℤ-*ℤ, sum_times, opposite_times, h)) a
 
-pub times-left : (a b c : ℤ) → a *ℤ (b *ℤ c) ≡ b *ℤ (a *ℤ c)
-times-left a b c = sym (times-assoc a b c) ∙ ap (λ x. x *ℤ c) (*ℤ_comm a b) ∙ times-assoc b a c
+pub times_left : (a b c : ℤ) → a *ℤ (b *ℤ c) ≡ b *ℤ (a *ℤ c)
+times_left a b c = sym (times_assoc a b c) ∙ ap (λ x. x *ℤ c) (*ℤ_comm a b) ∙ times_assoc b a c

@@ -1,7 +1,7 @@
 -- `two` meets its contract: a line of three words, the numbers of at most 10 digits each.
 use mathlib.Core.Path.{refl}
 use native.Mathlib.Omega.{arith}
-use Rattle.tool.proofs.Laws.Parts.{two-put, two-short}
+use Rattle.tool.proofs.Laws.Parts.{two_put, two_short}
 use borrow.Author.Rules.{rules}
 use Rattle.meanings.proofs.two.Statement.{statement}
 use Rattle.meanings.proofs.two.Tie as tie
@@ -14,8 +14,8 @@ returns c =
     let n = start.args.n in
     record {
       status = refl;
-      text = two-put name m n c.before.before.before.before.before.before.before.before.before.before.put_then.ensures c.before.before.before.before.before.before.put-number-then.ensures c.before.before.put-number-then2.ensures;
-      short = two-short name m n start.requires (omega (arith, start.ranges.m)) (omega (arith, start.ranges.n));
+      text = two_put name m n c.before.before.before.before.before.before.before.before.before.before.put_then.ensures c.before.before.before.before.before.before.put-number-then.ensures c.before.before.put-number-then2.ensures;
+      short = two_short name m n start.requires (omega (arith, start.ranges.m)) (omega (arith, start.ranges.n));
     }
 
 pub two-spec : {M : Type 1} → statement M

@@ -10,17 +10,17 @@ use lib.IntN.{ℤ, pos, neg_ℤ, ◌+ℤ◌}
 use lib.Signed.{lt_z}
 use borrow.Author.Tests.{ltb-true, le-ltb}
 use Rattle.modular.specs.Inverses.{Coprime, Inverse}
-use Rattle.modular.proofs.Laws.Euclid.{Bezout, up, down, Kept, kept-start, turn}
+use Rattle.modular.proofs.Laws.Euclid.{Bezout, up, down, Kept, kept_start, turn}
 
 -- a number up to m whose product with x leaves 1 is the inverse: neither 0 nor m leaves 1
-pub leaves-one-inverse : (m x u : ℕ) → u ≤ m → x * u % m ≡ 1 → Inverse m x u
-leaves-one-inverse m x u high one =
-    let some : ¬ (u ≡ 0) = λ e. zero-not-one (sym (ap (λ (n : ℕ). x * n % m) e ∙ ap (λ (n : ℕ). n % m) (mul-zero x) ∙ zero-mod m) ∙ one) in
-    let less : ¬ (u ≡ m) = λ e. zero-not-one (sym (ap (λ (n : ℕ). x * n % m) e ∙ mul-mod_left x m) ∙ one) in
+pub leaves_one_inverse : (m x u : ℕ) → u ≤ m → x * u % m ≡ 1 → Inverse m x u
+leaves_one_inverse m x u high one =
+    let some : ¬ (u ≡ 0) = λ e. zero_not_one (sym (ap (λ (n : ℕ). x * n % m) e ∙ ap (λ (n : ℕ). n % m) (mul-zero x) ∙ zero-mod m) ∙ one) in
+    let less : ¬ (u ≡ m) = λ e. zero_not_one (sym (ap (λ (n : ℕ). x * n % m) e ∙ mul-mod_left x m) ∙ one) in
     record { low = omega arith; high = omega arith; one = one }
   where
-    zero-not-one : ¬ (◌≡◌ {A = ℕ} 0 1)
-    zero-not-one e = omega arith
+    zero_not_one : ¬ (◌≡◌ {A = ℕ} 0 1)
+    zero_not_one e = omega arith
 
 -- the last coefficient, and how it gives the inverse
 pub data Last (x m : ℕ) (s : ℤ) : Type 0 where
@@ -43,14 +43,14 @@ last x m a b s t two ea eb k = go (subst₂ (λ (c d : ℕ). Bezout x m c d s t)
   where
     go : Bezout x m 1 0 s t → Last x m s
     go (up u v i j es et eu ev z) =
-        plus u es (leaves-one-inverse m x u (omega (arith, z.sum, z.order)) (one_left m i (x * u) two (omega arith)))
+        plus u es (leaves_one_inverse m x u (omega (arith, z.sum, z.order)) (one_left m i (x * u) two (omega arith)))
     go (down u v i j es et eu ev z) =
         let high : u ≤ m = omega (arith, z.sum, z.order) in
-        minus u es (leaves-one-inverse m x (m - u) (omega arith) (lifted x m u i two high eu))
+        minus u es (leaves_one_inverse m x (m - u) (omega arith) (lifted x m u i two high eu))
 
 -- the last remainder divides both, so it is 1 where they share no other factor
-pub coprime-last : (x m a b : ℕ) (s t : ℤ) → b ≡ 0 → Kept x m a b s t → Coprime x m → a ≡ 1
-coprime-last x m a b s t eb k c =
+pub coprime_last : (x m a b : ℕ) (s t : ℤ) → b ≡ 0 → Kept x m a b s t → Coprime x m → a ≡ 1
+coprime_last x m a b s t eb k c =
     let d : (a ∣ x) × (a ∣ m) = k.divisor a (dvd_refl a) (subst (λ (n : ℕ). a ∣ n) (sym eb) (dvd-zero a)) in
     c.only a d.0 d.1
 
@@ -60,18 +60,18 @@ pub record Whole (x m : ℕ) (z : ℤ) : Type 0 where
   pub is : z ≡ pos value
   pub inverse : Inverse m x value
 
-pub below-zero : (x m : ℕ) (s : ℤ) → Last x m s → lt_z s (pos 0) ≡ true → Whole x m (s +ℤ pos m)
-below-zero x m s (plus u es v) t =
+pub below_zero : (x m : ℕ) (s : ℤ) → Last x m s → lt_z s (pos 0) ≡ true → Whole x m (s +ℤ pos m)
+below_zero x m s (plus u es v) t =
     absurd (let h : u < 0 = ltb-true u 0 (subst (λ (z : ℤ). lt_z z (pos 0) ≡ true) es t) in omega arith)
-below-zero x m s (minus u es v) t = record { value = m - u; is = ap (λ (z : ℤ). z +ℤ pos m) es ∙ sum u v.low v.high; inverse = v }
+below_zero x m s (minus u es v) t = record { value = m - u; is = ap (λ (z : ℤ). z +ℤ pos m) es ∙ sum u v.low v.high; inverse = v }
   where
     sum : (u : ℕ) → 1 ≤ m - u → m - u < m → neg_ℤ (pos u) +ℤ pos m ≡ pos (m - u)
     sum zero low high = absurd (omega arith)
     sum (suc n) low high = rw (le-ltb m (suc n) (omega arith))
 
-pub not-below : (x m : ℕ) (s : ℤ) → Last x m s → lt_z s (pos 0) ≡ false → Whole x m s
-not-below x m s (plus u es v) t = record { value = u; is = es; inverse = v }
-not-below x m s (minus u es v) t = absurd (positive u v.high (subst (λ (z : ℤ). lt_z z (pos 0) ≡ false) es t))
+pub not_below : (x m : ℕ) (s : ℤ) → Last x m s → lt_z s (pos 0) ≡ false → Whole x m s
+not_below x m s (plus u es v) t = record { value = u; is = es; inverse = v }
+not_below x m s (minus u es v) t = absurd (positive u v.high (subst (λ (z : ℤ). lt_z z (pos 0) ≡ false) es t))
   where
     positive : (u : ℕ) → m - u < m → ¬ (lt_z (neg_ℤ (pos u)) (pos 0) ≡ false)
     positive zero high e = omega arith
@@ -82,15 +82,15 @@ run : (fuel x m a b : ℕ) (s t : ℤ) → b < fuel → 2 ≤ m → Coprime x m 
 run zero x m a b s t enough two c k = absurd (omega arith)
 run (suc fuel) x m a b s t enough two c k =
     elim (ℕ_discrete b 0) [
-      | yes e ↦ (s, last x m a b s t two (coprime-last x m a b s t e k c) e k)
+      | yes e ↦ (s, last x m a b s t two (coprime_last x m a b s t e k c) e k)
       | no e ↦
           let some : 0 < b = omega arith in
           run fuel x m b (a % b) t _ (omega (arith, mod-lt a some)) two c (turn x m a b s t some k).next
     ]
 
-pub coprime-inverse : (x m : ℕ) → 2 ≤ m → Coprime x m → (y : ℕ) × Inverse m x y
-coprime-inverse x m two c =
-    go (run (suc (x % m)) x m m (x % m) (pos 0) (pos 1) (omega arith) two c (kept-start x m (omega arith)))
+pub coprime_inverse : (x m : ℕ) → 2 ≤ m → Coprime x m → (y : ℕ) × Inverse m x y
+coprime_inverse x m two c =
+    go (run (suc (x % m)) x m m (x % m) (pos 0) (pos 1) (omega arith) two c (kept_start x m (omega arith)))
   where
     go : (z : ℤ) × Last x m z → (y : ℕ) × Inverse m x y
     go (z, plus u es v) = (u, v)

@@ -24,8 +24,8 @@ pub record Kept (x m a b : ℕ) (s t : ℤ) : Type 0 where
   pub divisor : (d : ℕ) → d ∣ a → d ∣ b → (d ∣ x) × (d ∣ m)
   pub bezout : Bezout x m a b s t
 
-pub kept-start : (x m : ℕ) → 0 < m → Kept x m m (x % m) (pos 0) (pos 1)
-kept-start x m some =
+pub kept_start : (x m : ℕ) → 0 < m → Kept x m m (x % m) (pos 0) (pos 1)
+kept_start x m some =
     record {
       less = mod-lt x some;
       bound = omega arith;
@@ -41,24 +41,24 @@ sizes_step m a b q c u v whole some z =
       order = omega (arith, mul-le-mul_right {m = 1} {n = q} v some);
     }
 
-size-bound : (m a b u v : ℕ) → 0 < a → Sizes m a b u v → v ≤ m
-size-bound m a b u v some z = omega (arith, z.sum, mul-le-mul_left {m = 1} {n = a} v some)
+size_bound : (m a b u v : ℕ) → 0 < a → Sizes m a b u v → v ≤ m
+size_bound m a b u v some z = omega (arith, z.sum, mul-le-mul_left {m = 1} {n = a} v some)
 
 -- the products with x after a turn
-to-down : (x m a b q c u v i j : ℕ) → q * b + c ≡ a → u * x ≡ a + i * m → v * x + b ≡ j * m → (u + q * v) * x ≡ c + (i + q * j) * m
-to-down x m a b q c u v i j whole eu ev = omega (arith, ap (λ (n : ℕ). q * n) ev)
+to_down : (x m a b q c u v i j : ℕ) → q * b + c ≡ a → u * x ≡ a + i * m → v * x + b ≡ j * m → (u + q * v) * x ≡ c + (i + q * j) * m
+to_down x m a b q c u v i j whole eu ev = omega (arith, ap (λ (n : ℕ). q * n) ev)
 
-to-up : (x m a b q c u v i j : ℕ) → q * b + c ≡ a → u * x + a ≡ i * m → v * x ≡ b + j * m → (u + q * v) * x + c ≡ (i + q * j) * m
-to-up x m a b q c u v i j whole eu ev = omega (arith, ap (λ (n : ℕ). q * n) ev)
+to_up : (x m a b q c u v i j : ℕ) → q * b + c ≡ a → u * x + a ≡ i * m → v * x ≡ b + j * m → (u + q * v) * x + c ≡ (i + q * j) * m
+to_up x m a b q c u v i j whole eu ev = omega (arith, ap (λ (n : ℕ). q * n) ev)
 
 -- signs
-mul-neg : (q v : ℕ) → pos q *ℤ neg_ℤ (pos v) ≡ neg_ℤ (pos (q * v))
-mul-neg q zero = rw mul-zero
-mul-neg q (suc n) = refl
+mul_neg : (q v : ℕ) → pos q *ℤ neg_ℤ (pos v) ≡ neg_ℤ (pos (q * v))
+mul_neg q zero = rw mul-zero
+mul_neg q (suc n) = refl
 
-mag-neg : (n : ℕ) → mag (neg_ℤ (pos n)) ≤ n
-mag-neg zero = omega arith
-mag-neg (suc n) = omega arith
+mag_neg : (n : ℕ) → mag (neg_ℤ (pos n)) ≤ n
+mag_neg zero = omega arith
+mag_neg (suc n) = omega arith
 
 -- a turn: its product and its difference are no larger than m, and what it keeps
 pub record Turn (x m a b : ℕ) (s t : ℤ) : Type 0 where
@@ -82,29 +82,29 @@ module _ (x m a b : ℕ) (s t : ℤ) (some : 0 < b) (k : Kept x m a b s t) where
       whole : a / b * b + a % b ≡ a
       whole = div-add-mod' a b
 
-      q-some : 1 ≤ a / b
-      q-some = (le-div_iff_mul-le {k = b} some).1 (omega (arith, k.less))
+      q_some : 1 ≤ a / b
+      q_some = (le-div_iff_mul-le {k = b} some).1 (omega (arith, k.less))
 
       go : Bezout x m a b s t → Turn x m a b s t
       go (up u v i j es et eu ev z) =
           let q : ℕ = a / b in
-          let n : Sizes m b (a % b) v (u + q * v) = sizes_step m a b q (a % b) u v whole q-some z in
-          let size : u + q * v ≤ m = size-bound m b (a % b) v (u + q * v) some n in
-          let pt : pos q *ℤ t ≡ neg_ℤ (pos (q * v)) = ap (λ (y : ℤ). pos q *ℤ y) et ∙ mul-neg q v in
+          let n : Sizes m b (a % b) v (u + q * v) = sizes_step m a b q (a % b) u v whole q_some z in
+          let size : u + q * v ≤ m = size_bound m b (a % b) v (u + q * v) some n in
+          let pt : pos q *ℤ t ≡ neg_ℤ (pos (q * v)) = ap (λ (y : ℤ). pos q *ℤ y) et ∙ mul_neg q v in
           let dt : s -ℤ pos q *ℤ t ≡ pos (u + q * v) = ap₂ ◌-ℤ◌ es pt ∙ rw neg_ℤ-neg_ℤ in
           record {
-            product = rw pt (omega (arith, mag-neg (q * v)));
+            product = rw pt (omega (arith, mag_neg (q * v)));
             difference = rw dt size;
-            next = kept_next (down v (u + q * v) j (i + q * j) et dt ev (to-down x m a b q (a % b) u v i j whole eu ev) n);
+            next = kept_next (down v (u + q * v) j (i + q * j) et dt ev (to_down x m a b q (a % b) u v i j whole eu ev) n);
           }
       go (down u v i j es et eu ev z) =
           let q : ℕ = a / b in
-          let n : Sizes m b (a % b) v (u + q * v) = sizes_step m a b q (a % b) u v whole q-some z in
-          let size : u + q * v ≤ m = size-bound m b (a % b) v (u + q * v) some n in
+          let n : Sizes m b (a % b) v (u + q * v) = sizes_step m a b q (a % b) u v whole q_some z in
+          let size : u + q * v ≤ m = size_bound m b (a % b) v (u + q * v) some n in
           let pt : pos q *ℤ t ≡ pos (q * v) = ap (λ (y : ℤ). pos q *ℤ y) et in
           let dt : s -ℤ pos q *ℤ t ≡ neg_ℤ (pos (u + q * v)) = ap₂ ◌-ℤ◌ es pt ∙ sym (neg_ℤ-+ℤ (pos u) (pos (q * v))) in
           record {
             product = rw pt (omega arith);
-            difference = rw dt (omega (arith, mag-neg (u + q * v)));
-            next = kept_next (up v (u + q * v) j (i + q * j) et dt ev (to-up x m a b q (a % b) u v i j whole eu ev) n);
+            difference = rw dt (omega (arith, mag_neg (u + q * v)));
+            next = kept_next (up v (u + q * v) j (i + q * j) et dt ev (to_up x m a b q (a % b) u v i j whole eu ev) n);
           }

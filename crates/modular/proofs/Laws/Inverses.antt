@@ -9,15 +9,15 @@ use native.Mathlib.Omega.{arith}
 use lib.Dec.{leb, ltb, eqb}
 use borrow.Author.Tests.{eqb-true, eqb-false, eq-eqb, ne_eqb, leb-false, lt-leb, ltb-false, le-ltb}
 use Rattle.divisors.specs.Search.{divides}
-use Rattle.modular.specs.Inverses.{Coprime, gcd, Inverse, inverse, badExponent}
-use Rattle.refusal.proofs.Laws.Tests.{test-true, both, neither}
-use Rattle.divisors.proofs.Laws.Search.{greatest-at-most, greatest-passes, greatest-most, greatest-is}
+use Rattle.modular.specs.Inverses.{Coprime, gcd, Inverse, inverse, bad_exponent}
+use Rattle.refusal.proofs.Laws.Tests.{test_true, both, neither}
+use Rattle.divisors.proofs.Laws.Search.{greatest_at_most, greatest_passes, greatest_most, greatest_is}
 use Rattle.modular.proofs.Laws.Residues.{mul_mod_left, mul_mod_right}
-use Rattle.modular.proofs.Laws.Ends.{coprime-inverse}
+use Rattle.modular.proofs.Laws.Ends.{coprime_inverse}
 
 -- y and z are each x * y * z modulo m
-pub inverse-unique : {m x y z : ℕ} → Inverse m x y → Inverse m x z → y ≡ z
-inverse-unique {m} {x} {y} {z} v w =
+pub inverse_unique : {m x y z : ℕ} → Inverse m x y → Inverse m x z → y ≡ z
+inverse_unique {m} {x} {y} {z} v w =
     sym (mod-eq_of_lt v.high)
     ∙ ap (λ (n : ℕ). n % m) (sym (mul-one y))
     ∙ sym (ap (λ (n : ℕ). y * n % m) w.one)
@@ -28,69 +28,69 @@ inverse-unique {m} {x} {y} {z} v w =
     ∙ ap (λ (n : ℕ). n % m) (one-mul z)
     ∙ mod-eq_of_lt w.high
 
-pub inverse-is : (m x y : ℕ) → Inverse m x y → inverse m x ≡ y
+pub inverse_is : (m x y : ℕ) → Inverse m x y → inverse m x ≡ y
 unfolding inverse
-inverse-is m x y v =
-    greatest-is (λ (z : ℕ). eqb (x * z % m) 1) (m - 1) y v.low (omega (arith, v.high)) (eq-eqb (x * y % m) 1 v.one)
-    (λ z above high e. omega (arith, inverse-unique v (other z above high e)))
+inverse_is m x y v =
+    greatest_is (λ (z : ℕ). eqb (x * z % m) 1) (m - 1) y v.low (omega (arith, v.high)) (eq-eqb (x * y % m) 1 v.one)
+    (λ z above high e. omega (arith, inverse_unique v (other z above high e)))
   where
     other : (z : ℕ) → y < z → z ≤ m - 1 → eqb (x * z % m) 1 ≡ true → Inverse m x z
     other z above high e = record { low = omega arith; high = omega (arith, v.high); one = eqb-true (x * z % m) 1 e }
 
-pub inverse-most : (m x : ℕ) → inverse m x ≤ m - 1
+pub inverse_most : (m x : ℕ) → inverse m x ≤ m - 1
 unfolding inverse
-inverse-most m x = greatest-at-most (λ (y : ℕ). eqb (x * y % m) 1) (m - 1)
+inverse_most m x = greatest_at_most (λ (y : ℕ). eqb (x * y % m) 1) (m - 1)
 
 -- what the search finds is an inverse
-pub inverse-found : (m x : ℕ) → 1 ≤ inverse m x → Inverse m x (inverse m x)
+pub inverse_found : (m x : ℕ) → 1 ≤ inverse m x → Inverse m x (inverse m x)
 unfolding inverse
-inverse-found m x some =
+inverse_found m x some =
     record {
       low = some;
-      high = omega (arith, inverse-most m x);
-      one = eqb-true (x * inverse m x % m) 1 (greatest-passes (λ (y : ℕ). eqb (x * y % m) 1) (m - 1) some);
+      high = omega (arith, inverse_most m x);
+      one = eqb-true (x * inverse m x % m) 1 (greatest_passes (λ (y : ℕ). eqb (x * y % m) 1) (m - 1) some);
     }
 
-pub inverse-coprime : {m x y : ℕ} → Inverse m x y → Coprime x m
-inverse-coprime {m} {x} {y} v =
+pub inverse_coprime : {m x y : ℕ} → Inverse m x y → Coprime x m
+inverse_coprime {m} {x} {y} v =
     record { only = λ d dx dm. eq-one_of_dvd-one (subst (λ (n : ℕ). d ∣ n) v.one ((dvd-mod_iff d dm).1 (dvd-mul_right_of_dvd d dx y))) }
 
-pub inverse-exists : (m x : ℕ) → 2 ≤ m → Coprime x m → Inverse m x (inverse m x)
-inverse-exists m x two c = let e = coprime-inverse x m two c in rw (inverse-is m x e.0 e.1) e.1
+pub inverse_exists : (m x : ℕ) → 2 ≤ m → Coprime x m → Inverse m x (inverse m x)
+inverse_exists m x two c = let e = coprime_inverse x m two c in rw (inverse_is m x e.0 e.1) e.1
 
-pub inverse-none : (m x : ℕ) → ¬ (Coprime x m) → inverse m x ≡ 0
-inverse-none m x shared =
-    ⊎_elim (λ e. e) (λ some. absurd (shared (inverse-coprime (inverse-found m x some)))) (eq-zero-or-pos (inverse m x))
+pub inverse_none : (m x : ℕ) → ¬ (Coprime x m) → inverse m x ≡ 0
+inverse_none m x shared =
+    ⊎_elim (λ e. e) (λ some. absurd (shared (inverse_coprime (inverse_found m x some)))) (eq-zero-or-pos (inverse m x))
 
 -- modulo 0 and 1 there is none
-pub inverse-small : (m x : ℕ) → m < 2 → inverse m x ≡ 0
-inverse-small m x small = omega (arith, inverse-most m x)
+pub inverse_small : (m x : ℕ) → m < 2 → inverse m x ≡ 0
+inverse_small m x small = omega (arith, inverse_most m x)
 
 -- nor is there one of 0
-pub inverse-zero : (m : ℕ) → inverse m 0 ≡ 0
-inverse-zero m =
+pub inverse_zero : (m : ℕ) → inverse m 0 ≡ 0
+inverse_zero m =
     ⊎_elim
     (λ e. e)
-    (λ some. absurd (omega (arith, (inverse-found m 0 some).one, ap (λ (n : ℕ). n % m) (zero-mul (inverse m 0)), zero-mod m)))
+    (λ some. absurd (omega (arith, (inverse_found m 0 some).one, ap (λ (n : ℕ). n % m) (zero-mul (inverse m 0)), zero-mod m)))
     (eq-zero-or-pos (inverse m 0))
 
 -- a common divisor is at most the greatest
-common-divisor : (a b d : ℕ) → 1 ≤ a → d ∣ a → d ∣ b → (1 ≤ d) × (d ≤ gcd a b)
+common_divisor : (a b d : ℕ) → 1 ≤ a → d ∣ a → d ∣ b → (1 ≤ d) × (d ≤ gcd a b)
 unfolding gcd
-common-divisor a b d some da db =
+common_divisor a b d some da db =
     let low : 1 ≤ d = pos_of_dvd_of_pos da some in (
       low,
-      greatest-most (λ (e : ℕ). divides e a && divides e b) a d low (le_of_dvd some da)
+      greatest_most (λ (e : ℕ). divides e a && divides e b) a d low (le_of_dvd some da)
           (ap₂ ◌&&◌ (eq-eqb (a % d) 0 (mod-eq-zero_of_dvd d da)) (eq-eqb (b % d) 0 (mod-eq-zero_of_dvd d db))),
     )
 
-pub gcd-coprime : (a b : ℕ) → 1 ≤ a → gcd a b ≡ 1 → Coprime a b
-gcd-coprime a b some one = record { only = λ d da db. omega (arith, common-divisor a b d some da db) }
+pub gcd_coprime : (a b : ℕ) → 1 ≤ a → gcd a b ≡ 1 → Coprime a b
+gcd_coprime a b some one = record { only = λ d da db. omega (arith, common_divisor a b d some da db) }
 
-pub coprime-gcd : (a b : ℕ) → 1 ≤ a → Coprime a b → gcd a b ≡ 1
+pub coprime_gcd : (a b : ℕ) → 1 ≤ a → Coprime a b → gcd a b ≡ 1
 unfolding gcd
-coprime-gcd a b some c =
-    greatest-is (λ (d : ℕ). divides d a && divides d b) a 1 (omega arith) some
+coprime_gcd a b some c =
+    greatest_is (λ (d : ℕ). divides d a && divides d b) a 1 (omega arith) some
     (ap₂ ◌&&◌ (eq-eqb (a % 1) 0 (mod-one a)) (eq-eqb (b % 1) 0 (mod-one b)))
     (λ d above high e. omega (arith, one d (both _ _ e)))
   where
@@ -103,24 +103,24 @@ pub record GoodExponent (k r : ℕ) : Type 0 where
   pub high : k < r
   pub coprime : Coprime k r
 
-pub good-exponent : (k r : ℕ) → badExponent k r ≡ false → GoodExponent k r
-unfolding badExponent
-good-exponent k r e =
+pub good_exponent_lem : (k r : ℕ) → bad_exponent k r ≡ false → GoodExponent k r
+unfolding bad_exponent
+good_exponent_lem k r e =
     let h : (eqb k 0 || leb r k ≡ false) × (ltb 1 (gcd k r) ≡ false) = neither _ _ e in
     let g : (eqb k 0 ≡ false) × (leb r k ≡ false) = neither _ _ h.0 in
     let some : ¬ (k ≡ 0) = eqb-false k 0 g.0 in
     let low : 1 ≤ k = omega arith in
-    let one : gcd k r ≡ 1 = omega (arith, ltb-false 1 (gcd k r) h.1, common-divisor k r 1 low (one-dvd k) (one-dvd r)) in
-    record { low = low; high = leb-false r k g.1; coprime = gcd-coprime k r low one }
+    let one : gcd k r ≡ 1 = omega (arith, ltb-false 1 (gcd k r) h.1, common_divisor k r 1 low (one-dvd k) (one-dvd r)) in
+    record { low = low; high = leb-false r k g.1; coprime = gcd_coprime k r low one }
 
-pub exponent-good : {k r : ℕ} → GoodExponent k r → badExponent k r ≡ false
-unfolding badExponent
-exponent-good {k} {r} g =
-    rw (ne_eqb k 0 (omega (arith, g.low)), lt-leb r k g.high, le-ltb 1 (gcd k r) (omega (arith, coprime-gcd k r g.low g.coprime)))
+pub exponent_good : {k r : ℕ} → GoodExponent k r → bad_exponent k r ≡ false
+unfolding bad_exponent
+exponent_good {k} {r} g =
+    rw (ne_eqb k 0 (omega (arith, g.low)), lt-leb r k g.high, le-ltb 1 (gcd k r) (omega (arith, coprime_gcd k r g.low g.coprime)))
 
-pub bad-exponent : (k r : ℕ) → ¬ (GoodExponent k r) → badExponent k r ≡ true
-bad-exponent k r bad = test-true (badExponent k r) (λ e. bad (good-exponent k r e))
+pub bad_exponent_lem : (k r : ℕ) → ¬ (GoodExponent k r) → bad_exponent k r ≡ true
+bad_exponent_lem k r bad = test_true (bad_exponent k r) (λ e. bad (good_exponent_lem k r e))
 
-module _ (k r : ℕ) (good : badExponent k r ≡ false) where
-  pub inverse-order : Inverse r k (inverse r k)
-  inverse-order = let g = good-exponent k r good in inverse-exists r k (omega (arith, g.low, g.high)) g.coprime
+module _ (k r : ℕ) (good : bad_exponent k r ≡ false) where
+  pub inverse_order : Inverse r k (inverse r k)
+  inverse_order = let g = good_exponent_lem k r good in inverse_exists r k (omega (arith, g.low, g.high)) g.coprime

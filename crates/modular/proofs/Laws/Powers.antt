@@ -6,48 +6,48 @@ use lib.Pow.{pow-add}
 use Rattle.modular.specs.Primes.{Prime}
 use Rattle.modular.specs.Residues.{Residue, times}
 use Rattle.modular.proofs.Laws.Residues.{mul_mod_left, mul_mod_right}
-use Rattle.modular.proofs.Laws.Group.{times-prime, residue-one, residue-times}
+use Rattle.modular.proofs.Laws.Group.{times_prime, residue_one, residue_times}
 
 -- a product of powers, its factors reduced
 reduced : (p a m n : ℕ) → (a ^ m % p) * (a ^ n % p) % p ≡ a ^ (m + n) % p
 reduced p a m n =
     mul_mod_left (a ^ m) (a ^ n % p) p ∙ mul_mod_right (a ^ m) (a ^ n) p ∙ ap (λ (x : ℕ). x % p) (sym (pow-add a m n))
 
-pub pow-mul : (a m n : ℕ) → (a ^ m) ^ n ≡ a ^ (m * n)
-pow-mul a m zero = pow-zero (a ^ m) ∙ sym (ap (λ (x : ℕ). a ^ x) (mul-zero m) ∙ pow-zero a)
-pow-mul a m (suc n) =
+pub pow_mul : (a m n : ℕ) → (a ^ m) ^ n ≡ a ^ (m * n)
+pow_mul a m zero = pow-zero (a ^ m) ∙ sym (ap (λ (x : ℕ). a ^ x) (mul-zero m) ∙ pow-zero a)
+pow_mul a m (suc n) =
     pow-suc (a ^ m) n
-    ∙ ap (λ (x : ℕ). x * a ^ m) (pow-mul a m n)
+    ∙ ap (λ (x : ℕ). x * a ^ m) (pow_mul a m n)
     ∙ sym (ap (λ (x : ℕ). a ^ x) (mul-suc m n) ∙ pow-add a (m * n) m)
 
-pub pow-mod : (p a n : ℕ) → (a % p) ^ n % p ≡ a ^ n % p
-pow-mod p a zero = ap (λ (x : ℕ). x % p) (pow-zero (a % p) ∙ sym (pow-zero a))
-pow-mod p a (suc n) =
+pub pow_mod : (p a n : ℕ) → (a % p) ^ n % p ≡ a ^ n % p
+pow_mod p a zero = ap (λ (x : ℕ). x % p) (pow-zero (a % p) ∙ sym (pow-zero a))
+pow_mod p a (suc n) =
     ap (λ (x : ℕ). x % p) (pow-suc (a % p) n)
     ∙ mul_mod_right ((a % p) ^ n) a p
     ∙ sym (mul_mod_left ((a % p) ^ n) a p)
-    ∙ ap (λ (x : ℕ). x * a % p) (pow-mod p a n)
+    ∙ ap (λ (x : ℕ). x * a % p) (pow_mod p a n)
     ∙ mul_mod_left (a ^ n) a p
     ∙ ap (λ (x : ℕ). x % p) (sym (pow-suc a n))
 
-pub pow-pow : (p a m n : ℕ) → (a ^ m % p) ^ n % p ≡ a ^ (m * n) % p
-pow-pow p a m n = pow-mod p (a ^ m) n ∙ ap (λ (x : ℕ). x % p) (pow-mul a m n)
+pub pow_pow : (p a m n : ℕ) → (a ^ m % p) ^ n % p ≡ a ^ (m * n) % p
+pow_pow p a m n = pow_mod p (a ^ m) n ∙ ap (λ (x : ℕ). x % p) (pow_mul a m n)
 
-pub one-pow : (n : ℕ) → 1 ^ n ≡ 1
-one-pow zero = pow-zero 1
-one-pow (suc n) = pow-suc 1 n ∙ mul-one (1 ^ n) ∙ one-pow n
+pub one_pow : (n : ℕ) → 1 ^ n ≡ 1
+one_pow zero = pow-zero 1
+one_pow (suc n) = pow-suc 1 n ∙ mul-one (1 ^ n) ∙ one_pow n
 
-pub pow-one : (a : ℕ) → a ^ 1 ≡ a
-pow-one a = pow-suc a 0 ∙ ap (λ (x : ℕ). x * a) (pow-zero a) ∙ one-mul a
+pub pow_one : (a : ℕ) → a ^ 1 ≡ a
+pow_one a = pow-suc a 0 ∙ ap (λ (x : ℕ). x * a) (pow-zero a) ∙ one-mul a
 
 -- where a ^ r leaves 1, the exponent may be reduced modulo r
-pub pow-order : (p a r n : ℕ) → a ^ r % p ≡ 1 → a ^ (n % r) % p ≡ a ^ n % p
-pow-order p a r n h =
+pub pow_order : (p a r n : ℕ) → a ^ r % p ≡ 1 → a ^ (n % r) % p ≡ a ^ n % p
+pow_order p a r n h =
     let one : a ^ (n / r * r) % p ≡ 1 =
     ap (λ (x : ℕ). a ^ x % p) (mul_comm (n / r) r)
-    ∙ sym (pow-pow p a r (n / r))
+    ∙ sym (pow_pow p a r (n / r))
     ∙ ap (λ (x : ℕ). x ^ (n / r) % p) h
-    ∙ ap (λ (x : ℕ). x % p) (one-pow (n / r))
+    ∙ ap (λ (x : ℕ). x % p) (one_pow (n / r))
     ∙ ap (λ (x : ℕ). x % p) (sym h)
     ∙ mod-mod (a ^ r) p
     ∙ h in
@@ -58,31 +58,31 @@ pow-order p a r n h =
     ∙ ap (λ (x : ℕ). x % p) (mul-one (a ^ (n % r) % p))
     ∙ mod-mod (a ^ (n % r)) p)
 
-pub pow-congruent : (p a r m n : ℕ) → a ^ r % p ≡ 1 → m % r ≡ n % r → a ^ m % p ≡ a ^ n % p
-pow-congruent p a r m n h e = sym (pow-order p a r m h) ∙ ap (λ (x : ℕ). a ^ x % p) e ∙ pow-order p a r n h
+pub pow_congruent : (p a r m n : ℕ) → a ^ r % p ≡ 1 → m % r ≡ n % r → a ^ m % p ≡ a ^ n % p
+pow_congruent p a r m n h e = sym (pow_order p a r m h) ∙ ap (λ (x : ℕ). a ^ x % p) e ∙ pow_order p a r n h
 
 module _ (p : ℕ) (pr : Prime p) where
   pub power_zero : (a : ℕ) → a ^ 0 % p ≡ 1
   power_zero a = ap (λ (x : ℕ). x % p) (pow-zero a) ∙ mod-eq_of_lt pr.least
 
-  pub power-one : (a : ℕ) → Residue p a → a ^ 1 % p ≡ a
-  power-one a ra = ap (λ (x : ℕ). x % p) (pow-one a) ∙ mod-eq_of_lt ra.high
+  pub power_one : (a : ℕ) → Residue p a → a ^ 1 % p ≡ a
+  power_one a ra = ap (λ (x : ℕ). x % p) (pow_one a) ∙ mod-eq_of_lt ra.high
 
   -- a power of a base whose r-th power is 1 is another
-  pub order-power : (a r k : ℕ) → a ^ r % p ≡ 1 → (a ^ k % p) ^ r % p ≡ 1
-  order-power a r k ord =
-      pow-pow p a k r
+  pub order_power : (a r k : ℕ) → a ^ r % p ≡ 1 → (a ^ k % p) ^ r % p ≡ 1
+  order_power a r k ord =
+      pow_pow p a k r
       ∙ ap (λ (x : ℕ). a ^ x % p) (mul_comm k r)
-      ∙ sym (pow-pow p a r k)
+      ∙ sym (pow_pow p a r k)
       ∙ ap (λ (x : ℕ). x ^ k % p) ord
-      ∙ ap (λ (x : ℕ). x % p) (one-pow k)
+      ∙ ap (λ (x : ℕ). x % p) (one_pow k)
       ∙ mod-eq_of_lt pr.least
 
-  pub times-pow : (a m n : ℕ) → times p (a ^ m % p) (a ^ n % p) ≡ a ^ (m + n) % p
-  times-pow a m n = times-prime p pr (a ^ m % p) (a ^ n % p) ∙ reduced p a m n
+  pub times_pow : (a m n : ℕ) → times p (a ^ m % p) (a ^ n % p) ≡ a ^ (m + n) % p
+  times_pow a m n = times_prime p pr (a ^ m % p) (a ^ n % p) ∙ reduced p a m n
 
-  pub residue-pow : (a n : ℕ) → Residue p a → Residue p (a ^ n % p)
-  residue-pow a zero ra = rw (pow-zero a, mod-eq_of_lt pr.least) (residue-one p pr)
-  residue-pow a (suc n) ra =
-      subst (Residue p) (times-prime p pr (a ^ n % p) a ∙ mul_mod_left (a ^ n) a p ∙ ap (λ (x : ℕ). x % p) (sym (pow-suc a n)))
-      (residue-times p pr (a ^ n % p) a (residue-pow a n ra) ra)
+  pub residue_pow : (a n : ℕ) → Residue p a → Residue p (a ^ n % p)
+  residue_pow a zero ra = rw (pow-zero a, mod-eq_of_lt pr.least) (residue_one p pr)
+  residue_pow a (suc n) ra =
+      subst (Residue p) (times_prime p pr (a ^ n % p) a ∙ mul_mod_left (a ^ n) a p ∙ ap (λ (x : ℕ). x % p) (sym (pow-suc a n)))
+      (residue_times p pr (a ^ n % p) a (residue_pow a n ra) ra)

@@ -25,34 +25,34 @@ unscaled r k K m n inv e =
     ∙ ap (λ (x : ℕ). x * n % r) inv
     ∙ ap (λ (x : ℕ). x % r) (one-mul n)
 
-pub remainder-zero : (n m : ℕ) → m ≡ 0 → remainder n m ≡ 0
+pub remainder_zero : (n m : ℕ) → m ≡ 0 → remainder n m ≡ 0
 unfolding remainder
-remainder-zero n zero e = refl
-remainder-zero n (suc m) e = absurd (omega arith)
+remainder_zero n zero e = refl
+remainder_zero n (suc m) e = absurd (omega arith)
 
 pub remainder_is : (n m : ℕ) → 0 < m → remainder n m ≡ n % m
 unfolding remainder
 remainder_is n zero some = absurd (omega arith)
 remainder_is n (suc m) some = refl
 
-pub times-is : (p x y : ℕ) → 0 < p → times p x y ≡ x * y % p
+pub times_is : (p x y : ℕ) → 0 < p → times p x y ≡ x * y % p
 unfolding times
-times-is p x y some = remainder_is (x * y) p some
+times_is p x y some = remainder_is (x * y) p some
 
-pub times-comm : (p x y : ℕ) → times p x y ≡ times p y x
+pub times_comm : (p x y : ℕ) → times p x y ≡ times p y x
 unfolding times
-times-comm p x y = ap (λ (n : ℕ). remainder n p) (mul_comm x y)
+times_comm p x y = ap (λ (n : ℕ). remainder n p) (mul_comm x y)
 
-pub times-assoc : (p x y z : ℕ) → times p (times p x y) z ≡ times p x (times p y z)
+pub times_assoc : (p x y z : ℕ) → times p (times p x y) z ≡ times p x (times p y z)
 unfolding times remainder
-times-assoc zero x y z = refl
-times-assoc (suc p) x y z =
+times_assoc zero x y z = refl
+times_assoc (suc p) x y z =
     mul_mod_left (x * y) z (suc p) ∙ ap (λ (n : ℕ). n % suc p) (mul_assoc x y z) ∙ sym (mul_mod_right x (y * z) (suc p))
 
-pub times-one : (p x : ℕ) → Residue p x → times p x 1 ≡ x
-times-one p x r = times-is p x 1 (omega (arith, r.high)) ∙ ap (λ (n : ℕ). n % p) (mul-one x) ∙ mod-eq_of_lt r.high
+pub times_one : (p x : ℕ) → Residue p x → times p x 1 ≡ x
+times_one p x r = times_is p x 1 (omega (arith, r.high)) ∙ ap (λ (n : ℕ). n % p) (mul-one x) ∙ mod-eq_of_lt r.high
 
-pub zero-times : (p x : ℕ) → times p 0 x ≡ 0
+pub zero_times : (p x : ℕ) → times p 0 x ≡ 0
 unfolding times remainder
-zero-times zero x = refl
-zero-times (suc p) x = ap (λ (n : ℕ). n % suc p) (zero-mul x) ∙ zero-mod (suc p)
+zero_times zero x = refl
+zero_times (suc p) x = ap (λ (n : ℕ). n % suc p) (zero-mul x) ∙ zero-mod (suc p)

@@ -4,32 +4,32 @@ use mathlib.Core.Path.{sym, ap, ◌∙◌}
 use native.Mathlib.Omega.{arith}
 use borrow.Author.Rules.{rules}
 use Rattle.refusal.specs.Outcomes.{answered}
-use Rattle.modular.proofs.Laws.Inverses.{inverse-found, inverse-exists, inverse-coprime, exponent-good, bad-exponent}
-use Rattle.modular.proofs.Laws.Service.{order-refused, exponent-refused, inverse-answered}
+use Rattle.modular.proofs.Laws.Inverses.{inverse_found, inverse_exists, inverse_coprime, exponent_good, bad_exponent_lem}
+use Rattle.modular.proofs.Laws.Service.{order_refused, exponent_refused, inverse_answered}
 use Rattle.modular.proofs.inverse.Statement.{statement}
 use Rattle.modular.proofs.inverse.Tie as tie
 
 returns : tie.Need-returns
-returns c = sym (order-refused _ _ (omega arith))
+returns c = sym (order_refused _ _ (omega arith))
 
 returns-2 : tie.Need-returns-2
-returns-2 c = sym (exponent-refused _ _ (omega arith) (bad-exponent _ _ (λ g. omega (arith, g.low))))
+returns-2 c = sym (exponent_refused _ _ (omega arith) (bad_exponent_lem _ _ (λ g. omega (arith, g.low))))
 
 returns-3 : tie.Need-returns-3
-returns-3 c = sym (exponent-refused _ _ (omega arith) (bad-exponent _ _ (λ g. omega (arith, g.high))))
+returns-3 c = sym (exponent_refused _ _ (omega arith) (bad_exponent_lem _ _ (λ g. omega (arith, g.high))))
 
 returns-4 : tie.Need-returns-4
 returns-4 c =
     sym
-    (exponent-refused _ _ (omega arith)
-    (bad-exponent _ _ (λ g. omega (arith, c.before.inverse-or-zero.ensures, (inverse-exists _ _ (omega arith) g.coprime).low))))
+    (exponent_refused _ _ (omega arith)
+    (bad_exponent_lem _ _ (λ g. omega (arith, c.before.inverse-or-zero.ensures, (inverse_exists _ _ (omega arith) g.coprime).low))))
 
 returns-5 : tie.Need-returns-5
 returns-5 c =
     let args = c.before.before.before.before.before.args in
-    let v = inverse-found args.r args.k (omega (arith, c.before.inverse-or-zero.ensures)) in
+    let v = inverse_found args.r args.k (omega (arith, c.before.inverse-or-zero.ensures)) in
     ap answered c.before.inverse-or-zero.ensures
-    ∙ sym (inverse-answered _ _ (omega arith) (exponent-good (record { low = omega arith; high = omega arith; coprime = inverse-coprime v })))
+    ∙ sym (inverse_answered _ _ (omega arith) (exponent_good (record { low = omega arith; high = omega arith; coprime = inverse_coprime v })))
 
 pub inverse-spec : {M : Type 1} → statement M
 inverse-spec =

@@ -10,9 +10,9 @@ use mir.Val.{SFits, to_z, of_z}
 use mir.ValLaws.{to_z-of_z, to_z_pos}
 use borrow.Author.Rules.{rules}
 use Rattle.modular.specs.Inverses.{inverse}
-use Rattle.modular.proofs.Laws.Euclid.{Kept, kept-start, Turn, turn}
-use Rattle.modular.proofs.Laws.Ends.{Last, last, coprime-last, Whole, below-zero, not-below}
-use Rattle.modular.proofs.Laws.Inverses.{inverse-is, inverse-none, inverse-small}
+use Rattle.modular.proofs.Laws.Euclid.{Kept, kept_start, Turn, turn}
+use Rattle.modular.proofs.Laws.Ends.{Last, last, coprime_last, Whole, below_zero, not_below}
+use Rattle.modular.proofs.Laws.Inverses.{inverse_is, inverse_none, inverse_small}
 use Rattle.modular.proofs.inverse_or_zero.Statement.{statement}
 use Rattle.modular.proofs.inverse_or_zero.Tie as tie
 
@@ -45,10 +45,10 @@ module _ (c : tie.In-loop invariant-loop decreases-loop) where
   difference-fits = rw difference (record { sfits = omega (arith, turned.difference) })
 
 returns : tie.Need-returns invariant-loop decreases-loop
-returns c = sym (inverse-small _ _ (omega arith))
+returns c = sym (inverse_small _ _ (omega arith))
 
 loop-holds : tie.Need-loop-init invariant-loop decreases-loop
-loop-holds c = kept-start _ _ (omega arith)
+loop-holds c = kept_start _ _ (omega arith)
 
 cast-q : tie.Need-overflow-cast-q invariant-loop decreases-loop
 cast-q c = record { sfits = omega (arith, div-le_self c.before.loop.a c.before.loop.b) }
@@ -67,7 +67,7 @@ loop-again c = rw (to_z-of_z w64 _ (difference-fits c), difference c) (turned c)
 
 returns-2 : tie.Need-returns-2 invariant-loop decreases-loop
 returns-2 c =
-    sym (inverse-none _ _ (λ alone. omega (arith, coprime-last _ _ _ _ _ _ c.before.loop-test.false c.before.before.loop.invariant alone)))
+    sym (inverse_none _ _ (λ alone. omega (arith, coprime_last _ _ _ _ _ _ c.before.loop-test.false c.before.before.loop.invariant alone)))
 
 -- a is 1 where the loop is over and a is not refused
 ended : (c : tie.Else2 invariant-loop decreases-loop) → Last c.before.before.before.before.args.x c.before.before.before.before.args.m (to_z w64 c.before.before.loop.s)
@@ -75,14 +75,14 @@ ended c = last _ _ _ _ _ _ (omega arith) (omega arith) (omega arith) c.before.be
 
 -- the number that is answered, where it is the inverse
 value : (x m : ℕ) (z : ℤ) → Whole x m z → nat_abs z ≡ inverse m x
-value x m z w = ap nat_abs w.is ∙ sym (inverse-is m x w.value w.inverse)
+value x m z w = ap nat_abs w.is ∙ sym (inverse_is m x w.value w.inverse)
 
 cast-result : tie.Need-overflow-cast-result invariant-loop decreases-loop
 cast-result c = record { sfits = omega arith }
 
 module _ (c : tie.Then3 invariant-loop decreases-loop) where
   negative : Whole c.before.before.before.before.before.args.x c.before.before.before.before.before.args.m (to_z w64 c.before.before.before.loop.s +ℤ to_z w64 c.before.before.before.before.before.args.m)
-  negative = rw (to_z_pos w64 c.before.before.before.before.before.args.m (omega arith)) (below-zero _ _ _ (ended c.before) c.if3.true)
+  negative = rw (to_z_pos w64 c.before.before.before.before.before.args.m (omega arith)) (below_zero _ _ _ (ended c.before) c.if3.true)
 
   sum_fits : SFits w64 (to_z w64 c.before.before.before.loop.s +ℤ to_z w64 c.before.before.before.before.before.args.m)
   sum_fits = rw negative.is (record { sfits = omega (arith, negative.inverse.high) })
@@ -94,7 +94,7 @@ cast-result-2 : tie.Need-overflow-cast-result-2 invariant-loop decreases-loop
 cast-result-2 c = rw (to_z-of_z w64 _ (sum_fits c), (negative c).is) (tt, record { fits = omega (arith, (negative c).inverse.high) })
 
 not_negative : (c : tie.Else3 invariant-loop decreases-loop) → Whole c.before.before.before.before.before.args.x c.before.before.before.before.before.args.m (to_z w64 c.before.before.before.loop.s)
-not_negative c = not-below _ _ _ (ended c.before) c.if3.false
+not_negative c = not_below _ _ _ (ended c.before) c.if3.false
 
 cast-result-3 : tie.Need-overflow-cast-result-3 invariant-loop decreases-loop
 cast-result-3 c = rw (not_negative c).is (tt, record { fits = omega (arith, (not_negative c).inverse.high) })

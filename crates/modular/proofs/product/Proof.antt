@@ -3,16 +3,16 @@ use mathlib.Core.Path.{sym}
 use native.Mathlib.Nat.{lt_trans, mod-lt}
 use native.Mathlib.Omega.{arith}
 use borrow.Author.Rules.{rules}
-use Rattle.divisors.proofs.Laws.Quotients.{product-below}
-use Rattle.modular.proofs.Laws.Residues.{remainder-zero, remainder_is}
+use Rattle.divisors.proofs.Laws.Quotients.{product_below}
+use Rattle.modular.proofs.Laws.Residues.{remainder_zero, remainder_is}
 use Rattle.modular.proofs.product.Statement.{statement}
 use Rattle.modular.proofs.product.Tie as tie
 
 returns : tie.Need-returns
-returns c = sym (remainder-zero _ _ c.if1.true)
+returns c = sym (remainder_zero _ _ c.if1.true)
 
 mul-result : tie.Need-overflow-mul-result
-mul-result c = record { fits = product-below 4294967296 (omega arith) (omega arith) }
+mul-result c = record { fits = product_below 4294967296 (omega arith) (omega arith) }
 
 cast-result : tie.Need-overflow-cast-result
 cast-result c = record { fits = lt_trans (mod-lt _ (omega arith)) (omega arith) }

@@ -2,7 +2,7 @@
 use mathlib.Core.Logic.{⊎_elim}
 use native.Mathlib.Omega.{arith}
 use borrow.Author.Rules.{rules}
-use Rattle.montgomery.proofs.Laws.FormSquaring.{FormSquared, form-start, form-even, form-odd, form-end}
+use Rattle.montgomery.proofs.Laws.FormSquaring.{FormSquared, form_start, form_even, form_odd, form_end}
 use Rattle.montgomery.proofs.form_power.Statement.{statement}
 use Rattle.montgomery.proofs.form_power.Tie as tie
 
@@ -13,7 +13,7 @@ abbrev decreases-loop : tie.decreases-loop
 decreases-loop m base exponent result₀ square₀ rest₀ result square rest = rest
 
 loop-holds : tie.Need-loop-init invariant-loop decreases-loop
-loop-holds c = form-start (omega arith) c.before.enter.ensures c.enter2.ensures
+loop-holds c = form_start (omega arith) c.before.enter.ensures c.enter2.ensures
 
 loop-less : tie.Need-loop-smaller invariant-loop decreases-loop
 loop-less c = omega arith
@@ -22,12 +22,12 @@ loop-again : tie.Need-loop-preserved invariant-loop decreases-loop
 loop-again c =
     let k = c.before.before.before.loop.invariant in
     ⊎_elim
-    (λ w. rw w.2 (form-odd k c.multiply2.ensures w.1.ensures w.0.taken))
-    (λ w. rw w.1 (form-even k c.multiply2.ensures w.0.left))
+    (λ w. rw w.2 (form_odd k c.multiply2.ensures w.1.ensures w.0.taken))
+    (λ w. rw w.1 (form_even k c.multiply2.ensures w.0.left))
     c.before.if1.branch
 
 returns : tie.Need-returns invariant-loop decreases-loop
-returns c = form-end (omega arith) c.before.loop.invariant (omega arith)
+returns c = form_end (omega arith) c.before.loop.invariant (omega arith)
 
 pub form-power-spec : {M : Type 1} → statement M
 form-power-spec =

@@ -1,12 +1,12 @@
 -- `invert` meets its contract: out of the form, inverted and into it.
 use mathlib.Core.Path.{◌∙◌}
 use borrow.Author.Rules.{rules}
-use Rattle.montgomery.specs.Inner.Forms.{formInverse}
+use Rattle.montgomery.specs.Inner.Forms.{form_inverse}
 use Rattle.montgomery.proofs.invert.Statement.{statement}
 use Rattle.montgomery.proofs.invert.Tie as tie
 
 returns : tie.Need-returns
-unfolding formInverse
+unfolding form_inverse
 returns c =
     let found = c.before in
     c.enter.ensures ∙ rw (found.inverse-or-zero.ensures, found.before.leave.ensures)

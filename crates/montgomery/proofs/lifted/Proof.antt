@@ -1,16 +1,16 @@
 -- `lifted` meets its contract: each product is of two numbers below 2^32.
 use native.Mathlib.Omega.{arith}
 use borrow.Author.Rules.{rules}
-use Rattle.divisors.proofs.Laws.Quotients.{product-below}
+use Rattle.divisors.proofs.Laws.Quotients.{product_below}
 use Rattle.montgomery.specs.Inner.Forms.{lift}
 use Rattle.montgomery.proofs.lifted.Statement.{statement}
 use Rattle.montgomery.proofs.lifted.Tie as tie
 
 mul-unit : tie.Need-overflow-mul-unit
-mul-unit c = record { fits = product-below 4294967296 (omega arith) (omega arith) }
+mul-unit c = record { fits = product_below 4294967296 (omega arith) (omega arith) }
 
 mul-result : tie.Need-overflow-mul-result
-mul-result c = record { fits = product-below 4294967296 (omega arith) (omega arith) }
+mul-result c = record { fits = product_below 4294967296 (omega arith) (omega arith) }
 
 returns : tie.Need-returns
 unfolding lift

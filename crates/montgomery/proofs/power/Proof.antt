@@ -1,7 +1,7 @@
 -- `power` meets its contract: an even modulus has no form, and of an odd one the power leaves it.
 use native.Mathlib.Omega.{arith}
 use borrow.Author.Rules.{rules}
-use Rattle.montgomery.proofs.Laws.FormSquaring.{power-left}
+use Rattle.montgomery.proofs.Laws.FormSquaring.{power_left}
 use Rattle.montgomery.proofs.power.Statement.{statement}
 use Rattle.montgomery.proofs.power.Tie as tie
 
@@ -9,7 +9,7 @@ returns-2 : tie.Need-returns-2
 returns-2 c =
     let powered = c.before in
     let made = powered.before in
-    power-left (omega (arith, made.before.if1.false)) (omega arith) made.modulus-of.ensures powered.form-power.ensures c.leave.ensures
+    power_left (omega (arith, made.before.if1.false)) (omega arith) made.modulus-of.ensures powered.form-power.ensures c.leave.ensures
 
 pub power-spec : {M : Type 1} → statement M
 power-spec =

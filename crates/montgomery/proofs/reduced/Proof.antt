@@ -4,23 +4,23 @@ use native.Mathlib.Nat.{lt_of_le_of_lt}
 use native.Mathlib.Omega.{arith}
 use borrow.Author.Rules.{rules}
 use borrow.Author.Tests.{lt-ltb, le-ltb}
-use Rattle.divisors.proofs.Laws.Quotients.{product-below}
+use Rattle.divisors.proofs.Laws.Quotients.{product_below}
 use Rattle.montgomery.specs.Inner.Forms.{reduction}
-use Rattle.montgomery.proofs.Laws.Forms.{multiple-most}
+use Rattle.montgomery.proofs.Laws.Forms.{multiple_most}
 use Rattle.montgomery.proofs.reduced.Statement.{statement}
 use Rattle.montgomery.proofs.reduced.Tie as tie
 
 mul-u : tie.Need-overflow-mul-u
-mul-u c = record { fits = product-below 4294967296 (omega arith) (omega arith) }
+mul-u c = record { fits = product_below 4294967296 (omega arith) (omega arith) }
 
 mul-multiple : tie.Need-overflow-mul-multiple
-mul-multiple c = record { fits = product-below 4294967296 (omega arith) (omega arith) }
+mul-multiple c = record { fits = product_below 4294967296 (omega arith) (omega arith) }
 
 cast-multiple-2 : tie.Need-overflow-cast-multiple-2
-cast-multiple-2 c = record { fits = lt_of_le_of_lt (multiple-most _ _ _) (omega arith) }
+cast-multiple-2 c = record { fits = lt_of_le_of_lt (multiple_most _ _ _) (omega arith) }
 
 sub-result : tie.Need-overflow-sub-result
-sub-result c = multiple-most _ _ _
+sub-result c = multiple_most _ _ _
 
 returns : tie.Need-returns
 unfolding reduction

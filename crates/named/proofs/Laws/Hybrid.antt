@@ -5,69 +5,69 @@ use mathlib.Core.List.{List, []}
 use Prim.Native.Nat.{ℕ, suc, ◌+◌, ◌*◌, ◌%◌, ◌≤◌, ◌<◌}
 use native.Mathlib.Omega.{arith}
 use lib.ListN.{length}
-use Rattle.modular.specs.Inverses.{inverse, badExponent}
+use Rattle.modular.specs.Inverses.{inverse, bad_exponent}
 use Rattle.fibonacci.specs.Fibonacci.{fib}
-use Rattle.fibonacci.specs.Forms.{fibsumFrom, fibsum, pad, ones, zeckendorf}
-use Rattle.fibonacci.specs.Height.{height, oddHeight}
-use Rattle.fibonacci.proofs.Laws.Fibonacci.{fib-one}
-use Rattle.fibonacci.proofs.Laws.Forms.{ones-places}
-use Rattle.fibonacci.proofs.Laws.Zeckendorf.{zeckendorf-sum}
-use Rattle.fibonacci.proofs.Laws.Height.{height-least, height-28, height-le-odd, odd-height-le, odd-height-28}
-use Rattle.fibonacci.proofs.Laws.Lengths.{multiple-length, multiple-shift, multiple-count}
-use Rattle.tape.specs.Words.{numberLimit}
+use Rattle.fibonacci.specs.Forms.{fibsum_from, fibsum, pad, ones, zeckendorf}
+use Rattle.fibonacci.specs.Height.{height, odd_height}
+use Rattle.fibonacci.proofs.Laws.Fibonacci.{fib_one}
+use Rattle.fibonacci.proofs.Laws.Forms.{ones_places}
+use Rattle.fibonacci.proofs.Laws.Zeckendorf.{zeckendorf_sum}
+use Rattle.fibonacci.proofs.Laws.Height.{height_least, height_28, height_le_odd, odd_height_le, odd_height_28}
+use Rattle.fibonacci.proofs.Laws.Lengths.{multiple_length, multiple_shift, multiple_count}
+use Rattle.tape.specs.Words.{number_limit}
 use Rattle.named.specs.declared.Figure.TheVariants.{Six}
 use Rattle.named.specs.Generators.{generated}
-use Rattle.named.specs.Named.{hybridForms}
+use Rattle.named.specs.Named.{hybrid_forms}
 use Rattle.named.specs.Promises.{FormsFit, IsProgram}
-use Rattle.named.proofs.Laws.Lengths.{drawn-count, lone-fits}
-use Rattle.named.proofs.Laws.Sequences.{reaching-multiples}
-use Rattle.named.proofs.Laws.Forms.{padded-sum, padded-length, padded-ones, maxTerm, maxOnes, most-term, reach-28}
-use Rattle.named.proofs.Laws.Programs.{below, inverse-is, six-program}
+use Rattle.named.proofs.Laws.Lengths.{drawn_count, lone_fits}
+use Rattle.named.proofs.Laws.Sequences.{reaching_multiples}
+use Rattle.named.proofs.Laws.Forms.{padded_sum, padded_length, padded_ones, max_term, max_ones, most_term, reach_28}
+use Rattle.named.proofs.Laws.Programs.{below, inverse_is, six_program}
 
-module _ (r k : ℕ) (good : badExponent k r ≡ false) where
+module _ (r k : ℕ) (good : bad_exponent k r ≡ false) where
   abbrev v : ℕ
-  v = k * fib (suc (oddHeight r))
+  v = k * fib (suc (odd_height r))
 
   abbrev Ks : List Bool
-  Ks = pad (oddHeight r) (zeckendorf (inverse r k))
+  Ks = pad (odd_height r) (zeckendorf (inverse r k))
 
   abbrev h : k < r
   h = below r k good
 
-  places : length Ks ≡ oddHeight r
-  places = padded-length (oddHeight r) (inverse r k) r (inverse-is r k good).high (height-le-odd r)
+  places : length Ks ≡ odd_height r
+  places = padded_length (odd_height r) (inverse r k) r (inverse_is r k good).high (height_le_odd r)
 
-  few : ones Ks ≤ maxOnes r
-  few = padded-ones (oddHeight r) (inverse r k) r (inverse-is r k good).high
+  few : ones Ks ≤ max_ones r
+  few = padded_ones (odd_height r) (inverse r k) r (inverse_is r k good).high
 
-  pub hybrid-bound : length (generated (hybridForms r k)) ≤ 8 * height r + 5
-  unfolding hybridForms ones
-  hybrid-bound =
+  pub hybrid_bound : length (generated (hybrid_forms r k)) ≤ 8 * height r + 5
+  unfolding hybrid_forms ones
+  hybrid_bound =
       omega (
         arith,
-        drawn-count Six (zeckendorf v) [] Ks [] (omega arith) (omega arith) refl refl,
-        multiple-length r k h,
-        multiple-count r k h,
-        ones-places 1 (zeckendorf v),
+        drawn_count Six (zeckendorf v) [] Ks [] (omega arith) (omega arith) refl refl,
+        multiple_length r k h,
+        multiple_count r k h,
+        ones_places 1 (zeckendorf v),
         places,
         few,
-        odd-height-le r,
-        (height-least r).from,
+        odd_height_le r,
+        (height_least r).from,
       )
 
-  pub hybrid-fits : r < numberLimit → FormsFit (hybridForms r k)
-  unfolding hybridForms
-  hybrid-fits small =
-      lone-fits Six (zeckendorf v) Ks (omega (arith, multiple-length r k h, height-28 r small)) (omega (arith, places, odd-height-28 r small))
+  pub hybrid_fits : r < number_limit → FormsFit (hybrid_forms r k)
+  unfolding hybrid_forms
+  hybrid_fits small =
+      lone_fits Six (zeckendorf v) Ks (omega (arith, multiple_length r k h, height_28 r small)) (omega (arith, places, odd_height_28 r small))
 
-  pub hybrid-program : IsProgram r k (generated (hybridForms r k))
-  unfolding hybridForms
-  hybrid-program =
-      let eu : fibsumFrom 0 (zeckendorf v) ≡ k * fib (length Ks) = multiple-shift r k h ∙ ap (λ (n : ℕ). k * fib n) (sym places) in
-      let ev : fibsum (zeckendorf v) ≡ k * fib (suc (length Ks)) = zeckendorf-sum v ∙ ap (λ (n : ℕ). k * fib (suc n)) (sym places) in
-      six-program r k good (maxTerm r) (maxOnes r) (reach-28 r) (zeckendorf v) Ks
-      (reaching-multiples (maxTerm r) (length Ks) k (most-term r k (suc (length Ks)) (omega (arith, h)) (omega (arith, places, odd-height-le r))) eu ev)
-      (ap (λ (n : ℕ). k * n % r) (padded-sum (oddHeight r) (inverse r k)) ∙ (inverse-is r k good).one)
+  pub hybrid_program : IsProgram r k (generated (hybrid_forms r k))
+  unfolding hybrid_forms
+  hybrid_program =
+      let eu : fibsum_from 0 (zeckendorf v) ≡ k * fib (length Ks) = multiple_shift r k h ∙ ap (λ (n : ℕ). k * fib n) (sym places) in
+      let ev : fibsum (zeckendorf v) ≡ k * fib (suc (length Ks)) = zeckendorf_sum v ∙ ap (λ (n : ℕ). k * fib (suc n)) (sym places) in
+      six_program r k good (max_term r) (max_ones r) (reach_28 r) (zeckendorf v) Ks
+      (reaching_multiples (max_term r) (length Ks) k (most_term r k (suc (length Ks)) (omega (arith, h)) (omega (arith, places, odd_height_le r))) eu ev)
+      (ap (λ (n : ℕ). k * n % r) (padded_sum (odd_height r) (inverse r k)) ∙ (inverse_is r k good).one)
       (ap (λ (n : ℕ). n % r) eu) (ap (λ (n : ℕ). n % r) ev)
-      few (omega (arith, fib-one, most-term r 1 1 (omega (arith, h)) (omega arith)))
-      (λ small. omega (arith, hybrid-bound, height-28 r small))
+      few (omega (arith, fib_one, most_term r 1 1 (omega (arith, h)) (omega arith)))
+      (λ small. omega (arith, hybrid_bound, height_28 r small))

@@ -11,11 +11,11 @@ use native.Mathlib.Omega.{arith}
 use lib.IntN.{ℤ, pos, negsuc, ◌+ℤ◌, ◌-ℤ◌, -ℤ-+ℤ_cancel}
 use lib.ListN.{length}
 use Rattle.fibonacci.specs.Fibonacci.{fib}
-use Rattle.fibonacci.specs.Forms.{fibsumFrom, pad, ones}
+use Rattle.fibonacci.specs.Forms.{fibsum_from, pad, ones}
 use Rattle.fibonacci.specs.Hofstadter.{G}
-use Rattle.fibonacci.proofs.Laws.Fibonacci.{fib-zero, fib-one, fib-next, fib-positive, fib-monotone}
+use Rattle.fibonacci.proofs.Laws.Fibonacci.{fib_zero, fib_one, fib_next, fib_positive, fib_monotone}
 use Rattle.fibonacci.proofs.Laws.Hofstadter.{G-le, G-sum}
-use Rattle.machine.proofs.Laws.Integers.{over, under, same, over-less, under-less, Within, within-natural, within-less, within_more}
+use Rattle.machine.proofs.Laws.Integers.{over, under, same, over_less, under_less, Within, within_natural, within_less, within_more}
 use Rattle.named.specs.Generators.{lowest, higher}
 
 abbrev pub Adds : (ℕ → ℤ) → Type 0
@@ -29,63 +29,63 @@ pub record Sequence (b n : ℕ) (u : ℕ → ℤ) : Type 0 where
 -- ---- the terms that a form selects
 
 -- what was there before the terms selected by a form whose first bit is place i were added, to e
-abbrev pub minusSelected : (ℕ → ℤ) → ℕ → List Bool → ℤ → ℤ
-minusSelected u i [] e = e
-minusSelected u i (b ∷ bs) e = cond b (minusSelected u (suc i) bs e -ℤ u (suc i)) (minusSelected u (suc i) bs e)
+abbrev pub minus_selected : (ℕ → ℤ) → ℕ → List Bool → ℤ → ℤ
+minus_selected u i [] e = e
+minus_selected u i (b ∷ bs) e = cond b (minus_selected u (suc i) bs e -ℤ u (suc i)) (minus_selected u (suc i) bs e)
 
-pub minus-selected-lowest : (u : ℕ → ℤ) (i : ℕ) (ts : List Bool) (f : ℤ)
-    → minusSelected u i ts f ≡ cond (lowest ts) (minusSelected u (suc i) (higher ts) f -ℤ u (suc i)) (minusSelected u (suc i) (higher ts) f)
-minus-selected-lowest u i [] f = refl
-minus-selected-lowest u i (t ∷ ts) f = refl
+pub minus_selected_lowest : (u : ℕ → ℤ) (i : ℕ) (ts : List Bool) (f : ℤ)
+    → minus_selected u i ts f ≡ cond (lowest ts) (minus_selected u (suc i) (higher ts) f -ℤ u (suc i)) (minus_selected u (suc i) (higher ts) f)
+minus_selected_lowest u i [] f = refl
+minus_selected_lowest u i (t ∷ ts) f = refl
 
 -- a form with no place set selects none
-pub minus-selected-none : (u : ℕ → ℤ) (i n : ℕ) (e : ℤ) → minusSelected u i (pad n []) e ≡ e
+pub minus_selected_none : (u : ℕ → ℤ) (i n : ℕ) (e : ℤ) → minus_selected u i (pad n []) e ≡ e
 unfolding pad
-minus-selected-none u i zero e = refl
-minus-selected-none u i (suc n) e = minus-selected-none u (suc i) n e
+minus_selected_none u i zero e = refl
+minus_selected_none u i (suc n) e = minus_selected_none u (suc i) n e
 
 -- at most b for each place that is set
-pub minus-selected-within : (b n : ℕ) (u : ℕ → ℤ) → Sequence b n u → (i : ℕ) (bs : List Bool) (e : ℤ) → i + length bs ≤ suc n → Within b e
-    → Within (b * suc (ones bs)) (minusSelected u i bs e)
+pub minus_selected_within : (b n : ℕ) (u : ℕ → ℤ) → Sequence b n u → (i : ℕ) (bs : List Bool) (e : ℤ) → i + length bs ≤ suc n → Within b e
+    → Within (b * suc (ones bs)) (minus_selected u i bs e)
 unfolding ones
-minus-selected-within b n u q i [] e h w = within_more (omega arith) w
-minus-selected-within b n u q i (true ∷ bs) e h w =
+minus_selected_within b n u q i [] e h w = within_more (omega arith) w
+minus_selected_within b n u q i (true ∷ bs) e h w =
     within_more (omega arith)
-    (within-less (minusSelected u (suc i) bs e) (u (suc i)) (minus-selected-within b n u q (suc i) bs e (omega arith) w) (q.small (suc i) (omega arith)))
-minus-selected-within b n u q i (false ∷ bs) e h w = within_more (omega arith) (minus-selected-within b n u q (suc i) bs e (omega arith) w)
+    (within_less (minus_selected u (suc i) bs e) (u (suc i)) (minus_selected_within b n u q (suc i) bs e (omega arith) w) (q.small (suc i) (omega arith)))
+minus_selected_within b n u q i (false ∷ bs) e h w = within_more (omega arith) (minus_selected_within b n u q (suc i) bs e (omega arith) w)
 
 -- ---- multiples of the Fibonacci numbers
 
 abbrev pub multiple : ℕ → ℕ → ℤ
 multiple k i = pos (k * fib i)
 
-pub multiple-zero : (k : ℕ) → multiple k 0 ≡ pos 0
-multiple-zero k = ap pos (ap (λ (x : ℕ). k * x) fib-zero ∙ omega arith)
+pub multiple_zero : (k : ℕ) → multiple k 0 ≡ pos 0
+multiple_zero k = ap pos (ap (λ (x : ℕ). k * x) fib_zero ∙ omega arith)
 
-pub multiple-one : (k : ℕ) → multiple k 1 ≡ pos k
-multiple-one k = ap pos (ap (λ (x : ℕ). k * x) fib-one ∙ omega arith)
+pub multiple_one : (k : ℕ) → multiple k 1 ≡ pos k
+multiple_one k = ap pos (ap (λ (x : ℕ). k * x) fib_one ∙ omega arith)
 
-pub multiple-next : (k : ℕ) → Adds (multiple k)
-multiple-next k i = ap pos (omega (arith, ap (λ (x : ℕ). k * x) (fib-next i)))
+pub multiple_next : (k : ℕ) → Adds (multiple k)
+multiple_next k i = ap pos (omega (arith, ap (λ (x : ℕ). k * x) (fib_next i)))
 
 pub multiples : (b n k : ℕ) → k * fib (suc n) ≤ b → Sequence b n (multiple k)
 multiples b n k most = record {
-  next = multiple-next k;
-  small = λ i h. within-natural (k * fib i) (omega (arith, mul-le-mul_left k (fib-monotone {m = i} {n = suc n} h)));
+  next = multiple_next k;
+  small = λ i h. within_natural (k * fib i) (omega (arith, mul-le-mul_left k (fib_monotone {m = i} {n = suc n} h)));
 }
 
-before-parts : (k i : ℕ) (bs : List Bool) (e : ℤ)
-    → over (minusSelected (multiple k) i bs e) + k * fibsumFrom i bs + under e ≡ over e + under (minusSelected (multiple k) i bs e)
-unfolding fibsumFrom
-before-parts k i [] e = omega arith
-before-parts k i (true ∷ bs) e =
-    let a : ℤ = minusSelected (multiple k) (suc i) bs e in
-    omega (arith, before-parts k (suc i) bs e, over-less a (multiple k (suc i)), under-less a (multiple k (suc i)))
-before-parts k i (false ∷ bs) e = omega (arith, before-parts k (suc i) bs e)
+before_parts : (k i : ℕ) (bs : List Bool) (e : ℤ)
+    → over (minus_selected (multiple k) i bs e) + k * fibsum_from i bs + under e ≡ over e + under (minus_selected (multiple k) i bs e)
+unfolding fibsum_from
+before_parts k i [] e = omega arith
+before_parts k i (true ∷ bs) e =
+    let a : ℤ = minus_selected (multiple k) (suc i) bs e in
+    omega (arith, before_parts k (suc i) bs e, over_less a (multiple k (suc i)), under_less a (multiple k (suc i)))
+before_parts k i (false ∷ bs) e = omega (arith, before_parts k (suc i) bs e)
 
 -- the selected multiples sum to the multiple of the form's sum
-pub minus-selected-sum : (k i : ℕ) (bs : List Bool) → minusSelected (multiple k) i bs (pos (k * fibsumFrom i bs)) ≡ pos 0
-minus-selected-sum k i bs = same (minusSelected (multiple k) i bs (pos (k * fibsumFrom i bs))) (pos 0) (omega (arith, before-parts k i bs (pos (k * fibsumFrom i bs))))
+pub minus_selected_sum : (k i : ℕ) (bs : List Bool) → minus_selected (multiple k) i bs (pos (k * fibsum_from i bs)) ≡ pos 0
+minus_selected_sum k i bs = same (minus_selected (multiple k) i bs (pos (k * fibsum_from i bs))) (pos 0) (omega (arith, before_parts k i bs (pos (k * fibsum_from i bs))))
 
 -- ---- a sequence that comes to s and t at n and n + 1
 
@@ -96,12 +96,12 @@ pub record Reaching (b n : ℕ) (s t : ℤ) : Type 0 where
   pub past : term (suc n) ≡ t
 
 -- where it comes from, with the terms that two forms select taken away from e and f
-abbrev pub cameFrom : {b n : ℕ} {s t : ℤ} → Reaching b n s t → List Bool → List Bool → ℤ → ℤ → List ℤ
-cameFrom q ss ts e f = q.term 0 ∷ q.term 1 ∷ minusSelected q.term 1 ss e ∷ minusSelected q.term 1 ts f ∷ []
+abbrev pub came_from : {b n : ℕ} {s t : ℤ} → Reaching b n s t → List Bool → List Bool → ℤ → ℤ → List ℤ
+came_from q ss ts e f = q.term 0 ∷ q.term 1 ∷ minus_selected q.term 1 ss e ∷ minus_selected q.term 1 ts f ∷ []
 
 -- the multiples of k
-pub reaching-multiples : (b n k : ℕ) {s t : ℕ} → k * fib (suc n) ≤ b → s ≡ k * fib n → t ≡ k * fib (suc n) → Reaching b n (pos s) (pos t)
-reaching-multiples b n k most last past =
+pub reaching_multiples : (b n k : ℕ) {s t : ℕ} → k * fib (suc n) ≤ b → s ≡ k * fib n → t ≡ k * fib (suc n) → Reaching b n (pos s) (pos t)
+reaching_multiples b n k most last past =
     record { term = multiple k; sequence = multiples b n k most; last = ap pos (sym last); past = ap pos (sym past) }
 
 -- from s and t up
@@ -113,8 +113,8 @@ from_next : (s t : ℤ) → Adds (from s t)
 from_next s t zero = refl
 from_next s t (suc i) = from_next t (s +ℤ t) i
 
-reaching-now : (b : ℕ) (s t : ℤ) → Within b s → Within b t → Reaching b 0 s t
-reaching-now b s t ws wt = record {
+reaching_now : (b : ℕ) (s t : ℤ) → Within b s → Within b t → Reaching b 0 s t
+reaching_now b s t ws wt = record {
   term = from s t;
   sequence = record { next = from_next s t; small = small };
   last = refl;
@@ -127,8 +127,8 @@ reaching-now b s t ws wt = record {
     small (suc (suc i)) h = absurd (omega arith)
 
 -- one further down
-reaching-back : (b n : ℕ) (s t : ℤ) → Reaching b n (t -ℤ s) s → Within b t → Reaching b (suc n) s t
-reaching-back b n s t q w = record {
+reaching_back : (b n : ℕ) (s t : ℤ) → Reaching b n (t -ℤ s) s → Within b t → Reaching b (suc n) s t
+reaching_back b n s t q w = record {
   term = u;
   sequence = record { next = q.sequence.next; small = small };
   last = q.past;
@@ -150,15 +150,15 @@ reaching-back b n s t q w = record {
 -- down from s and t, which are at most c F_(j+1) and c F_j
 pub reaching : (b c n j : ℕ) (s t : ℤ) → c * fib (suc (j + n)) ≤ b → Within (c * fib (suc j)) s → Within (c * fib j) t → Reaching b n s t
 reaching b c zero j s t h ws wt =
-    reaching-now b s t
+    reaching_now b s t
     (within_more (omega (arith, ap (λ (i : ℕ). c * fib (suc i)) (add-zero j))) ws)
-    (within_more (omega (arith, mul-le-mul_left c (fib-monotone {m = j} {n = suc (j + zero)} (omega arith)))) wt)
+    (within_more (omega (arith, mul-le-mul_left c (fib_monotone {m = j} {n = suc (j + zero)} (omega arith)))) wt)
 reaching b c (suc n) j s t h ws wt =
     let e : suc (j + suc n) ≡ suc (suc j + n) = omega arith in
-    reaching-back b n s t
+    reaching_back b n s t
     (reaching b c n (suc j) (t -ℤ s) s (omega (arith, ap (λ (i : ℕ). c * fib i) e))
-    (within_more (omega (arith, ap (λ (x : ℕ). c * x) (fib-next j))) (within-less t s wt ws)) ws)
-    (within_more (omega (arith, mul-le-mul_left c (fib-monotone {m = j} {n = suc (j + suc n)} (omega arith)))) wt)
+    (within_more (omega (arith, ap (λ (x : ℕ). c * x) (fib_next j))) (within_less t s wt ws)) ws)
+    (within_more (omega (arith, mul-le-mul_left c (fib_monotone {m = j} {n = suc (j + suc n)} (omega arith)))) wt)
 
 -- ---- down from G(a) and a
 
@@ -172,28 +172,28 @@ near_within b (pos x) near h = record { high = omega (arith, near.above); low = 
 near_within b (negsuc x) near h = record { high = omega arith; low = omega (arith, near.below) }
 
 -- Of s and t, which are near G(a) and a, the difference is near G(G(a)), since the three sum to a or one less.
-near-less : (d e a : ℕ) (s t : ℤ) → Near e (G a) s → Near d a t → Near (e + d) (G (G a)) (t -ℤ s)
-near-less d e a s t ns nt = record {
-  above = omega (arith, G-sum a, ns.below, nt.above, over-less t s, under-less t s);
-  below = omega (arith, G-sum a, ns.above, nt.below, over-less t s, under-less t s);
+near_less : (d e a : ℕ) (s t : ℤ) → Near e (G a) s → Near d a t → Near (e + d) (G (G a)) (t -ℤ s)
+near_less d e a s t ns nt = record {
+  above = omega (arith, G-sum a, ns.below, nt.above, over_less t s, under_less t s);
+  below = omega (arith, G-sum a, ns.above, nt.below, over_less t s, under_less t s);
 }
 
 -- So the terms below stay near the values of G, which don't grow, and those near by a Fibonacci number at most.
-reaching-near : (b n j a : ℕ) (s t : ℤ) → a + fib (suc (suc (j + n))) ≤ b → Near (fib (suc (suc j))) (G a) s → Near (fib (suc j)) a t → Reaching b n s t
-reaching-near b zero j a s t h ns nt =
-    reaching-now b s t
-    (near_within b s ns (omega (arith, G-le a, fib-monotone {m = suc (suc j)} {n = suc (suc (j + zero))} (omega arith))))
-    (near_within b t nt (omega (arith, fib-monotone {m = suc j} {n = suc (suc (j + zero))} (omega arith))))
-reaching-near b (suc n) j a s t h ns nt =
+reaching_near : (b n j a : ℕ) (s t : ℤ) → a + fib (suc (suc (j + n))) ≤ b → Near (fib (suc (suc j))) (G a) s → Near (fib (suc j)) a t → Reaching b n s t
+reaching_near b zero j a s t h ns nt =
+    reaching_now b s t
+    (near_within b s ns (omega (arith, G-le a, fib_monotone {m = suc (suc j)} {n = suc (suc (j + zero))} (omega arith))))
+    (near_within b t nt (omega (arith, fib_monotone {m = suc j} {n = suc (suc (j + zero))} (omega arith))))
+reaching_near b (suc n) j a s t h ns nt =
     let next : suc (suc (j + suc n)) ≡ suc (suc (suc j + n)) = omega arith in
-    reaching-back b n s t
-    (reaching-near b n (suc j) (G a) (t -ℤ s) s (omega (arith, G-le a, ap fib next))
-    (rw (fib-next (suc j)) (near-less (fib (suc j)) (fib (suc (suc j))) a s t ns nt)) ns)
-    (near_within b t nt (omega (arith, fib-monotone {m = suc j} {n = suc (suc (j + suc n))} (omega arith))))
+    reaching_back b n s t
+    (reaching_near b n (suc j) (G a) (t -ℤ s) s (omega (arith, G-le a, ap fib next))
+    (rw (fib_next (suc j)) (near_less (fib (suc j)) (fib (suc (suc j))) a s t ns nt)) ns)
+    (near_within b t nt (omega (arith, fib_monotone {m = suc j} {n = suc (suc (j + suc n))} (omega arith))))
 
 -- down from G(v) and v themselves
-pub reaching-pair : (b n v : ℕ) → v + fib (suc (suc n)) ≤ b → Reaching b n (pos (G v)) (pos v)
-reaching-pair b n v h =
-    reaching-near b n 0 v (pos (G v)) (pos v) (omega (arith, ap (λ (i : ℕ). fib (suc (suc i))) (zero-add n)))
-    (record { above = omega (arith, fib-positive 1); below = omega (arith, fib-positive 1) })
-    (record { above = omega (arith, fib-positive 0); below = omega (arith, fib-positive 0) })
+pub reaching_pair : (b n v : ℕ) → v + fib (suc (suc n)) ≤ b → Reaching b n (pos (G v)) (pos v)
+reaching_pair b n v h =
+    reaching_near b n 0 v (pos (G v)) (pos v) (omega (arith, ap (λ (i : ℕ). fib (suc (suc i))) (zero-add n)))
+    (record { above = omega (arith, fib_positive 1); below = omega (arith, fib_positive 1) })
+    (record { above = omega (arith, fib_positive 0); below = omega (arith, fib_positive 0) })

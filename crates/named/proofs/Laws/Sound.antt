@@ -10,57 +10,57 @@ use Rattle.tape.specs.declared.Step.{Step}
 use Rattle.tape.specs.declared.Step.TheVariants.{Mul, Swp}
 use Rattle.tape.specs.Steps.{Distinct, Sound, AllSound}
 use Rattle.machine.specs.Machine.{inverted}
-use Rattle.machine.proofs.Laws.Steps.{sound-append, sound-inverted}
+use Rattle.machine.proofs.Laws.Steps.{sound_append, sound_inverted}
 use Rattle.named.specs.declared.Figure.{Figure}
 use Rattle.named.specs.declared.Figure.TheVariants.{Two, Four, Six}
-use Rattle.named.specs.Generators.{select, lowest, higher, ascend, chain, downSteps, descend, basic, dual, hybrid, drawn}
+use Rattle.named.specs.Generators.{select, lowest, higher, ascend, chain, down_steps, descend, basic, dual, hybrid, drawn}
 
 apart : (t s : ℕ) → T (ltb t 4) → T (ltb s 4) → T (not (eqb t s)) → Distinct t s
 apart t s ht hs ne =
-    record { target-is-one = ltb→lt t 4 ht; source-is-one = ltb→lt s 4 hs; differ = λ e. T_not (eqb t s) ne (rw (← e) (eqb_refl t)) }
+    record { target_is_one = ltb→lt t 4 ht; source_is_one = ltb→lt s 4 hs; differ = λ e. T_not (eqb t s) ne (rw (← e) (eqb_refl t)) }
 
-mul-sound : (t s : ℕ) → T (ltb t 4) → T (ltb s 4) → T (not (eqb t s)) → Sound (Mul t s)
-mul-sound t s ht hs ne = apart t s ht hs ne
+mul_sound : (t s : ℕ) → T (ltb t 4) → T (ltb s 4) → T (not (eqb t s)) → Sound (Mul t s)
+mul_sound t s ht hs ne = apart t s ht hs ne
 
-swp-sound : (t s : ℕ) → T (ltb t 4) → T (ltb s 4) → T (not (eqb t s)) → T (ltb t s) → Sound (Swp t s)
-swp-sound t s ht hs ne less = (apart t s ht hs ne, ltb→lt t s less)
+swp_sound : (t s : ℕ) → T (ltb t 4) → T (ltb s 4) → T (not (eqb t s)) → T (ltb t s) → Sound (Swp t s)
+swp_sound t s ht hs ne less = (apart t s ht hs ne, ltb→lt t s less)
 
-sound-select : (b : Bool) (x : Step) (xs : List Step) → Sound x → AllSound xs → AllSound (select b x xs)
-sound-select true x xs s a = (s, a)
-sound-select false x xs s a = a
+sound_select : (b : Bool) (x : Step) (xs : List Step) → Sound x → AllSound xs → AllSound (select b x xs)
+sound_select true x xs s a = (s, a)
+sound_select false x xs s a = a
 
-pub sound-ascend : (ss ts : List Bool) → AllSound (ascend ss ts)
+pub sound_ascend : (ss ts : List Bool) → AllSound (ascend ss ts)
 unfolding ascend
-sound-ascend [] ts = tt
-sound-ascend (s ∷ ss) ts = (
-  mul-sound 0 1 tt tt tt,
+sound_ascend [] ts = tt
+sound_ascend (s ∷ ss) ts = (
+  mul_sound 0 1 tt tt tt,
   (
-    swp-sound 0 1 tt tt tt tt,
-    sound-select s (Mul 2 1) _ (mul-sound 2 1 tt tt tt)
-        (sound-select (lowest ts) (Mul 3 1) _ (mul-sound 3 1 tt tt tt) (sound-ascend ss (higher ts))),
+    swp_sound 0 1 tt tt tt tt,
+    sound_select s (Mul 2 1) _ (mul_sound 2 1 tt tt tt)
+        (sound_select (lowest ts) (Mul 3 1) _ (mul_sound 3 1 tt tt tt) (sound_ascend ss (higher ts))),
   ),
 )
 
-sound-descend : (bs : List Bool) → AllSound (descend bs)
+sound_descend : (bs : List Bool) → AllSound (descend bs)
 unfolding descend
-sound-descend [] = tt
-sound-descend (b ∷ bs) =
-    sound-append (descend bs) (downSteps b) (sound-descend bs)
-    (sound-select b _ _ (mul-sound _ _ tt tt tt) (mul-sound 1 2 tt tt tt, (swp-sound 1 2 tt tt tt tt, tt)))
+sound_descend [] = tt
+sound_descend (b ∷ bs) =
+    sound_append (descend bs) (down_steps b) (sound_descend bs)
+    (sound_select b _ _ (mul_sound _ _ tt tt tt) (mul_sound 1 2 tt tt tt, (swp_sound 1 2 tt tt tt tt, tt)))
 
-pub sound-drawn : (figure : Figure) (ss ts Ss Ts : List Bool) → AllSound (drawn figure ss ts Ss Ts)
+pub sound_drawn : (figure : Figure) (ss ts Ss Ts : List Bool) → AllSound (drawn figure ss ts Ss Ts)
 unfolding drawn basic dual hybrid
-sound-drawn Two ks ts Ks Ts =
-    sound-append (ascend ks []) _ (sound-ascend ks [])
-    (sound-append (inverted (chain (length ks))) _ (sound-inverted (chain (length ks)) (sound-ascend (pad (length ks) []) [])) (
-      swp-sound 1 2 tt tt tt tt,
-      sound-append (chain (length Ks)) _ (sound-ascend (pad (length Ks) []) []) (sound-inverted (ascend Ks []) (sound-ascend Ks [])),
+sound_drawn Two ks ts Ks Ts =
+    sound_append (ascend ks []) _ (sound_ascend ks [])
+    (sound_append (inverted (chain (length ks))) _ (sound_inverted (chain (length ks)) (sound_ascend (pad (length ks) []) [])) (
+      swp_sound 1 2 tt tt tt tt,
+      sound_append (chain (length Ks)) _ (sound_ascend (pad (length Ks) []) []) (sound_inverted (ascend Ks []) (sound_ascend Ks [])),
     ))
-sound-drawn Four ss ts Ss Ts =
-    sound-append (ascend ss ts) _ (sound-ascend ss ts)
-    (swp-sound 0 2 tt tt tt tt, (swp-sound 1 3 tt tt tt tt, sound-inverted (ascend Ss Ts) (sound-ascend Ss Ts)))
-sound-drawn Six vs ts Ks Ts = (
-  swp-sound 0 1 tt tt tt tt,
-  sound-append (descend vs) _ (sound-descend vs)
-      (swp-sound 0 1 tt tt tt tt, (swp-sound 1 2 tt tt tt tt, sound-inverted (ascend Ks []) (sound-ascend Ks []))),
+sound_drawn Four ss ts Ss Ts =
+    sound_append (ascend ss ts) _ (sound_ascend ss ts)
+    (swp_sound 0 2 tt tt tt tt, (swp_sound 1 3 tt tt tt tt, sound_inverted (ascend Ss Ts) (sound_ascend Ss Ts)))
+sound_drawn Six vs ts Ks Ts = (
+  swp_sound 0 1 tt tt tt tt,
+  sound_append (descend vs) _ (sound_descend vs)
+      (swp_sound 0 1 tt tt tt tt, (swp_sound 1 2 tt tt tt tt, sound_inverted (ascend Ks []) (sound_ascend Ks []))),
 )

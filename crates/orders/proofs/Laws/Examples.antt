@@ -3,13 +3,13 @@ use mathlib.Core.Path.{◌≡◌, refl}
 use mathlib.Core.Bool.{true, false}
 use mathlib.Core.List.{[], ◌∷◌}
 use Rattle.divisors.specs.Search.{greatest}
-use Rattle.modular.specs.Primes.{isPrime}
+use Rattle.modular.specs.Primes.{is_prime}
 use Rattle.orders.specs.Orders.{is_order}
-use Rattle.orders.specs.PrimeDivisors.{primesTo, primesOf}
+use Rattle.orders.specs.PrimeDivisors.{primes_to, primes_of}
 
 -- In order: 4 has order 179, and not 358, though 358 gives 1; 7 has order 358, and 179 doesn't give 1; 358 has order 2; 1 has order 1, and neither
 -- 179 nor 0.
-pub orders-359 : (is_order 359 4 179 ≡ true)
+pub orders_359 : (is_order 359 4 179 ≡ true)
     × (is_order 359 4 358 ≡ false)
     × (is_order 359 7 358 ≡ true)
     × (is_order 359 7 179 ≡ false)
@@ -18,14 +18,14 @@ pub orders-359 : (is_order 359 4 179 ≡ true)
     × (is_order 359 1 179 ≡ false)
     × (is_order 359 1 0 ≡ false)
 unfolding is_order greatest
-orders-359 = (refl, refl, refl, refl, refl, refl, refl, refl)
+orders_359 = (refl, refl, refl, refl, refl, refl, refl, refl)
 
-pub prime-divisors : (primesOf 0 ≡ [])
-    × (primesOf 1 ≡ [])
-    × (primesOf 2 ≡ 2 ∷ [])
-    × (primesOf 64 ≡ 2 ∷ [])
-    × (primesOf 179 ≡ 179 ∷ [])
-    × (primesOf 358 ≡ 2 ∷ 179 ∷ [])
-    × (primesOf 360 ≡ 2 ∷ 3 ∷ 5 ∷ [])
-unfolding primesTo isPrime greatest
-prime-divisors = (refl, refl, refl, refl, refl, refl, refl)
+pub prime_divisors : (primes_of 0 ≡ [])
+    × (primes_of 1 ≡ [])
+    × (primes_of 2 ≡ 2 ∷ [])
+    × (primes_of 64 ≡ 2 ∷ [])
+    × (primes_of 179 ≡ 179 ∷ [])
+    × (primes_of 358 ≡ 2 ∷ 179 ∷ [])
+    × (primes_of 360 ≡ 2 ∷ 3 ∷ 5 ∷ [])
+unfolding primes_to is_prime greatest
+prime_divisors = (refl, refl, refl, refl, refl, refl, refl)

@@ -4,18 +4,18 @@ use Prim.Native.Nat.{ℕ, ◌+◌, ◌%◌, ◌≤◌, ◌<◌, ◌∣◌}
 use native.Mathlib.Nat.{dvd_of_mod-eq-zero, dvd_refl, dvd_trans, mod-eq-zero_of_dvd, mod_self}
 use native.Mathlib.Omega.{arith}
 use native.Mathlib.Decide.{dec_lt, ℕ_discrete}
-use Rattle.divisors.proofs.Laws.Quotients.{no-multiple}
+use Rattle.divisors.proofs.Laws.Quotients.{no_multiple}
 use Rattle.modular.specs.Primes.{Prime}
 use Rattle.orders.specs.Inner.Least.{LeastDivisor}
 
-pub least-prime : {n d : ℕ} → LeastDivisor n d → Prime d
-least-prime l = record { least = l.low; only = λ e low high h. l.least e low high (dvd_trans e h l.divides) }
+pub least_prime : {n d : ℕ} → LeastDivisor n d → Prime d
+least_prime l = record { least = l.low; only = λ e low high h. l.least e low high (dvd_trans e h l.divides) }
 
-pub prime-least : (n : ℕ) → Prime n → LeastDivisor n n
-prime-least n pr = record { low = pr.least; divides = dvd_refl n; least = pr.only }
+pub prime_least : (n : ℕ) → Prime n → LeastDivisor n n
+prime_least n pr = record { low = pr.least; divides = dvd_refl n; least = pr.only }
 
-pub two-least : (n : ℕ) → n % 2 ≡ 0 → LeastDivisor n 2
-two-least n even = record { low = omega arith; divides = dvd_of_mod-eq-zero 2 even; least = λ e low high h. omega arith }
+pub two_least : (n : ℕ) → n % 2 ≡ 0 → LeastDivisor n 2
+two_least n even = record { low = omega arith; divides = dvd_of_mod-eq-zero 2 even; least = λ e low high h. omega arith }
 
 -- nothing from 2 up to d, which is odd and at most n, divides n
 pub record Passed (n d : ℕ) : Type 0 where
@@ -24,15 +24,15 @@ pub record Passed (n d : ℕ) : Type 0 where
   pub high : d ≤ n
   pub none : (e : ℕ) → 2 ≤ e → e < d → ¬ (e ∣ n)
 
-pub passed-found : (n d : ℕ) → Passed n d → n % d ≡ 0 → LeastDivisor n d
-passed-found n d s e = record { low = omega (arith, s.low); divides = dvd_of_mod-eq-zero d e; least = s.none }
+pub passed_found : (n d : ℕ) → Passed n d → n % d ≡ 0 → LeastDivisor n d
+passed_found n d s e = record { low = omega (arith, s.low); divides = dvd_of_mod-eq-zero d e; least = s.none }
 
 module _ (n : ℕ) (odd : ¬ (n % 2 ≡ 0)) where
-  pub passed-starts : 2 ≤ n → Passed n 3
-  passed-starts two = record { odd = refl; low = omega arith; high = omega arith; none = λ e low high. no-multiple n 2 e odd (omega arith) }
+  pub passed_starts : 2 ≤ n → Passed n 3
+  passed_starts two = record { odd = refl; low = omega arith; high = omega arith; none = λ e low high. no_multiple n 2 e odd (omega arith) }
 
-  pub passed-more : (d : ℕ) → Passed n d → ¬ (n % d ≡ 0) → Passed n (d + 2)
-  passed-more d s other =
+  pub passed_more : (d : ℕ) → Passed n d → ¬ (n % d ≡ 0) → Passed n (d + 2)
+  passed_more d s other =
       let less : ¬ (d ≡ n) = λ e. other (ap (λ (x : ℕ). n % x) e ∙ mod_self n) in
       record { odd = omega (arith, s.odd); low = omega (arith, s.low); high = omega (arith, s.odd, s.high); none = none }
     where
@@ -43,6 +43,6 @@ module _ (n : ℕ) (odd : ¬ (n % 2 ≡ 0)) where
             | no l ↦
                 elim (ℕ_discrete e d) [
                   | yes same ↦ other (mod-eq-zero_of_dvd d (subst (λ (x : ℕ). x ∣ n) same h))
-                  | no more ↦ no-multiple n 2 e odd (omega (arith, s.odd)) h
+                  | no more ↦ no_multiple n 2 e odd (omega (arith, s.odd)) h
                 ]
           ]

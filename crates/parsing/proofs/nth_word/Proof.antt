@@ -3,14 +3,14 @@ use mathlib.Core.Path.{◌≡◌}
 use native.Mathlib.Omega.{arith}
 use borrow.Author.Rules.{rules}
 use Prim.Native.Nat.{◌-◌}
-use Rattle.text.proofs.Laws.Words.{left, end-inside, word_at}
+use Rattle.text.proofs.Laws.Words.{left, end_inside, word_at}
 use Rattle.parsing.proofs.nth_word.Statement.{statement}
 use Rattle.parsing.proofs.nth_word.Tie as tie
 
 part-result-end : tie.Need-slice-bounds-result-end
 part-result-end c =
     let begin = c.before in
-    omega (arith, c.word-end.ensures, end-inside begin.before.before.args.arguments.now begin.word-begin.result begin.word-begin.ensures.0)
+    omega (arith, c.word-end.ensures, end_inside begin.before.before.args.arguments.now begin.word-begin.result begin.word-begin.ensures.0)
 
 returns : tie.Need-returns
 returns c =

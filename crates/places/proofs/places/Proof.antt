@@ -2,20 +2,20 @@
 use Rattle.std.proofs.Common.{◌≡◌, ℕ, ◌<◌, ◌≤◌, List, [], ◌++◌, length, take, drop, sym, ap, ◌∙◌, arith, length-append, take_at, rules, le-ltb, lt-ltb}
 use Rattle.refusal.specs.declared.Refusal.TheVariants.{Room}
 use Rattle.refusal.specs.Outcomes.{refused, answered, gives, passes, answers, row_kept, row_written}
-use Rattle.fibonacci.specs.Services.{places_of, formRow, placesOutcome, placesBuffer}
+use Rattle.fibonacci.specs.Services.{places_of, form_row, places_outcome, places_buffer}
 use Rattle.places.proofs.places.Statement.{statement}
 use Rattle.places.proofs.places.Tie as tie
 
-short : (n room : ℕ) → room < length (places_of n) → placesOutcome n room ≡ refused 5
-unfolding placesOutcome
+short : (n room : ℕ) → room < length (places_of n) → places_outcome n room ≡ refused 5
+unfolding places_outcome
 short n room h = gives Room [] (length (places_of n)) (lt-ltb room (length (places_of n)) h)
 
-enough : (n room : ℕ) → length (places_of n) ≤ room → placesOutcome n room ≡ answered (length (places_of n))
-unfolding placesOutcome
+enough : (n room : ℕ) → length (places_of n) ≤ room → places_outcome n room ≡ answered (length (places_of n))
+unfolding places_outcome
 enough n room h = passes Room [] (length (places_of n)) (le-ltb room (length (places_of n)) h) ∙ answers (length (places_of n))
 
 -- the list stands at the front of the buffer that holds the form
-front : (n count : ℕ) (buffer : List ℕ) → count ≡ length (places_of n) → buffer ≡ formRow n → take count buffer ≡ places_of n
+front : (n count : ℕ) (buffer : List ℕ) → count ≡ length (places_of n) → buffer ≡ form_row n → take count buffer ≡ places_of n
 front n count buffer e f = rw f (take_at (places_of n) _ count (sym e))
 
 -- what the form's buffer holds up to its count
@@ -23,7 +23,7 @@ listed : (c : tie.After-zeckendorf) → take c.zeckendorf.result.count c.zeckend
 listed c = front _ _ _ c.zeckendorf.ensures.0 c.zeckendorf.ensures.1
 
 returns : tie.Need-returns
-unfolding placesBuffer
+unfolding places_buffer
 returns c =
     let n = c.before.before.before.before.args.n in
     let buffer = c.before.before.before.before.args.buffer.now in
@@ -42,7 +42,7 @@ copy-to-front-requires : tie.Need-copy-to-front-requires
 copy-to-front-requires c κs = omega (arith, c.before.before.before.before.zeckendorf.ensures.0, ap length (listed c.before.before.before.before))
 
 returns-2 : tie.Need-returns-2
-unfolding placesBuffer
+unfolding places_buffer
 returns-2 c =
     let z = c.before.before.before.before.before.before.before in
     let n = z.before.before.args.n in

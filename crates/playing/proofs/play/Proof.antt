@@ -7,29 +7,29 @@ use native.Mathlib.Omega.{arith}
 use borrow.Author.Rules.{rules}
 use lib.ListN.{length, get_or, set, drop}
 use lib.Seq.{sets}
-use Rattle.refusal.specs.Outcomes.{Outcome, refusalNumber, after}
+use Rattle.refusal.specs.Outcomes.{Outcome, refusal_number, after}
 use Rattle.tape.specs.Layout.{part}
-use Rattle.sequencer.specs.Records.{Record, recordOf}
-use Rattle.sequencer.specs.Services.{runOutcome}
-use Rattle.sequencer.specs.Lists.{Request, afterAll, numbersAll, requestsOf}
+use Rattle.sequencer.specs.Records.{Record, record_of}
+use Rattle.sequencer.specs.Services.{run_outcome}
+use Rattle.sequencer.specs.Lists.{Request, after_all, numbers_all, requests_of}
 use Rattle.sequencer.specs.Demand.{ChainEnds, RewindEnds}
-use Rattle.sequencer.proofs.Laws.Requests.{after_next, after_last, numbers-next, numbers-last}
-use Rattle.sequencer.proofs.Laws.Chains.{chain-ends}
-use Rattle.sequencer.proofs.Laws.Rewinds.{rewind-ends}
+use Rattle.sequencer.proofs.Laws.Requests.{after_next, after_last, numbers_next, numbers_last}
+use Rattle.sequencer.proofs.Laws.Chains.{chain_ends_lem}
+use Rattle.sequencer.proofs.Laws.Rewinds.{rewind_ends_lem}
 use Rattle.playing.proofs.play.Statement.{statement}
 use Rattle.playing.proofs.play.Tie as tie
 
-said : (qs : List Request) (s last : Record) (row numbers : List ℕ) → last ≡ afterAll qs s → numbers ≡ sets row 0 (numbersAll qs s)
-    → (last ≡ afterAll qs s) × ((numbers ≡ sets row 0 (numbersAll qs s)) × (ChainEnds qs s numbers last × RewindEnds qs s numbers last))
-said qs s last row numbers e f = rw (e, f) (refl, (refl, (chain-ends qs s row, rewind-ends qs s row)))
+said : (qs : List Request) (s last : Record) (row numbers : List ℕ) → last ≡ after_all qs s → numbers ≡ sets row 0 (numbers_all qs s)
+    → (last ≡ after_all qs s) × ((numbers ≡ sets row 0 (numbers_all qs s)) × (ChainEnds qs s numbers last × RewindEnds qs s numbers last))
+said qs s last row numbers e f = rw (e, f) (refl, (refl, (chain_ends_lem qs s row, rewind_ends_lem qs s row)))
 
 abbrev invariant-loop : tie.invariant-loop
 invariant-loop tapes requests numbers₀ after₀ i₀ n₀ numbers now i n =
     (i ≤ length requests)
     × (4 * n ≡ i)
     × (length numbers ≡ length numbers₀)
-    × (afterAll (requestsOf tapes (drop i requests)) (recordOf now) ≡ afterAll (requestsOf tapes requests) (recordOf after₀))
-    × (sets numbers n (numbersAll (requestsOf tapes (drop i requests)) (recordOf now)) ≡ sets numbers₀ 0 (numbersAll (requestsOf tapes requests) (recordOf after₀)))
+    × (after_all (requests_of tapes (drop i requests)) (record_of now) ≡ after_all (requests_of tapes requests) (record_of after₀))
+    × (sets numbers n (numbers_all (requests_of tapes (drop i requests)) (record_of now)) ≡ sets numbers₀ 0 (numbers_all (requests_of tapes requests) (record_of after₀)))
 
 abbrev decreases-loop : tie.decreases-loop
 decreases-loop tapes requests numbers₀ after₀ i₀ n₀ numbers after i n = length requests - i
@@ -47,16 +47,16 @@ loop-again c =
     let tapes = start.tapes.now in
     let requests = start.requests.now in
     let i = at.loop.i in
-    let s = recordOf at.loop.after in
+    let s = record_of at.loop.after in
     let tape = part tapes (get_or requests i 0) (get_or requests (i + 1) 0) in
-    let answer = ran.run-part.ensures ∙ ap (λ (t : Record). runOutcome tape t (get_or requests (i + 3) 0)) turn.turned.ensures in
+    let answer = ran.run-part.ensures ∙ ap (λ (t : Record). run_outcome tape t (get_or requests (i + 3) 0)) turn.turned.ensures in
     let left = c.after_run.ensures ∙ ap₂ (λ (o : Outcome Record) (t : Record). after o t) answer turn.turned.ensures in
-    let number = noted.note.ensures ∙ ap (λ (o : Outcome Record). set at.loop.numbers at.loop.n (refusalNumber o)) answer in (
+    let number = noted.note.ensures ∙ ap (λ (o : Outcome Record). set at.loop.numbers at.loop.n (refusal_number o)) answer in (
       omega arith,
       omega (arith, at.loop.invariant.1),
       noted.note.auto.0 ∙ at.loop.invariant.2,
       after_next tapes requests i s _ (omega arith) left ∙ at.loop.invariant.3,
-      numbers-next tapes requests i s _ (omega arith) _ _ at.loop.n left number ∙ at.loop.invariant.4,
+      numbers_next tapes requests i s _ (omega arith) _ _ at.loop.n left number ∙ at.loop.invariant.4,
     )
 
 same_length : tie.Need-same-length invariant-loop decreases-loop
@@ -68,9 +68,9 @@ returns c =
     let at = c.before.loop in
     let tapes = start.tapes.now in
     let requests = start.requests.now in
-    let s = recordOf at.after in
-    said (requestsOf tapes requests) (recordOf start.state) _ start.numbers.now _
-    (sym (after_last tapes requests at.i s (omega arith)) ∙ at.invariant.3) (sym (numbers-last tapes requests at.i s (omega arith) at.numbers at.n) ∙ at.invariant.4)
+    let s = record_of at.after in
+    said (requests_of tapes requests) (record_of start.state) _ start.numbers.now _
+    (sym (after_last tapes requests at.i s (omega arith)) ∙ at.invariant.3) (sym (numbers_last tapes requests at.i s (omega arith) at.numbers at.n) ∙ at.invariant.4)
 
 pub play-spec : {M : Type 1} → statement M
 play-spec =

@@ -6,17 +6,17 @@ use native.Mathlib.Omega.{arith}
 use borrow.Author.Rules.{rules}
 use borrow.Author.Tests.{eq-eqb, ne_eqb}
 use lib.ListN.{length, drop}
-use Rattle.tape.specs.Inner.Operations.{rawSteps}
-use Rattle.tape.proofs.Laws.Rows.{raw-count, raw_nth}
-use Rattle.machine.specs.Ways.{countWhere}
-use Rattle.machine.specs.Inner.Kinds.{isKind}
-use Rattle.machine.proofs.Laws.Counts.{count_next, count-end, kind-by}
+use Rattle.tape.specs.Inner.Operations.{raw_steps}
+use Rattle.tape.proofs.Laws.Rows.{raw_count, raw_nth}
+use Rattle.machine.specs.Ways.{count_where}
+use Rattle.machine.specs.Inner.Kinds.{is_kind}
+use Rattle.machine.proofs.Laws.Counts.{count_next, count_end, kind_by}
 use Rattle.previewing.proofs.count_kind.Statement.{statement}
 use Rattle.previewing.proofs.count_kind.Tie as tie
 
 abbrev invariant-loop : tie.invariant-loop
 invariant-loop words opcode n₀ i₀ n i =
-    (i ≤ length words) × (n ≤ i) × (n + countWhere (isKind opcode) (drop i (rawSteps words)) ≡ countWhere (isKind opcode) (rawSteps words))
+    (i ≤ length words) × (n ≤ i) × (n + count_where (is_kind opcode) (drop i (raw_steps words)) ≡ count_where (is_kind opcode) (raw_steps words))
 
 abbrev decreases-loop : tie.decreases-loop
 decreases-loop words opcode n₀ i₀ n i = length words - i
@@ -36,8 +36,8 @@ loop-again c =
     let k = start.args.opcode in
     let i = at.loop.i in
     let op = read.operation-of.result in
-    let same = ap (isKind k) (raw_nth words i ∙ sym read.operation-of.ensures) ∙ kind-by k op.opcode op.target op.source start.requires.1 in
-    let next = count_next (isKind k) (rawSteps words) i _ (omega (arith, raw-count words)) _ same in
+    let same = ap (is_kind k) (raw_nth words i ∙ sym read.operation-of.ensures) ∙ kind_by k op.opcode op.target op.source start.requires.1 in
+    let next = count_next (is_kind k) (raw_steps words) i _ (omega (arith, raw_count words)) _ same in
     elim c.if1.branch [
       | inl t ↦ (omega arith, omega (arith, t.1), omega (arith, t.1, rw (eq-eqb _ _ t.0.taken) at next, at.loop.invariant.2))
       | inr t ↦ (omega arith, omega (arith, t.1), omega (arith, t.1, rw (ne_eqb _ _ t.0.left) at next, at.loop.invariant.2))
@@ -47,7 +47,7 @@ returns : tie.Need-returns invariant-loop decreases-loop
 returns c =
     let start = c.before.before.before in
     let words = start.args.words.now in
-    let none = count-end (isKind start.args.opcode) (rawSteps words) c.before.loop.i (omega (arith, raw-count words)) in
+    let none = count_end (is_kind start.args.opcode) (raw_steps words) c.before.loop.i (omega (arith, raw_count words)) in
     omega (arith, none, c.before.loop.invariant.2)
 
 pub count-kind-spec : {M : Type 1} → statement M

@@ -3,9 +3,9 @@ use Prim.Native.Nat.{◌-◌, ◌≤◌}
 use native.Mathlib.Omega.{arith}
 use borrow.Author.Rules.{rules}
 use lib.ListN.{length}
-use Rattle.tape.specs.Inner.Operations.{rawSteps}
-use Rattle.tape.proofs.Laws.Rows.{raw-count}
-use Rattle.machine.proofs.Laws.Counts.{kinds-within, counts-by-kinds}
+use Rattle.tape.specs.Inner.Operations.{raw_steps}
+use Rattle.tape.proofs.Laws.Rows.{raw_count}
+use Rattle.machine.proofs.Laws.Counts.{kinds_within, counts_by_kinds}
 use Rattle.previewing.proofs.count_steps.Statement.{statement}
 use Rattle.previewing.proofs.count_steps.Tie as tie
 
@@ -14,9 +14,9 @@ within : (c : tie.After-count-kind2) → (c.before.count-kind.result ≤ length 
     × (c.count-kind2.result ≤ length c.before.before.before.args.words.now - c.before.count-kind.result)
 within c =
     let words = c.before.before.before.args.words.now in
-    let most = kinds-within (rawSteps words) in (
-      omega (arith, most, raw-count words, c.before.count-kind.ensures, c.count-kind2.ensures),
-      omega (arith, most, raw-count words, c.before.count-kind.ensures, c.count-kind2.ensures),
+    let most = kinds_within (raw_steps words) in (
+      omega (arith, most, raw_count words, c.before.count-kind.ensures, c.count-kind2.ensures),
+      omega (arith, most, raw_count words, c.before.count-kind.ensures, c.count-kind2.ensures),
     )
 
 sub-t6 : tie.Need-overflow-sub-t6
@@ -28,7 +28,7 @@ sub-t7 c = (within c).1
 returns : tie.Need-returns
 returns c =
     let words = c.before.before.before.args.words.now in
-    rw (c.before.count-kind.ensures, c.count-kind2.ensures, ← raw-count words) (counts-by-kinds (rawSteps words))
+    rw (c.before.count-kind.ensures, c.count-kind2.ensures, ← raw_count words) (counts_by_kinds (raw_steps words))
 
 pub count-steps-spec : {M : Type 1} → statement M
 count-steps-spec =

@@ -4,11 +4,11 @@ use mathlib.Core.List.{List}
 use Prim.Native.Nat.{ℕ}
 use native.Mathlib.Omega.{arith}
 use borrow.Author.Rules.{rules}
-use Rattle.tape.specs.Inner.Operations.{rawSteps}
+use Rattle.tape.specs.Inner.Operations.{raw_steps}
 use Rattle.tape.proofs.Laws.Rows.{part_length}
-use Rattle.machine.specs.Ways.{countsOf}
+use Rattle.machine.specs.Ways.{counts_of}
 use Rattle.machine.proofs.Laws.Counts.{exchanged}
-use Rattle.sequencer.proofs.Laws.Previews.{counts-forward, counts-backward}
+use Rattle.sequencer.proofs.Laws.Previews.{counts_forward, counts_backward}
 use Rattle.previewing.proofs.count_way.Statement.{statement}
 use Rattle.previewing.proofs.count_way.Tie as tie
 
@@ -19,8 +19,8 @@ returns : tie.Need-returns
 returns c =
     let start = c.before.before.before.before in
     c.count-steps.ensures
-    ∙ ap (λ (l : List ℕ). countsOf (rawSteps l)) c.before.part.ensures
-    ∙ counts-forward start.args.words.now _ _ start.requires.0 c.before.before.if1.true
+    ∙ ap (λ (l : List ℕ). counts_of (raw_steps l)) c.before.part.ensures
+    ∙ counts_forward start.args.words.now _ _ start.requires.0 c.before.before.if1.true
 
 count-steps-requires-2 : tie.Need-count-steps-requires-2
 count-steps-requires-2 c κs = let start = c.before.before.before in rw c.part2.ensures (omega (arith, part_length start.args.words.now start.args.to start.args.from, start.requires.1))
@@ -28,8 +28,8 @@ count-steps-requires-2 c κs = let start = c.before.before.before in rw c.part2.
 returns-2 : tie.Need-returns-2
 returns-2 c =
     let start = c.before.before.before.before in
-    ap exchanged (c.count-steps2.ensures ∙ ap (λ (l : List ℕ). countsOf (rawSteps l)) c.before.part2.ensures)
-    ∙ counts-backward start.args.words.now _ _ start.requires.0 (omega arith)
+    ap exchanged (c.count-steps2.ensures ∙ ap (λ (l : List ℕ). counts_of (raw_steps l)) c.before.part2.ensures)
+    ∙ counts_backward start.args.words.now _ _ start.requires.0 (omega arith)
 
 pub count-way-spec : {M : Type 1} → statement M
 count-way-spec =

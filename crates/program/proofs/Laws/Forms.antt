@@ -10,207 +10,207 @@ use lib.ListN.{length, take, replicate, length-map}
 use Rattle.modular.specs.Residues.{remainder}
 use Rattle.modular.specs.Inverses.{inverse}
 use Rattle.modular.proofs.Laws.Residues.{remainder_is}
-use Rattle.modular.proofs.Laws.Inverses.{good-exponent, inverse-order}
+use Rattle.modular.proofs.Laws.Inverses.{good_exponent_lem, inverse_order}
 use Rattle.fibonacci.specs.declared.BitString.{BitString}
 use Rattle.fibonacci.specs.Fibonacci.{fib, odd}
 use Rattle.fibonacci.specs.Forms.{pad, zeckendorf, ones}
-use Rattle.fibonacci.specs.Height.{height, oddHeight}
-use Rattle.fibonacci.specs.Solutions.{solutionOrZero}
-use Rattle.fibonacci.specs.Services.{fibonacciOrZero, bit, bitRow, places_of}
-use Rattle.fibonacci.proofs.Laws.Fibonacci.{fib-monotone, odd-one, odd-zero, fibonacci-below-94}
-use Rattle.fibonacci.proofs.Laws.Forms.{pad-length, ones-pad, ones-places}
-use Rattle.fibonacci.proofs.Laws.Zeckendorf.{zeckendorf-count-64}
-use Rattle.fibonacci.proofs.Laws.BitStrings.{take-bits}
-use Rattle.fibonacci.proofs.Laws.Height.{zeckendorf-height, height-28, odd-height-is}
-use Rattle.fibonacci.proofs.Laws.Lengths.{multiple-64}
-use Rattle.fibonacci.proofs.Laws.Solving.{solution-below}
-use Rattle.tape.specs.Words.{stepWord}
+use Rattle.fibonacci.specs.Height.{height, odd_height}
+use Rattle.fibonacci.specs.Solutions.{solution_or_zero}
+use Rattle.fibonacci.specs.Services.{fibonacci_or_zero, bit, bit_row, places_of}
+use Rattle.fibonacci.proofs.Laws.Fibonacci.{fib_monotone, odd_one, odd_zero, fibonacci_below_94}
+use Rattle.fibonacci.proofs.Laws.Forms.{pad_length, ones_pad, ones_places}
+use Rattle.fibonacci.proofs.Laws.Zeckendorf.{zeckendorf_count_64}
+use Rattle.fibonacci.proofs.Laws.BitStrings.{take_bits}
+use Rattle.fibonacci.proofs.Laws.Height.{zeckendorf_height, height_28, odd_height_is}
+use Rattle.fibonacci.proofs.Laws.Lengths.{multiple_64}
+use Rattle.fibonacci.proofs.Laws.Solving.{solution_below}
+use Rattle.tape.specs.Words.{step_word}
 use Rattle.named.specs.declared.Figure.{Figure}
 use Rattle.named.specs.declared.Figure.TheVariants.{Two, Four, Six}
-use Rattle.named.specs.Generators.{Forms, lone, generated, stepsFrom}
+use Rattle.named.specs.Generators.{Forms, lone, generated, steps_from}
 use Rattle.named.specs.Promises.{FormsFit}
-use Rattle.named.specs.Named.{dualForm, dualForms, hybridForms, modularForms, formsFor}
-use Rattle.named.proofs.Laws.Lengths.{generated-count}
+use Rattle.named.specs.Named.{dual_form, dual_forms, hybrid_forms, modular_forms, forms_for}
+use Rattle.named.proofs.Laws.Lengths.{generated_count}
 use Rattle.program.specs.declared.FormRows.{FormRows}
 use Rattle.program.specs.Inner.Forms.{Invertible, BitsOf, bits_of, rows_of, Whole, RowsFromTable}
-use Rattle.program.specs.Inner.Writing.{drawnWords}
-use Rattle.program.proofs.Laws.Writing.{drawn-words}
+use Rattle.program.specs.Inner.Writing.{drawn_words}
+use Rattle.program.proofs.Laws.Writing.{drawn_words_lem}
 
 -- ---- the row of a form
 
 -- what `bit_string` answers for n
 abbrev pub Answers : ℕ → BitString → Type 0
-Answers n b = (b.length ≡ length (zeckendorf n)) × ((b.bits ≡ bitRow n) × (b.count ≡ length (places_of n)))
+Answers n b = (b.length ≡ length (zeckendorf n)) × ((b.bits ≡ bit_row n) × (b.count ≡ length (places_of n)))
 
-pub bits-of : (n : ℕ) {b : BitString} → n < 2 ^ 64 → Answers n b → BitsOf n b
-bits-of n h a =
-    record { bits_are = a.1.0; count-is = a.1.1 ∙ ones-places 1 (zeckendorf n); few = omega (arith, a.1.1, zeckendorf-count-64 n h) }
+pub bits_of_lem : (n : ℕ) {b : BitString} → n < 2 ^ 64 → Answers n b → BitsOf n b
+bits_of_lem n h a =
+    record { bits_are = a.1.0; count_is = a.1.1 ∙ ones_places 1 (zeckendorf n); few = omega (arith, a.1.1, zeckendorf_count_64 n h) }
 
 -- a row of bits with a form's length and count
 pub record Holds (form : List Bool) (bits : List ℕ) (size count : ℕ) : Type 0 where
   pub bits_are : bits ≡ bits_of form
   pub size_is : size ≡ length form
-  pub count-is : count ≡ ones form
+  pub count_is : count ≡ ones form
 
 pub whole : (n : ℕ) {b : BitString} → Answers n b → Holds (zeckendorf n) b.bits b.length b.count
-whole n a = record { bits_are = a.1.0; size_is = a.0; count-is = a.1.1 ∙ ones-places 1 (zeckendorf n) }
+whole n a = record { bits_are = a.1.0; size_is = a.0; count_is = a.1.1 ∙ ones_places 1 (zeckendorf n) }
 
-pad-pad : (m n : ℕ) (bs : List Bool) → m ≤ n → pad n (pad m bs) ≡ pad n bs
+pad_pad : (m n : ℕ) (bs : List Bool) → m ≤ n → pad n (pad m bs) ≡ pad n bs
 unfolding pad
-pad-pad zero n bs h = refl
-pad-pad (suc m) zero bs h = absurd (omega arith)
-pad-pad (suc m) (suc n) [] h = ap (λ (l : List Bool). false ∷ l) (pad-pad m n [] (omega arith))
-pad-pad (suc m) (suc n) (b ∷ bs) h = ap (λ (l : List Bool). b ∷ l) (pad-pad m n bs (omega arith))
+pad_pad zero n bs h = refl
+pad_pad (suc m) zero bs h = absurd (omega arith)
+pad_pad (suc m) (suc n) [] h = ap (λ (l : List Bool). false ∷ l) (pad_pad m n [] (omega arith))
+pad_pad (suc m) (suc n) (b ∷ bs) h = ap (λ (l : List Bool). b ∷ l) (pad_pad m n bs (omega arith))
 
 pub padded : (n m : ℕ) {b : BitString} → m ≤ 92 → length (zeckendorf n) ≤ m → BitsOf n b → Holds (pad m (zeckendorf n)) b.bits m b.count
 padded n m high low b = record {
-  bits_are = b.bits_are ∙ ap (map bit) (sym (pad-pad m 92 (zeckendorf n) high));
-  size_is = sym (pad-length m (zeckendorf n) low);
-  count-is = b.count-is ∙ sym (ones-pad m (zeckendorf n));
+  bits_are = b.bits_are ∙ ap (map bit) (sym (pad_pad m 92 (zeckendorf n) high));
+  size_is = sym (pad_length m (zeckendorf n) low);
+  count_is = b.count_is ∙ sym (ones_pad m (zeckendorf n));
 }
 
 -- two rows with nothing beside them, and four
-pub lone-rows : (figure : Figure) {f g : List Bool} {first last : List ℕ} {m n c d : ℕ} → Holds f first m c → Holds g last n d
+pub lone_rows : (figure : Figure) {f g : List Bool} {first last : List ℕ} {m n c d : ℕ} → Holds f first m c → Holds g last n d
     → record { figure = figure; first = first; beside = replicate 92 0; last = last; beside_last = replicate 92 0; first_length = m; last_length = n; count = c + d }
     ≡ rows_of (lone figure f g)
 unfolding ones pad
-lone-rows figure {f} {g} {c = c} {d} h k =
-    let sum : c + d ≡ ones f + 0 + ones g + 0 = omega (arith, h.count-is, k.count-is) in
+lone_rows figure {f} {g} {c = c} {d} h k =
+    let sum : c + d ≡ ones f + 0 + ones g + 0 = omega (arith, h.count_is, k.count_is) in
     cc (h.bits_are, k.bits_are, h.size_is, k.size_is, sum)
 
-pub dual-rows : (r k : ℕ) {h c d c' d' : ℕ} {s t s' t' : List ℕ}
-    → Holds (dualForm r k (height r)) s h c → Holds (dualForm r k (suc (height r))) t h d
-    → Holds (dualForm r (inverse r k) (height r)) s' h c' → Holds (dualForm r (inverse r k) (suc (height r))) t' h d'
+pub dual_rows : (r k : ℕ) {h c d c' d' : ℕ} {s t s' t' : List ℕ}
+    → Holds (dual_form r k (height r)) s h c → Holds (dual_form r k (suc (height r))) t h d
+    → Holds (dual_form r (inverse r k) (height r)) s' h c' → Holds (dual_form r (inverse r k) (suc (height r))) t' h d'
     → record { figure = Four; first = s; beside = t; last = s'; beside_last = t'; first_length = h; last_length = h; count = c + d + c' + d' }
-    ≡ rows_of (dualForms r k)
-unfolding dualForms
-dual-rows r k s t s' t' =
-    cc (s.bits_are, t.bits_are, s'.bits_are, t'.bits_are, s.size_is, s'.size_is, s.count-is, t.count-is, s'.count-is, t'.count-is)
+    ≡ rows_of (dual_forms r k)
+unfolding dual_forms
+dual_rows r k s t s' t' =
+    cc (s.bits_are, t.bits_are, s'.bits_are, t'.bits_are, s.size_is, s'.size_is, s.count_is, t.count_is, s'.count_is, t'.count_is)
 
 -- ---- the words of forms in rows
 
-pad-same : (bs : List Bool) → pad (length bs) bs ≡ bs
+pad_same : (bs : List Bool) → pad (length bs) bs ≡ bs
 unfolding pad
-pad-same [] = refl
-pad-same (b ∷ bs) = ap (λ (l : List Bool). b ∷ l) (pad-same bs)
+pad_same [] = refl
+pad_same (b ∷ bs) = ap (λ (l : List Bool). b ∷ l) (pad_same bs)
 
 own_bits : (bs : List Bool) → length bs ≤ 92 → take (length bs) (bits_of bs) ≡ map bit bs
-own_bits bs h = take-bits (length bs) 92 bs h (omega arith) ∙ ap (map bit) (pad-same bs)
+own_bits bs h = take_bits (length bs) 92 bs h (omega arith) ∙ ap (map bit) (pad_same bs)
 
-bits-length : (bs : List Bool) → length bs ≤ 92 → length (bits_of bs) ≡ 92
-bits-length bs h = length-map (pad 92 bs) bit ∙ pad-length 92 bs h
+bits_length : (bs : List Bool) → length bs ≤ 92 → length (bits_of bs) ≡ 92
+bits_length bs h = length-map (pad 92 bs) bit ∙ pad_length 92 bs h
 
 module _ (f : Forms) (fits : FormsFit f) where
-  pub rows_words : drawnWords (rows_of f) ≡ map stepWord (generated f)
+  pub rows_words : drawn_words (rows_of f) ≡ map step_word (generated f)
   rows_words =
-      rw (own_bits f.first fits.first, take-bits (length f.first) 92 f.beside fits.first fits.beside)
-      (rw (own_bits f.last fits.last, take-bits (length f.last) 92 f.besideLast fits.last fits.besideLast)
-      (drawn-words f.figure f.first f.beside f.last f.besideLast fits.alone fits.aloneLast))
+      rw (own_bits f.first fits.first, take_bits (length f.first) 92 f.beside fits.first fits.beside)
+      (rw (own_bits f.last fits.last, take_bits (length f.last) 92 f.beside_last fits.last fits.beside_last)
+      (drawn_words_lem f.figure f.first f.beside f.last f.beside_last fits.alone fits.alone_last))
 
   pub rows_whole : Whole (rows_of f)
   rows_whole = record {
-    first = omega (arith, fits.first, bits-length f.first fits.first);
-    beside = omega (arith, fits.first, bits-length f.beside (omega (arith, fits.first, fits.beside)));
-    last = omega (arith, fits.last, bits-length f.last fits.last);
-    besideLast = omega (arith, fits.last, bits-length f.besideLast (omega (arith, fits.last, fits.besideLast)));
+    first = omega (arith, fits.first, bits_length f.first fits.first);
+    beside = omega (arith, fits.first, bits_length f.beside (omega (arith, fits.first, fits.beside)));
+    last = omega (arith, fits.last, bits_length f.last fits.last);
+    beside_last = omega (arith, fits.last, bits_length f.beside_last (omega (arith, fits.last, fits.beside_last)));
   }
 
 -- ---- the numbers
 
-pub weight-fits : {i f : ℕ} → i ≤ 42 → f ≡ fibonacciOrZero i → f < 2 ^ 32
+pub weight_fits : {i f : ℕ} → i ≤ 42 → f ≡ fibonacci_or_zero i → f < 2 ^ 32
 unfolding fib
-weight-fits {i} h e = omega (arith, fibonacci-below-94 e (omega arith), fib-monotone {m = i} {n = 42} h)
+weight_fits {i} h e = omega (arith, fibonacci_below_94 e (omega arith), fib_monotone {m = i} {n = 42} h)
 
 -- ℓ' as the code computes it
-odd-height : (r : ℕ) {h : ℕ} → h ≡ height r → h + 1 - h % 2 ≡ oddHeight r
-odd-height r e = rw (e, odd-height-is r) (go (odd (height r)) refl)
+odd_height_lem : (r : ℕ) {h : ℕ} → h ≡ height r → h + 1 - h % 2 ≡ odd_height r
+odd_height_lem r e = rw (e, odd_height_is r) (go (odd (height r)) refl)
   where
     go : (t : Bool) → odd (height r) ≡ t → height r + 1 - height r % 2 ≡ cond t (height r) (suc (height r))
-    go true o = omega (arith, odd-one (height r) o)
-    go false o = omega (arith, odd-zero (height r) o)
+    go true o = omega (arith, odd_one (height r) o)
+    go false o = omega (arith, odd_zero (height r) o)
 
 module _ {r k K : ℕ} (b : Invertible r k K) where
-  exponent-below : k < r
-  exponent-below = (good-exponent k r b.exponent).high
+  exponent_below : k < r
+  exponent_below = (good_exponent_lem k r b.exponent).high
 
-  inverse-below : K < r
-  inverse-below = rw b.inverse-is (inverse-order k r b.exponent).high
+  inverse_below : K < r
+  inverse_below = rw b.inverse_is (inverse_order k r b.exponent).high
 
-  pub height-small : {h : ℕ} → h ≡ height r → h ≤ 41
-  height-small e = omega (arith, height-28 r b.order)
+  pub height_small : {h : ℕ} → h ≡ height r → h ≤ 41
+  height_small e = omega (arith, height_28 r b.order)
 
   -- variant 2: the form of x × F_i modulo r
-  pub product-form : {h i f : ℕ} (x z j : ℕ) {b : BitString} → h ≡ height r → i ≤ 93 → i ≡ j → x ≡ z → f ≡ fibonacciOrZero i
-      → BitsOf (remainder (x * f) r) b → Holds (dualForm r z j) b.bits h b.count
-  product-form {f = f} x z j e low same from w held =
-      let some : 0 < r = omega (arith, exponent-below) in
-      let n-is : remainder (x * f) r ≡ z * fib j % r =
-      remainder_is (x * f) r some ∙ ap₂ (λ (m n : ℕ). m * n % r) from (fibonacci-below-94 w low ∙ ap fib same) in
+  pub product_form : {h i f : ℕ} (x z j : ℕ) {b : BitString} → h ≡ height r → i ≤ 93 → i ≡ j → x ≡ z → f ≡ fibonacci_or_zero i
+      → BitsOf (remainder (x * f) r) b → Holds (dual_form r z j) b.bits h b.count
+  product_form {f = f} x z j e low same from w held =
+      let some : 0 < r = omega (arith, exponent_below) in
+      let n_is : remainder (x * f) r ≡ z * fib j % r =
+      remainder_is (x * f) r some ∙ ap₂ (λ (m n : ℕ). m * n % r) from (fibonacci_below_94 w low ∙ ap fib same) in
       rw e
-      (padded (z * fib j % r) (height r) (omega (arith, height-28 r b.order))
-      (zeckendorf-height r (z * fib j % r) (mod-lt (z * fib j) some)) (rw n-is at held))
+      (padded (z * fib j % r) (height r) (omega (arith, height_28 r b.order))
+      (zeckendorf_height r (z * fib j % r) (mod-lt (z * fib j) some)) (rw n_is at held))
 
   -- variant 3
-  multiple-is : {h f : ℕ} → h ≡ height r → f ≡ fibonacciOrZero (h + 1 - h % 2 + 1) → k * f ≡ k * fib (suc (oddHeight r))
-  multiple-is e w = ap (λ (x : ℕ). k * x) (fibonacci-below-94 w (omega (arith, height-small e)) ∙ ap fib (omega (arith, odd-height r e)))
+  multiple_is : {h f : ℕ} → h ≡ height r → f ≡ fibonacci_or_zero (h + 1 - h % 2 + 1) → k * f ≡ k * fib (suc (odd_height r))
+  multiple_is e w = ap (λ (x : ℕ). k * x) (fibonacci_below_94 w (omega (arith, height_small e)) ∙ ap fib (omega (arith, odd_height_lem r e)))
 
-  pub multiple-fits : {h f : ℕ} → h ≡ height r → f ≡ fibonacciOrZero (h + 1 - h % 2 + 1) → k * f < 2 ^ 64
-  multiple-fits e w = rw (multiple-is e w) (omega (arith, multiple-64 r k b.order exponent-below))
+  pub multiple_fits : {h f : ℕ} → h ≡ height r → f ≡ fibonacci_or_zero (h + 1 - h % 2 + 1) → k * f < 2 ^ 64
+  multiple_fits e w = rw (multiple_is e w) (omega (arith, multiple_64 r k b.order exponent_below))
 
   -- the form of K padded to l, for figure 6
-  pub inverse-fits : {h l : ℕ} → h ≡ height r → h ≤ l → length (zeckendorf K) ≤ l
-  inverse-fits e low = omega (arith, zeckendorf-height r K inverse-below)
+  pub inverse_fits : {h l : ℕ} → h ≡ height r → h ≤ l → length (zeckendorf K) ≤ l
+  inverse_fits e low = omega (arith, zeckendorf_height r K inverse_below)
 
-  pub hybrid-rows : {h f : ℕ} {rows : FormRows} → h ≡ height r → f ≡ fibonacciOrZero (h + 1 - h % 2 + 1)
-      → rows ≡ rows_of (lone Six (zeckendorf (k * f)) (pad (h + 1 - h % 2) (zeckendorf K))) → rows ≡ rows_of (hybridForms r k)
-  unfolding hybridForms
-  hybrid-rows e w rows_are = rw (multiple-is e w, odd-height r e, b.inverse-is) at rows_are
+  pub hybrid_rows : {h f : ℕ} {rows : FormRows} → h ≡ height r → f ≡ fibonacci_or_zero (h + 1 - h % 2 + 1)
+      → rows ≡ rows_of (lone Six (zeckendorf (k * f)) (pad (h + 1 - h % 2) (zeckendorf K))) → rows ≡ rows_of (hybrid_forms r k)
+  unfolding hybrid_forms
+  hybrid_rows e w rows_are = rw (multiple_is e w, odd_height_lem r e, b.inverse_is) at rows_are
 
   -- variant 4
-  residue-is : {f i j : ℕ} → i ≤ 93 → i ≡ j → f ≡ fibonacciOrZero i → remainder (k * f) r ≡ k * fib j % r
-  residue-is low same w =
-      remainder_is (k * _) r (omega (arith, exponent-below)) ∙ ap (λ (n : ℕ). k * n % r) (fibonacci-below-94 w low ∙ ap fib same)
+  residue_is : {f i j : ℕ} → i ≤ 93 → i ≡ j → f ≡ fibonacci_or_zero i → remainder (k * f) r ≡ k * fib j % r
+  residue_is low same w =
+      remainder_is (k * _) r (omega (arith, exponent_below)) ∙ ap (λ (n : ℕ). k * n % r) (fibonacci_below_94 w low ∙ ap fib same)
 
-  pub modular-rows : {h f g s t v : ℕ} {rows : FormRows} → h ≡ height r → f ≡ fibonacciOrZero h → g ≡ fibonacciOrZero (h + 1)
-      → s ≡ remainder (k * f) r → t ≡ remainder (k * g) r → v ≡ solutionOrZero r s t
-      → rows ≡ rows_of (lone Six (zeckendorf v) (pad h (zeckendorf K))) → rows ≡ rows_of (modularForms r k)
-  unfolding modularForms
-  modular-rows e low high s-is t-is v-is rows_are =
-      let small = height-small e in
-      let some : 0 < r = omega (arith, exponent-below) in
-      let es = s-is ∙ residue-is {j = height r} (omega arith) e low in
-      let et = t-is ∙ residue-is {j = suc (height r)} (omega arith) (omega arith) high in
-      let ev = v-is ∙ ap₂ (solutionOrZero r) es et ∙ solution-below r _ _ (omega (arith, b.order)) (mod-lt (k * fib (height r)) some) (mod-lt (k * fib (suc (height r))) some) in
-      rw (ev, e, b.inverse-is) at rows_are
+  pub modular_rows : {h f g s t v : ℕ} {rows : FormRows} → h ≡ height r → f ≡ fibonacci_or_zero h → g ≡ fibonacci_or_zero (h + 1)
+      → s ≡ remainder (k * f) r → t ≡ remainder (k * g) r → v ≡ solution_or_zero r s t
+      → rows ≡ rows_of (lone Six (zeckendorf v) (pad h (zeckendorf K))) → rows ≡ rows_of (modular_forms r k)
+  unfolding modular_forms
+  modular_rows e low high s_is t_is v_is rows_are =
+      let small = height_small e in
+      let some : 0 < r = omega (arith, exponent_below) in
+      let es = s_is ∙ residue_is {j = height r} (omega arith) e low in
+      let et = t_is ∙ residue_is {j = suc (height r)} (omega arith) (omega arith) high in
+      let ev = v_is ∙ ap₂ (solution_or_zero r) es et ∙ solution_below r _ _ (omega (arith, b.order)) (mod-lt (k * fib (height r)) some) (mod-lt (k * fib (suc (height r))) some) in
+      rw (ev, e, b.inverse_is) at rows_are
 
 -- ---- from the rows of a variant's forms to those that the table gives
 
 module _ {variant r k : ℕ} {rows : FormRows} where
-  pub given : (number : ℕ) (f : Forms) → formsFor number r k ≡ f ∷ [] → variant ≡ number → rows ≡ rows_of f → RowsFromTable variant r k rows
+  pub given : (number : ℕ) (f : Forms) → forms_for number r k ≡ f ∷ [] → variant ≡ number → rows ≡ rows_of f → RowsFromTable variant r k rows
   given number f picked here e =
-      record { forms = f; forms-are = ap (λ (n : ℕ). formsFor n r k) here ∙ picked; rows_are = e }
+      record { forms = f; forms_are = ap (λ (n : ℕ). forms_for n r k) here ∙ picked; rows_are = e }
 
 -- ---- how many steps they give
 
-ones-most : (bs : List Bool) → ones bs ≤ length bs
+ones_most : (bs : List Bool) → ones bs ≤ length bs
 unfolding ones
-ones-most [] = omega arith
-ones-most (true ∷ bs) = omega (arith, ones-most bs)
-ones-most (false ∷ bs) = omega (arith, ones-most bs)
+ones_most [] = omega arith
+ones_most (true ∷ bs) = omega (arith, ones_most bs)
+ones_most (false ∷ bs) = omega (arith, ones_most bs)
 
 pub few_ones : (f : Forms) → FormsFit f → (rows_of f).count ≤ 368
 few_ones f fits =
     omega (
       arith,
-      ones-most f.first,
-      ones-most f.beside,
-      ones-most f.last,
-      ones-most f.besideLast,
+      ones_most f.first,
+      ones_most f.beside,
+      ones_most f.last,
+      ones_most f.beside_last,
       fits.first,
       fits.beside,
       fits.last,
-      fits.besideLast,
+      fits.beside_last,
     )
 
-pub rows-count : (f : Forms) → FormsFit f → stepsFrom f.figure (length f.first) (length f.last) (rows_of f).count ≡ length (generated f)
-rows-count f fits = sym (generated-count f fits)
+pub rows_count : (f : Forms) → FormsFit f → steps_from f.figure (length f.first) (length f.last) (rows_of f).count ≡ length (generated f)
+rows_count f fits = sym (generated_count f fits)

@@ -10,23 +10,23 @@ use lib.Dec.{eqb}
 use lib.ListN.{length, get_or, drop, drop_of_length-le}
 use lib.Seq.{drop-cons}
 use borrow.Author.Tests.{eqb-true, eq-eqb, ne_eqb}
-use Rattle.refusal.proofs.Laws.Tests.{both, test-false}
+use Rattle.refusal.proofs.Laws.Tests.{both, test_false}
 use Rattle.program.specs.Same.{same_words}
 
-pub same-itself : (ws : List ℕ) → same_words ws ws ≡ true
+pub same_itself : (ws : List ℕ) → same_words ws ws ≡ true
 unfolding same_words
-same-itself [] = refl
-same-itself (w ∷ ws) = rw (eq-eqb w w refl) (same-itself ws)
+same_itself [] = refl
+same_itself (w ∷ ws) = rw (eq-eqb w w refl) (same_itself ws)
 
-pub same-equal : (vs ws : List ℕ) → same_words vs ws ≡ true → vs ≡ ws
+pub same_equal : (vs ws : List ℕ) → same_words vs ws ≡ true → vs ≡ ws
 unfolding same_words
-same-equal [] [] e = refl
-same-equal [] (w ∷ ws) e = absurd (let z : ◌≡◌ {A = ℕ} 0 1 = cc in omega arith)
-same-equal (v ∷ vs) [] e = absurd (let z : ◌≡◌ {A = ℕ} 0 1 = cc in omega arith)
-same-equal (v ∷ vs) (w ∷ ws) e = let t = both (eqb v w) (same_words vs ws) e in ap₂ ◌∷◌ (eqb-true v w t.0) (same-equal vs ws t.1)
+same_equal [] [] e = refl
+same_equal [] (w ∷ ws) e = absurd (let z : ◌≡◌ {A = ℕ} 0 1 = cc in omega arith)
+same_equal (v ∷ vs) [] e = absurd (let z : ◌≡◌ {A = ℕ} 0 1 = cc in omega arith)
+same_equal (v ∷ vs) (w ∷ ws) e = let t = both (eqb v w) (same_words vs ws) e in ap₂ ◌∷◌ (eqb-true v w t.0) (same_equal vs ws t.1)
 
-pub same-lengths : (vs ws : List ℕ) → ¬ (length vs ≡ length ws) → same_words vs ws ≡ false
-same-lengths vs ws differ = test-false (same_words vs ws) (λ e. differ (ap length (same-equal vs ws e)))
+pub same_lengths : (vs ws : List ℕ) → ¬ (length vs ≡ length ws) → same_words vs ws ≡ false
+same_lengths vs ws differ = test_false (same_words vs ws) (λ e. differ (ap length (same_equal vs ws e)))
 
 module _ (vs ws : List ℕ) (one : length vs ≡ length ws) (i : ℕ) where
   module _ (inside : i < length vs) where
@@ -37,8 +37,8 @@ module _ (vs ws : List ℕ) (one : length vs ≡ length ws) (i : ℕ) where
     pub same_stop : ¬ (get_or vs i 0 ≡ get_or ws i 0) → same_words (drop i vs) (drop i ws) ≡ false
     same_stop differ = from ∙ rw (ne_eqb (get_or vs i 0) (get_or ws i 0) differ)
 
-    pub same-on : get_or vs i 0 ≡ get_or ws i 0 → same_words (drop i vs) (drop i ws) ≡ same_words (drop (i + 1) vs) (drop (i + 1) ws)
-    same-on equal = from ∙ rw (eq-eqb (get_or vs i 0) (get_or ws i 0) equal)
+    pub same_on : get_or vs i 0 ≡ get_or ws i 0 → same_words (drop i vs) (drop i ws) ≡ same_words (drop (i + 1) vs) (drop (i + 1) ws)
+    same_on equal = from ∙ rw (eq-eqb (get_or vs i 0) (get_or ws i 0) equal)
 
   pub same_end : length vs ≤ i → same_words (drop i vs) (drop i ws) ≡ true
   unfolding same_words

@@ -9,7 +9,7 @@ use borrow.Author.Rules.{rules}
 use lib.ListN.{length, take, drop, set, length-set, length-drop}
 use lib.Seq.{append_snoc, set_split, drop_at, take_all, length-take-le}
 use Rattle.text.specs.Text.{decimal}
-use Rattle.text.proofs.Laws.Decimal.{decimal-one, decimal-again}
+use Rattle.text.proofs.Laws.Decimal.{decimal_one, decimal_again}
 use Rattle.putting.proofs.put_number.Statement.{statement}
 use Rattle.putting.proofs.put_number.Tie as tie
 
@@ -32,7 +32,7 @@ module _ {n first rest : ℕ} {digits : List ℕ} (s : Spelt n digits first rest
   last-in-front : 10 ≤ rest → decimal n ≡ decimal (rest / 10) ++ drop first (set digits first (code "0" + rest % 10))
   last-in-front h =
       s.spells
-      ∙ ap (λ (l : List ℕ). l ++ drop (suc first) digits) (decimal-again rest h)
+      ∙ ap (λ (l : List ℕ). l ++ drop (suc first) digits) (decimal_again rest h)
       ∙ append_snoc (decimal (rest / 10)) _ _
       ∙ ap (λ (l : List ℕ). decimal (rest / 10) ++ l) (sym (in-front digits first _ (omega (arith, s.long, s.inside))))
 
@@ -54,7 +54,7 @@ module _ {n first rest : ℕ} {digits : List ℕ} (s : Spelt n digits first rest
       let stored = set digits first (code "0" + rest) in
       take_all (20 - first) (drop first stored) (omega (arith, length-drop first stored, stored-length (code "0" + rest)))
       ∙ in-front digits first _ (omega (arith, s.long, s.inside))
-      ∙ ap (λ (l : List ℕ). l ++ drop (suc first) digits) (sym (decimal-one rest h))
+      ∙ ap (λ (l : List ℕ). l ++ drop (suc first) digits) (sym (decimal_one rest h))
       ∙ sym s.spells
 
 abbrev invariant-loop : tie.invariant-loop

@@ -4,7 +4,7 @@ use mir.Syntax.{w64}
 use mir.Val.{to_z, of_z}
 use mir.ValLaws.{to_z-of_z}
 use borrow.Author.Rules.{rules}
-use Rattle.text.proofs.Laws.Puts.{puts-join}
+use Rattle.text.proofs.Laws.Puts.{puts_join}
 use Rattle.text.proofs.Laws.Wholes.{below, natural}
 use Rattle.putting.proofs.put_whole.Statement.{statement}
 use Rattle.putting.proofs.put_whole.Tie as tie
@@ -20,7 +20,7 @@ returns c =
     let under = sign.before.before in
     let start = under.before.before in
     rw (below _ (rw (read start) at under.if1.true)).spelt
-    (puts-join sign.put_byte.ensures (rw (size.magnitude.ensures, read start) at c.before.before.put-number.ensures))
+    (puts_join sign.put_byte.ensures (rw (size.magnitude.ensures, read start) at c.before.before.put-number.ensures))
 
 returns-2 : tie.Need-returns-2
 returns-2 c =

@@ -5,7 +5,7 @@ use borrow.Author.Rules.{rules}
 use lib.ListN.{length, take}
 use lib.Seq.{take_all}
 use Rattle.text.specs.Rows.{Put}
-use Rattle.text.proofs.Laws.Puts.{put-none, put_next, put_rest, put-length}
+use Rattle.text.proofs.Laws.Puts.{put_none, put_next, put_rest, put_length}
 use Rattle.putting.proofs.put_words.Statement.{statement}
 use Rattle.putting.proofs.put_words.Tie as tie
 
@@ -16,25 +16,25 @@ abbrev decreases-loop : tie.decreases-loop
 decreases-loop buffer₀ at words next₀ i₀ buffer next i = length words - i
 
 loop-holds : tie.Need-loop-init invariant-loop decreases-loop
-loop-holds c = (omega arith, put-none _ _)
+loop-holds c = (omega arith, put_none _ _)
 
 same_length : tie.Need-same-length invariant-loop decreases-loop
-same_length c = put-length c.before.before.loop.invariant.1
+same_length c = put_length c.before.before.loop.invariant.1
 
 returns : tie.Need-returns invariant-loop decreases-loop
 returns c = put_rest _ c.before.before.loop.i c.if1.true c.before.before.loop.invariant.1
 
 mul-buffer-2 : tie.Need-overflow-mul-buffer-2 invariant-loop decreases-loop
-mul-buffer-2 c = omega (arith, put-length c.before.before.before.loop.invariant.1)
+mul-buffer-2 c = omega (arith, put_length c.before.before.before.loop.invariant.1)
 
 add-next : tie.Need-overflow-add-next invariant-loop decreases-loop
-add-next c = omega (arith, put-length c.before.before.before.loop.invariant.1)
+add-next c = omega (arith, put_length c.before.before.before.loop.invariant.1)
 
 loop-again : tie.Need-loop-preserved invariant-loop decreases-loop
 loop-again c = (omega arith, put_next _ _ c.before.before.loop-test.true c.before.if1.false c.before.before.before.loop.invariant.1)
 
 same-length-2 : tie.Need-same-length-2 invariant-loop decreases-loop
-same-length-2 c = put-length c.before.loop.invariant.1
+same-length-2 c = put_length c.before.loop.invariant.1
 
 returns-2 : tie.Need-returns-2 invariant-loop decreases-loop
 returns-2 c = rw (take_all c.before.loop.i c.before.before.args.words.now (search rules)) at c.before.loop.invariant.1

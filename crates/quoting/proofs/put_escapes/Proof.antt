@@ -6,8 +6,8 @@ use lib.ListN.{length, take}
 use lib.Seq.{take_all}
 use Rattle.text.specs.Rows.{Put}
 use Rattle.text.specs.Quoting.{escapes}
-use Rattle.text.proofs.Laws.Puts.{put-none, put-length}
-use Rattle.text.proofs.Laws.Quoting.{escapes-next}
+use Rattle.text.proofs.Laws.Puts.{put_none, put_length}
+use Rattle.text.proofs.Laws.Quoting.{escapes_next}
 use Rattle.quoting.proofs.put_escapes.Statement.{statement}
 use Rattle.quoting.proofs.put_escapes.Tie as tie
 
@@ -19,15 +19,15 @@ decreases-loop buffer₀ at bytes next₀ i₀ buffer next i = length bytes - i
 
 loop-holds : tie.Need-loop-init invariant-loop decreases-loop
 unfolding escapes
-loop-holds c = (omega arith, put-none _ _)
+loop-holds c = (omega arith, put_none _ _)
 
 loop-again : tie.Need-loop-preserved invariant-loop decreases-loop
 loop-again c =
     let l = c.before.before.before.before.before.before in
-    (omega arith, escapes-next _ l.loop.i (omega arith) l.loop.invariant.1 c.before.before.put-escaped.ensures)
+    (omega arith, escapes_next _ l.loop.i (omega arith) l.loop.invariant.1 c.before.before.put-escaped.ensures)
 
 same_length : tie.Need-same-length invariant-loop decreases-loop
-same_length c = put-length c.before.loop.invariant.1
+same_length c = put_length c.before.loop.invariant.1
 
 returns : tie.Need-returns invariant-loop decreases-loop
 returns c = rw (take_all c.before.loop.i c.before.before.before.before.args.bytes.now (omega arith)) at c.before.loop.invariant.1

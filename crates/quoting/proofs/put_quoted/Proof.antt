@@ -2,7 +2,7 @@
 use mathlib.Core.Path.{sym}
 use native.Mathlib.Omega.{arith}
 use lib.Seq.{length-take-le}
-use Rattle.text.proofs.Laws.Quoting.{quoted-all, quoted-part}
+use Rattle.text.proofs.Laws.Quoting.{quoted_all, quoted_part}
 use borrow.Author.Rules.{rules}
 use Rattle.quoting.proofs.put_quoted.Statement.{statement}
 use Rattle.quoting.proofs.put_quoted.Tie as tie
@@ -10,7 +10,7 @@ use Rattle.quoting.proofs.put_quoted.Tie as tie
 returns : tie.Need-returns
 returns c =
     let short = c.before.before.before.before.before.before.before.before in
-    quoted-all _ short.before.before.before.put_byte.ensures short.if1.true c.before.before.before.before.before.before.put-escapes.ensures c.before.before.put-byte2.ensures
+    quoted_all _ short.before.before.before.put_byte.ensures short.if1.true c.before.before.before.before.before.before.put-escapes.ensures c.before.before.put-byte2.ensures
 
 slice-aggregate-put-escapes : tie.Need-slice-aggregate-put-escapes
 slice-aggregate-put-escapes c =
@@ -22,7 +22,7 @@ returns-2 c =
     let dots = c.before.before.before.before.before.before in
     let part = dots.before.before.before.before.before in
     let long = part.before.before.before in
-    quoted-part _ long.before.before.before.put_byte.ensures long.if1.false part.put-escapes2.ensures dots.put.ensures c.before.before.put-byte3.ensures
+    quoted_part _ long.before.before.before.put_byte.ensures long.if1.false part.put-escapes2.ensures dots.put.ensures c.before.before.put-byte3.ensures
 
 pub put-quoted-spec : {M : Type 1} → statement M
 put-quoted-spec =

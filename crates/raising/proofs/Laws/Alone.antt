@@ -8,32 +8,32 @@ use lib.ListN.{length}
 use Rattle.refusal.specs.Outcomes.{answered, outcome}
 use Rattle.tape.specs.declared.Header.{Header}
 use Rattle.tape.specs.declared.Step.{Step}
-use Rattle.tape.specs.Layout.{stepWordsOf, steps_of}
-use Rattle.tape.specs.Inner.Operations.{rawSteps}
-use Rattle.tape.proofs.Laws.Rows.{raw-steps}
+use Rattle.tape.specs.Layout.{step_words_of, steps_of}
+use Rattle.tape.specs.Inner.Operations.{raw_steps}
+use Rattle.tape.proofs.Laws.Rows.{raw_steps_lem}
 use Rattle.montgomery.specs.declared.Modulus.{Modulus}
 use Rattle.montgomery.specs.Inner.Forms.{word, IsModulus}
-use Rattle.machine.specs.Machine.{reg, doAll, start}
-use Rattle.program.specs.Services.{acceptOutcome}
+use Rattle.machine.specs.Machine.{reg, do_all, start}
+use Rattle.program.specs.Services.{accept_outcome}
 use Rattle.program.proofs.Laws.Checking.{header_is}
-use Rattle.lanes.specs.Inner.Lanes.{maxLanes, through, throughLanes}
-use Rattle.lanes.proofs.Laws.Bases.{through-done}
-use Rattle.sequencer.specs.Services.{startRecord, loadOutcome}
-use Rattle.sequencer.specs.Bases.{rowRules, raised}
-use Rattle.sequencer.proofs.Laws.Cases.{modulus-prime, modulus-odd, words-steps}
+use Rattle.lanes.specs.Inner.Lanes.{max_lanes, through, through_lanes}
+use Rattle.lanes.proofs.Laws.Bases.{through_done}
+use Rattle.sequencer.specs.Services.{start_record, load_outcome}
+use Rattle.sequencer.specs.Bases.{row_rules, raised}
+use Rattle.sequencer.proofs.Laws.Cases.{modulus_prime, modulus_odd, words_steps}
 use Rattle.sequencer.proofs.Laws.Answers.{steps-sound, load-answered}
-use Rattle.sequencer.proofs.Laws.Bases.{raised-done, row-map}
+use Rattle.sequencer.proofs.Laws.Bases.{raised_done, row_map}
 
-module _ (tape : List ℕ) (h : Header) (e : acceptOutcome tape ≡ answered h) (m : Modulus) (fits : h.modulus ≤ word) (is : IsModulus h.modulus m) where
-  lane-alone : (a : ℕ) → loadOutcome tape a ≡ answered (startRecord a) → through m (rawSteps (stepWordsOf tape)) a ≡ raised tape a
-  lane-alone a load =
-      ap (λ (xs : List Step). through m xs a) (raw-steps (stepWordsOf tape) (words-steps tape h e))
-      ∙ through-done h.modulus m (modulus-prime tape h e) (modulus-odd tape h e) fits is a (rw (header_is tape h e) (load-answered tape a _ load).base) (steps_of tape) (steps-sound tape)
-      ∙ ap (λ (g : Header). reg (doAll g.modulus (steps_of tape) (start a)) 1) (header_is tape h e)
-      ∙ sym (raised-done tape a load)
+module _ (tape : List ℕ) (h : Header) (e : accept_outcome tape ≡ answered h) (m : Modulus) (fits : h.modulus ≤ word) (is : IsModulus h.modulus m) where
+  lane_alone : (a : ℕ) → load_outcome tape a ≡ answered (start_record a) → through m (raw_steps (step_words_of tape)) a ≡ raised tape a
+  lane_alone a load =
+      ap (λ (xs : List Step). through m xs a) (raw_steps_lem (step_words_of tape) (words_steps tape h e))
+      ∙ through_done h.modulus m (modulus_prime tape h e) (modulus_odd tape h e) fits is a (rw (header_is tape h e) (load-answered tape a _ load).base) (steps_of tape) (steps-sound tape)
+      ∙ ap (λ (g : Header). reg (do_all g.modulus (steps_of tape) (start a)) 1) (header_is tape h e)
+      ∙ sym (raised_done tape a load)
 
-  pub row-alone : (bases : List ℕ) {x : ℕ} → length bases ≤ maxLanes → outcome (rowRules h bases) 0 ≡ answered x
-      → throughLanes m (rawSteps (stepWordsOf tape)) bases ≡ map (raised tape) bases
-  unfolding throughLanes
-  row-alone bases few all =
-      rw (le-ltb maxLanes (length bases) few) (row-map tape h e (through m (rawSteps (stepWordsOf tape))) (raised tape) lane-alone bases all)
+  pub row_alone : (bases : List ℕ) {x : ℕ} → length bases ≤ max_lanes → outcome (row_rules h bases) 0 ≡ answered x
+      → through_lanes m (raw_steps (step_words_of tape)) bases ≡ map (raised tape) bases
+  unfolding through_lanes
+  row_alone bases few all =
+      rw (le-ltb max_lanes (length bases) few) (row_map tape h e (through m (raw_steps (step_words_of tape))) (raised tape) lane_alone bases all)

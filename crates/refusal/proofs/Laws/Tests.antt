@@ -3,18 +3,18 @@ use mathlib.Core.Path.{◌≡◌, refl, sym}
 use mathlib.Core.Bool.{Bool, true, false, not, ◌&&◌, ◌||◌, true≢false, false≢true}
 
 -- a test, from what is absurd
-pub test-false : (t : Bool) → ¬ (t ≡ true) → t ≡ false
-test-false true h = absurd (h refl)
-test-false false h = refl
+pub test_false : (t : Bool) → ¬ (t ≡ true) → t ≡ false
+test_false true h = absurd (h refl)
+test_false false h = refl
 
-pub test-true : (t : Bool) → ¬ (t ≡ false) → t ≡ true
-test-true true h = refl
-test-true false h = absurd (h refl)
+pub test_true : (t : Bool) → ¬ (t ≡ false) → t ≡ true
+test_true true h = refl
+test_true false h = absurd (h refl)
 
 -- both ways that a test can come out
-pub by-test : {A : Type 0} (t : Bool) → (t ≡ true → A) → (t ≡ false → A) → A
-by-test true f g = f refl
-by-test false f g = g refl
+pub by_test : {A : Type 0} (t : Bool) → (t ≡ true → A) → (t ≡ false → A) → A
+by_test true f g = f refl
+by_test false f g = g refl
 
 -- both of two tests, from their conjunction, and back
 pub both : (s t : Bool) → s && t ≡ true → (s ≡ true) × (t ≡ true)

@@ -4,15 +4,15 @@ use mathlib.Core.List.{List, [], ◌∷◌}
 use Prim.Native.Nat.{ℕ}
 use borrow.Author.Rules.{rules}
 use Rattle.machine.specs.Machine.{reg}
-use Rattle.machine.specs.Inner.Carried.{inversesWith}
+use Rattle.machine.specs.Inner.Carried.{inverses_with}
 use Rattle.register_forms.proofs.inverses.Statement.{statement}
 use Rattle.register_forms.proofs.inverses.Tie as tie
 
 module _ (product : ℕ → ℕ → ℕ) (invert : ℕ → ℕ) (v : List ℕ) {a b c d ab abc abcd all three two i j k l : ℕ} where
   by-products : a ≡ reg v 0 → b ≡ reg v 1 → c ≡ reg v 2 → d ≡ reg v 3 → ab ≡ product a b → abc ≡ product ab c → abcd ≡ product abc d
       → all ≡ invert abcd → three ≡ product all d → two ≡ product three c → i ≡ product two b → j ≡ product two a → k ≡ product three ab
-      → l ≡ product all abc → i ∷ j ∷ k ∷ l ∷ [] ≡ inversesWith product invert v
-  unfolding inversesWith
+      → l ≡ product all abc → i ∷ j ∷ k ∷ l ∷ [] ≡ inverses_with product invert v
+  unfolding inverses_with
   by-products ea eb ec ed eab eabc eabcd eall ethree etwo ei ej ek el =
       rw (ei, ej, ek, el, etwo, ethree, eall, eabcd, eabc, eab, ea, eb, ec, ed)
 

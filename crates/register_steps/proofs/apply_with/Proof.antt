@@ -8,28 +8,28 @@ use native.Mathlib.Omega.{arith}
 use borrow.Author.Rules.{rules}
 use lib.Dec.{eqb}
 use lib.ListN.{set}
-use Rattle.tape.specs.Inner.Operations.{stepBy}
+use Rattle.tape.specs.Inner.Operations.{step_by}
 use Rattle.machine.specs.Machine.{reg}
-use Rattle.machine.specs.Inner.Carried.{applyWith}
-use Rattle.machine.proofs.Laws.Carried.{factor-by, exchange-by}
+use Rattle.machine.specs.Inner.Carried.{apply_with}
+use Rattle.machine.proofs.Laws.Carried.{factor_by, exchange_by}
 use Rattle.register_steps.proofs.apply_with.Statement.{statement}
 use Rattle.register_steps.proofs.apply_with.Tie as tie
 
 multiplied : (product : ℕ → ℕ → ℕ) (n t s : ℕ) (v w after : List ℕ) (x y z : ℕ) → n ≤ 1 → x ≡ reg v s → y ≡ reg w s → z ≡ cond (eqb n 1) y x
-    → after ≡ set v t (product (reg v t) z) → after ≡ applyWith product (stepBy n t s) v w
+    → after ≡ set v t (product (reg v t) z) → after ≡ apply_with product (step_by n t s) v w
 multiplied product n t s v w after x y z less ex ey ez done =
     let factor : z ≡ cond (eqb n 1) (reg w s) (reg v s) = cc (ez, ex, ey) in
     done
     ∙ ap (λ (k : ℕ). set v t (product (reg v t) k)) factor
-    ∙ sym (factor-by product t s v w n (omega arith))
+    ∙ sym (factor_by product t s v w n (omega arith))
 
 returns : tie.Need-returns
 returns c =
     let second = c.before.before in
     let first = second.before.before.before.before in
     let more = first.before.before.if1.true in (
-      first.exchange.ensures ∙ sym (exchange-by _ _ _ _ _ _ more),
-      second.exchange2.ensures ∙ sym (exchange-by _ _ _ _ _ _ more),
+      first.exchange.ensures ∙ sym (exchange_by _ _ _ _ _ _ more),
+      second.exchange2.ensures ∙ sym (exchange_by _ _ _ _ _ _ more),
     )
 
 returns-2 : tie.Need-returns-2

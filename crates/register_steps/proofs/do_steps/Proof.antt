@@ -3,17 +3,17 @@ use Prim.Native.Nat.{◌-◌, ◌≤◌}
 use native.Mathlib.Omega.{arith}
 use borrow.Author.Rules.{rules}
 use lib.ListN.{length}
-use Rattle.tape.specs.Inner.Operations.{rawSteps}
-use Rattle.montgomery.specs.Inner.Forms.{formTimes}
-use Rattle.machine.specs.Inner.Carried.{directedSteps}
-use Rattle.register_steps.specs.Inner.Ways.{stepsAfter}
-use Rattle.register_steps.proofs.Laws.Going.{Going, going_start, going_next, going_end, after_none, after_next, after-all}
+use Rattle.tape.specs.Inner.Operations.{raw_steps}
+use Rattle.montgomery.specs.Inner.Forms.{form_times}
+use Rattle.machine.specs.Inner.Carried.{directed_steps}
+use Rattle.register_steps.specs.Inner.Ways.{steps_after}
+use Rattle.register_steps.proofs.Laws.Going.{Going, going_start, going_next, going_end, after_none, after_next, after_all_lem}
 use Rattle.register_steps.proofs.do_steps.Statement.{statement}
 use Rattle.register_steps.proofs.do_steps.Tie as tie
 
 abbrev invariant-loop : tie.invariant-loop
 invariant-loop words undone m values₀ inverses₀ i₀ values inverses i =
-    (i ≤ length words) × Going (formTimes m) (directedSteps undone (rawSteps words)) (stepsAfter undone words i) values₀ inverses₀ values inverses
+    (i ≤ length words) × Going (form_times m) (directed_steps undone (raw_steps words)) (steps_after undone words i) values₀ inverses₀ values inverses
 
 abbrev decreases-loop : tie.decreases-loop
 decreases-loop words undone m values₀ inverses₀ i₀ values inverses i = length words - i
@@ -32,16 +32,16 @@ loop-again c =
     )
 
 same_length : tie.Need-same-length invariant-loop decreases-loop
-same_length c = c.before.loop.invariant.1.values-long
+same_length c = c.before.loop.invariant.1.values_long
 
 same-length-2 : tie.Need-same-length-2 invariant-loop decreases-loop
-same-length-2 c = c.before.loop.invariant.1.inverses-long
+same-length-2 c = c.before.loop.invariant.1.inverses_long
 
 returns : tie.Need-returns invariant-loop decreases-loop
 returns c =
     let at = c.before in
     let given = at.before.before.before.before.args in
-    going_end _ _ _ _ _ _ _ (after-all given.words.now given.undone at.loop.i (omega arith)) at.loop.invariant.1
+    going_end _ _ _ _ _ _ _ (after_all_lem given.words.now given.undone at.loop.i (omega arith)) at.loop.invariant.1
 
 pub do-steps-spec : {M : Type 1} → statement M
 do-steps-spec =

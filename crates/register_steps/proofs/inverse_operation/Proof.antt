@@ -2,17 +2,17 @@
 use mathlib.Core.Path.{sym, ◌∙◌, ap}
 use native.Mathlib.Omega.{arith}
 use Rattle.tape.proofs.Laws.Shapes.{exchanges}
-use Rattle.machine.specs.Machine.{inverseStep}
-use Rattle.machine.proofs.Laws.Steps.{inverse-by}
+use Rattle.machine.specs.Machine.{inverse_step}
+use Rattle.machine.proofs.Laws.Steps.{inverse_by}
 use Rattle.register_steps.proofs.inverse_operation.Statement.{statement}
 use Rattle.register_steps.proofs.inverse_operation.Tie as tie
 
 returns : tie.Need-returns
-unfolding inverseStep
-returns c = let swp = exchanges _ _ _ c.if1.true in swp ∙ sym (ap inverseStep swp)
+unfolding inverse_step
+returns c = let swp = exchanges _ _ _ c.if1.true in swp ∙ sym (ap inverse_step swp)
 
 returns-2 : tie.Need-returns-2
-returns-2 c = inverse-by _ _ _ (omega arith)
+returns-2 c = inverse_by _ _ _ (omega arith)
 
 pub inverse-operation-spec : {M : Type 1} → statement M
 inverse-operation-spec = tie.close (tie.spec returns returns-2)

@@ -6,12 +6,12 @@ use native.Mathlib.Omega.{arith}
 use lib.ListN.{take, length-take, length-replicate}
 use lib.Seq.{length-take-le}
 use borrow.Author.Rules.{rules}
-use Rattle.text.proofs.Laws.Puts.{put-inside, put-taken}
-use Rattle.encoding.proofs.Laws.Bytes.{bytes-length}
-use Rattle.tool.specs.Verbs.{maxRoom}
+use Rattle.text.proofs.Laws.Puts.{put_inside, put_taken}
+use Rattle.encoding.proofs.Laws.Bytes.{bytes_length}
+use Rattle.tool.specs.Verbs.{max_room}
 use Rattle.scripting.specs.Script.{filled}
-use Rattle.scripting.specs.States.{capacityOf}
-use Rattle.scripting.proofs.Laws.Rooms.{filled-part, put-list-in}
+use Rattle.scripting.specs.States.{capacity_of}
+use Rattle.scripting.proofs.Laws.Rooms.{filled_part, put_list_in}
 use Rattle.rooms.proofs.list_in.Statement.{statement}
 use Rattle.rooms.proofs.list_in.Tie as tie
 
@@ -19,16 +19,16 @@ slice-aggregate-tape-bytes-2 : tie.Need-slice-aggregate-tape-bytes-2
 slice-aggregate-tape-bytes-2 c = sym (length-take-le c.before.before.before.least.result c.before.before.before.before.before.before.args.tape.now (omega (arith, c.before.before.before.least.ensures)))
 
 array-share-prefix-bytes : tie.Need-array-share-prefix-bytes
-array-share-prefix-bytes c = put-inside c.before.tape-bytes.ensures (omega arith)
+array-share-prefix-bytes c = put_inside c.before.tape-bytes.ensures (omega arith)
 
 slice-aggregate-list-into : tie.Need-slice-aggregate-list-into
-slice-aggregate-list-into c = sym (length-take-le c.before.before.tape-bytes.result c.before.before.tape-bytes.new.0 (put-inside c.before.before.tape-bytes.ensures (omega arith)))
+slice-aggregate-list-into c = sym (length-take-le c.before.before.tape-bytes.result c.before.before.tape-bytes.new.0 (put_inside c.before.before.tape-bytes.ensures (omega arith)))
 
 slice-aggregate-list-into-2 : tie.Need-slice-aggregate-list-into-2
-slice-aggregate-list-into-2 c = sym (length-take-le c.before.before.before.before.before.before.least2.result (filled maxRoom) (omega (arith, length-replicate {A = ℕ} maxRoom 255, c.before.before.before.before.before.before.least2.ensures)))
+slice-aggregate-list-into-2 c = sym (length-take-le c.before.before.before.before.before.before.least2.result (filled max_room) (omega (arith, length-replicate {A = ℕ} max_room 255, c.before.before.before.before.before.before.least2.ensures)))
 
 list-into-requires : tie.Need-list-into-requires
-list-into-requires c κs = omega (arith, length-take c.before.before.before.before.before.before.before.least2.result (filled maxRoom), c.before.before.before.before.before.before.before.least2.ensures)
+list-into-requires c κs = omega (arith, length-take c.before.before.before.before.before.before.before.least2.result (filled max_room), c.before.before.before.before.before.before.before.least2.ensures)
 
 returns : tie.Need-returns
 returns c =
@@ -36,8 +36,8 @@ returns c =
     let used = c.before.before.before.before.before.before.before.before.before.before.before.before.least.ensures in
     let held = c.before.before.before.before.before.before.before.before.before.before.before.least2.ensures in
     let tapes = rw used at c.before.before.before.before.before.before.before.before.tape-bytes.ensures in
-    put-list-in (min c.before.before.before.before.before.before.before.before.before.before.before.before.before.before.before.args.room maxRoom) (take (capacityOf tape) tape) _ _ (filled-part maxRoom c.before.before.before.before.before.before.before.before.before.before.before.least2.result (omega (arith, held)) ∙ ap filled held)
-    (put-taken tapes (omega (arith, bytes-length (take (capacityOf tape) tape), length-take (capacityOf tape) tape, length-replicate {A = ℕ} 16384 0))) c.before.before.before.list-into.ensures
+    put_list_in (min c.before.before.before.before.before.before.before.before.before.before.before.before.before.before.before.args.room max_room) (take (capacity_of tape) tape) _ _ (filled_part max_room c.before.before.before.before.before.before.before.before.before.before.before.least2.result (omega (arith, held)) ∙ ap filled held)
+    (put_taken tapes (omega (arith, bytes_length (take (capacity_of tape) tape), length-take (capacity_of tape) tape, length-replicate {A = ℕ} 16384 0))) c.before.before.before.list-into.ensures
 
 pub list-in-spec : {M : Type 1} → statement M
 list-in-spec =

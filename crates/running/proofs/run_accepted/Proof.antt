@@ -6,35 +6,35 @@ use native.Mathlib.Omega.{arith}
 use borrow.Author.Rules.{rules}
 use borrow.Author.Tests.{lt-ltb, le-ltb}
 use lib.ListN.{length}
-use Rattle.tape.specs.Layout.{stepsIn, allSteps}
+use Rattle.tape.specs.Layout.{steps_in, all_steps}
 use Rattle.machine.specs.Machine.{values_of, run}
 use Rattle.refusal.specs.Outcomes.{answered, gives, passes, answers}
-use Rattle.sequencer.specs.Services.{recordRules, goalRules}
-use Rattle.sequencer.proofs.Laws.Cases.{modulus-prime, modulus-odd, words-steps, words_are, run-rules}
+use Rattle.sequencer.specs.Services.{record_rules, goal_rules}
+use Rattle.sequencer.proofs.Laws.Cases.{modulus_prime, modulus_odd, words_steps, words_are, run_rules_lem}
 use Rattle.sequencer.proofs.Laws.Answers.{residues-registers}
 use Rattle.running.proofs.run_accepted.Statement.{statement}
 use Rattle.running.proofs.run_accepted.Tie as tie
 
 returns : tie.Need-returns
-unfolding recordRules goalRules
-returns c = sym (run-rules _ _ c.before.before.before.before.requires _ _ ∙ gives _ _ _ (sym c.before.is-some-bad.ensures ∙ c.if1.true))
+unfolding record_rules goal_rules
+returns c = sym (run_rules_lem _ _ c.before.before.before.before.requires _ _ ∙ gives _ _ _ (sym c.before.is-some-bad.ensures ∙ c.if1.true))
 
 returns-2 : tie.Need-returns-2
-unfolding recordRules goalRules
+unfolding record_rules goal_rules
 returns-2 c =
     let first = c.before.before in
     sym
-    (run-rules _ _ first.before.before.before.before.requires _ _
+    (run_rules_lem _ _ first.before.before.before.before.requires _ _
     ∙ passes _ _ _ (sym first.before.is-some-bad.ensures ∙ first.if1.false)
     ∙ gives _ _ _ (lt-ltb _ _ c.if2.true))
 
 returns-3 : tie.Need-returns-3
-unfolding recordRules goalRules
+unfolding record_rules goal_rules
 returns-3 c =
     let from = c.before.before in
     let first = from.before.before in
     sym
-    (run-rules _ _ first.before.before.before.before.requires _ _
+    (run_rules_lem _ _ first.before.before.before.before.requires _ _
     ∙ passes _ _ _ (sym first.before.is-some-bad.ensures ∙ first.if1.false)
     ∙ passes _ _ _ (le-ltb _ _ from.if2.false)
     ∙ gives _ _ _ (lt-ltb _ _ c.if3.true))
@@ -45,14 +45,14 @@ run-steps-requires c κs =
     let accept = tested.before.before.before.before.requires in
     let long = ap length c.steps.ensures ∙ words_are _ _ accept in
     record {
-      inside = record { are-steps = ap allSteps c.steps.ensures ∙ words-steps _ _ accept; from-inside = omega arith; goal-inside = omega arith };
-      prime = modulus-prime _ _ accept;
-      odd = modulus-odd _ _ accept;
+      inside = record { are_steps = ap all_steps c.steps.ensures ∙ words_steps _ _ accept; from_inside = omega arith; goal_inside = omega arith };
+      prime = modulus_prime _ _ accept;
+      odd = modulus_odd _ _ accept;
       residues = residues-registers _ _ _ _ _ (sym tested.before.is-some-bad.ensures ∙ tested.if1.false);
     }
 
 returns-4 : tie.Need-returns-4
-unfolding recordRules goalRules
+unfolding record_rules goal_rules
 returns-4 c =
     let words = c.before in
     let goal = words.before in
@@ -61,13 +61,13 @@ returns-4 c =
     let start = first.before.before.before.before in
     let given = start.args in
     sym
-    (run-rules _ _ start.requires _ _
+    (run_rules_lem _ _ start.requires _ _
     ∙ passes _ _ _ (sym first.before.is-some-bad.ensures ∙ first.if1.false)
     ∙ passes _ _ _ (le-ltb _ _ from.if2.false)
     ∙ passes _ _ _ (le-ltb _ _ goal.if3.false)
     ∙ answers _
     ∙ ap (λ (v : List ℕ). answered (record { registers = v; position = given.to }))
-    (sym (c.run-steps.ensures ∙ ap (λ (l : List ℕ). run given.header.modulus (stepsIn l) given.state.position given.to (values_of given.state.registers)) words.steps.ensures)))
+    (sym (c.run-steps.ensures ∙ ap (λ (l : List ℕ). run given.header.modulus (steps_in l) given.state.position given.to (values_of given.state.registers)) words.steps.ensures)))
 
 pub run-accepted-spec : {M : Type 1} → statement M
 run-accepted-spec =

@@ -2,24 +2,24 @@
 use native.Mathlib.Numerals.{add-one}
 use borrow.Author.Rules.{rules}
 use borrow.Author.Tests.{lt-ltb, le-ltb}
-use Rattle.sequencer.specs.Inner.Goals.{stepGoal}
+use Rattle.sequencer.specs.Inner.Goals.{step_goal}
 use Rattle.running.proofs.step_goal.Statement.{statement}
 use Rattle.running.proofs.step_goal.Tie as tie
 
 returns : tie.Need-returns
-unfolding stepGoal
+unfolding step_goal
 returns c = rw (c.before.if1.true, lt-ltb _ _ c.if2.true)
 
 returns-2 : tie.Need-returns-2
-unfolding stepGoal
+unfolding step_goal
 returns-2 c = rw (c.before.if1.true, le-ltb _ _ c.if2.false)
 
 returns-3 : tie.Need-returns-3
-unfolding stepGoal
+unfolding step_goal
 returns-3 c = rw (c.before.if1.false, lt-ltb _ _ c.if3.true, add-one)
 
 returns-4 : tie.Need-returns-4
-unfolding stepGoal
+unfolding step_goal
 returns-4 c = rw (c.before.if1.false, le-ltb _ _ c.if3.false)
 
 pub step-goal-spec : {M : Type 1} → statement M

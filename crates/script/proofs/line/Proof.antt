@@ -4,8 +4,8 @@ use Prim.Native.Nat.{ℕ}
 use native.Mathlib.Omega.{arith}
 use lib.Seq.{length-take-le}
 use borrow.Author.Rules.{rules}
-use Rattle.scripting.specs.Script.{State, lineDone}
-use Rattle.scripting.proofs.Laws.Used.{inside-used, did-used}
+use Rattle.scripting.specs.Script.{State, line_done}
+use Rattle.scripting.proofs.Laws.Used.{inside_used, did_used}
 use Rattle.script.proofs.line.Statement.{statement}
 use Rattle.script.proofs.line.Tie as tie
 
@@ -15,12 +15,12 @@ slice-aggregate-done c = sym (length-take-le c.before.least.result c.before.befo
 done-requires : tie.Need-done-requires
 done-requires c κs =
     let s = c.before.before.before.before.before.before.before in
-    inside-used s.args.marks s.args.tapes.now c.before.before.before.least.ensures c.before.inside.ensures
+    inside_used s.args.marks s.args.tapes.now c.before.before.before.least.ensures c.before.inside.ensures
 
 returns : tie.Need-returns
 returns c =
     let s = c.before.before.before.before.before.before.before.before.before.before.before.before in
-    did-used s.args.marks s.args.tapes.now c.before.before.before.before.before.before.before.before.least.ensures c.before.before.before.before.before.before.inside.ensures (λ (capacity : ℕ) (state : State). lineDone capacity s.args.line.now state)
+    did_used s.args.marks s.args.tapes.now c.before.before.before.before.before.before.before.before.least.ensures c.before.before.before.before.before.before.inside.ensures (λ (capacity : ℕ) (state : State). line_done capacity s.args.line.now state)
     c.before.before.before.before.done.auto.1.0 c.before.before.before.before.done.ensures
 
 pub line-spec : {M : Type 1} → statement M

@@ -10,102 +10,102 @@ use Rattle.tool.specs.declared.Verb.TheVariants.{Unknown, Build, Script, Help, V
 use Rattle.tool.specs.declared.Row.{Row}
 use Rattle.tool.specs.declared.Call.{Call}
 use Rattle.tool.specs.declared.Call.TheVariants.{NoWord, NoVerb, WrongCount, Unread, Known}
-use Rattle.tool.specs.Verbs.{maxParameters, largest32, limitIn, limitOf}
+use Rattle.tool.specs.Verbs.{max_parameters, largest32, limit_in, limit_of}
 use Rattle.tool.specs.Calls.{Asked, known}
 use Rattle.tool.specs.Inner.Held.{AllAtMost}
-use Rattle.tool.specs.Inner.Understood.{InRange, askedFor}
+use Rattle.tool.specs.Inner.Understood.{InRange, asked_for}
 use Rattle.scripting.specs.declared.Act.{Act}
 use Rattle.scripting.specs.declared.Act.TheVariants.{Reply, Edit, BuildTape, PlacesInRoom, ListInRoom}
 use Rattle.scripting.specs.declared.Marks.{Marks}
-use Rattle.scripting.specs.Script.{State, Done, atHand, prints, inScript, buildBy, placesIn, listIn, placesLine, listLine, isPlaces, isListing, replied, byVerb, commanded}
-use Rattle.scripting.specs.States.{stateIn}
-use Rattle.scripting.specs.Inner.Acts.{actBy, actOf, count_of}
+use Rattle.scripting.specs.Script.{State, Done, at_hand, prints, in_script, build_by, places_in, list_in, places_line, list_line, is_places, is_listing, replied, by_verb, commanded}
+use Rattle.scripting.specs.States.{state_in}
+use Rattle.scripting.specs.Inner.Acts.{act_by, act_of, count_of}
 
 -- what is done, by what was asked, the parameters and the room
-abbrev pub byAct : ℕ → Act → Asked → List ℕ → ℕ → State → Done
-byAct capacity Reply asked v room s = replied asked s
-byAct capacity (Edit verb) asked v room s = inScript capacity verb v s
-byAct capacity (BuildTape own) asked v room s = buildBy capacity s.room own v s
-byAct capacity (PlacesInRoom own) asked v room s = prints s (placesIn room own v)
-byAct capacity ListInRoom asked v room s = prints s (listIn room (atHand s))
+abbrev pub by_act : ℕ → Act → Asked → List ℕ → ℕ → State → Done
+by_act capacity Reply asked v room s = replied asked s
+by_act capacity (Edit verb) asked v room s = in_script capacity verb v s
+by_act capacity (BuildTape own) asked v room s = build_by capacity s.room own v s
+by_act capacity (PlacesInRoom own) asked v room s = prints s (places_in room own v)
+by_act capacity ListInRoom asked v room s = prints s (list_in room (at_hand s))
 
 module _ (capacity : ℕ) (row : Row) (v : List ℕ) (room : ℕ) (s : State) where
   -- a verb that looks at the room: whether it is the one, and whether there is a room
-  numbers-act : (one roomed : Bool) → cond one (placesLine (cond roomed (room ∷ []) []) row v s) (replied (known row v) s)
-      ≡ byAct capacity (cond one (cond roomed (PlacesInRoom row.own_val) Reply) Reply) (known row v) v room s
-  numbers-act true true = refl
-  numbers-act true false = refl
-  numbers-act false roomed = refl
+  numbers_act : (one roomed : Bool) → cond one (places_line (cond roomed (room ∷ []) []) row v s) (replied (known row v) s)
+      ≡ by_act capacity (cond one (cond roomed (PlacesInRoom row.own_val) Reply) Reply) (known row v) v room s
+  numbers_act true true = refl
+  numbers_act true false = refl
+  numbers_act false roomed = refl
 
-  tape-act : (one roomed : Bool) → cond one (listLine (cond roomed (room ∷ []) []) row v s) (replied (known row v) s)
-      ≡ byAct capacity (cond one (cond roomed ListInRoom Reply) Reply) (known row v) v room s
-  tape-act true true = refl
-  tape-act true false = refl
-  tape-act false roomed = refl
+  tape_act : (one roomed : Bool) → cond one (list_line (cond roomed (room ∷ []) []) row v s) (replied (known row v) s)
+      ≡ by_act capacity (cond one (cond roomed ListInRoom Reply) Reply) (known row v) v room s
+  tape_act true true = refl
+  tape_act true false = refl
+  tape_act false roomed = refl
 
 module _ (capacity : ℕ) (m : Marks) (tapes : List ℕ) where
-  verb-act : (verb : Verb) (row : Row) (v : List ℕ)
-      → byVerb capacity verb row v (stateIn m tapes) ≡ byAct capacity (actBy verb m.roomed row.own_val) (known row v) v m.room (stateIn m tapes)
-  verb-act (InScript verb) row v = refl
-  verb-act Build row v = refl
-  verb-act (OnNumbers verb) row v = numbers-act capacity row v m.room (stateIn m tapes) (isPlaces verb) m.roomed
-  verb-act (OnTape verb) row v = tape-act capacity row v m.room (stateIn m tapes) (isListing verb) m.roomed
-  verb-act Unknown row v = refl
-  verb-act Script row v = refl
-  verb-act Help row v = refl
-  verb-act Version row v = refl
+  verb_act : (verb : Verb) (row : Row) (v : List ℕ)
+      → by_verb capacity verb row v (state_in m tapes) ≡ by_act capacity (act_by verb m.roomed row.own_val) (known row v) v m.room (state_in m tapes)
+  verb_act (InScript verb) row v = refl
+  verb_act Build row v = refl
+  verb_act (OnNumbers verb) row v = numbers_act capacity row v m.room (state_in m tapes) (is_places verb) m.roomed
+  verb_act (OnTape verb) row v = tape_act capacity row v m.room (state_in m tapes) (is_listing verb) m.roomed
+  verb_act Unknown row v = refl
+  verb_act Script row v = refl
+  verb_act Help row v = refl
+  verb_act Version row v = refl
 
-  call-act : (call : Call) (words : List (List ℕ)) (values : List ℕ)
-      → commanded capacity (askedFor call words values) (stateIn m tapes)
-      ≡ byAct capacity (actOf call m.roomed) (askedFor call words values) (take (count_of call) values) m.room (stateIn m tapes)
+  call_act : (call : Call) (words : List (List ℕ)) (values : List ℕ)
+      → commanded capacity (asked_for call words values) (state_in m tapes)
+      ≡ by_act capacity (act_of call m.roomed) (asked_for call words values) (take (count_of call) values) m.room (state_in m tapes)
   unfolding commanded
-  call-act (Known row count) words values = verb-act row.verb row (take count values)
-  call-act NoWord words values = refl
-  call-act NoVerb words values = refl
-  call-act (WrongCount row given) words values = refl
-  call-act (Unread row index) words values = refl
+  call_act (Known row count) words values = verb_act row.verb row (take count values)
+  call_act NoWord words values = refl
+  call_act NoVerb words values = refl
+  call_act (WrongCount row given) words values = refl
+  call_act (Unread row index) words values = refl
 
-  pub commanded-act : {asked : Asked} {act : Act} (call : Call) (words : List (List ℕ)) (values : List ℕ) → askedFor call words values ≡ asked
-      → actOf call m.roomed ≡ act
-      → commanded capacity asked (stateIn m tapes) ≡ byAct capacity act asked (take (count_of call) values) m.room (stateIn m tapes)
-  commanded-act call words values e f = rw (← e, ← f) (call-act call words values)
+  pub commanded_act : {asked : Asked} {act : Act} (call : Call) (words : List (List ℕ)) (values : List ℕ) → asked_for call words values ≡ asked
+      → act_of call m.roomed ≡ act
+      → commanded capacity asked (state_in m tapes) ≡ by_act capacity act asked (take (count_of call) values) m.room (state_in m tapes)
+  commanded_act call words values e f = rw (← e, ← f) (call_act call words values)
 
 -- ---- the parameters
 
-pub count-few : (call : Call) (words : List (List ℕ)) (values : List ℕ) → InRange call words values → count_of call ≤ maxParameters
-count-few (Known row count) words values r = r.few
-count-few NoWord words values r = omega arith
-count-few NoVerb words values r = omega arith
-count-few (WrongCount row given) words values r = omega arith
-count-few (Unread row index) words values r = omega arith
+pub count_few : (call : Call) (words : List (List ℕ)) (values : List ℕ) → InRange call words values → count_of call ≤ max_parameters
+count_few (Known row count) words values r = r.few
+count_few NoWord words values r = omega arith
+count_few NoVerb words values r = omega arith
+count_few (WrongCount row given) words values r = omega arith
+count_few (Unread row index) words values r = omega arith
 
 -- they are in the range of what is done with them
 abbrev pub ActWithin : Act → List ℕ → Type 0
-ActWithin (Edit verb) v = AllAtMost (limitIn verb) v
+ActWithin (Edit verb) v = AllAtMost (limit_in verb) v
 ActWithin (BuildTape own) v = AllAtMost largest32 v
 ActWithin Reply v = 0 ≤ 0
 ActWithin (PlacesInRoom own) v = 0 ≤ 0
 ActWithin ListInRoom v = 0 ≤ 0
 
-looks-within : (one roomed : Bool) (act : Act) (v : List ℕ) → ActWithin act v → ActWithin (cond one (cond roomed act Reply) Reply) v
-looks-within true true act v h = h
-looks-within true false act v h = omega arith
-looks-within false roomed act v h = omega arith
+looks_within : (one roomed : Bool) (act : Act) (v : List ℕ) → ActWithin act v → ActWithin (cond one (cond roomed act Reply) Reply) v
+looks_within true true act v h = h
+looks_within true false act v h = omega arith
+looks_within false roomed act v h = omega arith
 
-verb-within : (verb : Verb) (roomed : Bool) (own : ℕ) (v : List ℕ) → AllAtMost (limitOf verb) v → ActWithin (actBy verb roomed own) v
-verb-within (InScript verb) roomed own v h = h
-verb-within Build roomed own v h = h
-verb-within (OnNumbers verb) roomed own v h = looks-within (isPlaces verb) roomed (PlacesInRoom own) v (omega arith)
-verb-within (OnTape verb) roomed own v h = looks-within (isListing verb) roomed ListInRoom v (omega arith)
-verb-within Unknown roomed own v h = omega arith
-verb-within Script roomed own v h = omega arith
-verb-within Help roomed own v h = omega arith
-verb-within Version roomed own v h = omega arith
+verb_within : (verb : Verb) (roomed : Bool) (own : ℕ) (v : List ℕ) → AllAtMost (limit_of verb) v → ActWithin (act_by verb roomed own) v
+verb_within (InScript verb) roomed own v h = h
+verb_within Build roomed own v h = h
+verb_within (OnNumbers verb) roomed own v h = looks_within (is_places verb) roomed (PlacesInRoom own) v (omega arith)
+verb_within (OnTape verb) roomed own v h = looks_within (is_listing verb) roomed ListInRoom v (omega arith)
+verb_within Unknown roomed own v h = omega arith
+verb_within Script roomed own v h = omega arith
+verb_within Help roomed own v h = omega arith
+verb_within Version roomed own v h = omega arith
 
-pub act-within : {act : Act} (call : Call) (roomed : Bool) (words : List (List ℕ)) (values : List ℕ) → InRange call words values → actOf call roomed ≡ act
+pub act_within_lem : {act : Act} (call : Call) (roomed : Bool) (words : List (List ℕ)) (values : List ℕ) → InRange call words values → act_of call roomed ≡ act
     → ActWithin act (take (count_of call) values)
-act-within (Known row count) roomed words values r e = rw e at (verb-within row.verb roomed row.own_val (take count values) r.within)
-act-within NoWord roomed words values r e = rw (← e) (omega arith)
-act-within NoVerb roomed words values r e = rw (← e) (omega arith)
-act-within (WrongCount row given) roomed words values r e = rw (← e) (omega arith)
-act-within (Unread row index) roomed words values r e = rw (← e) (omega arith)
+act_within_lem (Known row count) roomed words values r e = rw e at (verb_within row.verb roomed row.own_val (take count values) r.within)
+act_within_lem NoWord roomed words values r e = rw (← e) (omega arith)
+act_within_lem NoVerb roomed words values r e = rw (← e) (omega arith)
+act_within_lem (WrongCount row given) roomed words values r e = rw (← e) (omega arith)
+act_within_lem (Unread row index) roomed words values r e = rw (← e) (omega arith)

@@ -7,37 +7,37 @@ use native.Mathlib.Nat.{min-eq_left}
 use native.Mathlib.Omega.{arith}
 use lib.ListN.{length, take, drop, length-take}
 use lib.Seq.{take_all}
-use Rattle.tape.proofs.Laws.Rows.{slice-from}
-use Rattle.tool.specs.Verbs.{maxRoom}
+use Rattle.tape.proofs.Laws.Rows.{slice_from}
+use Rattle.tool.specs.Verbs.{max_room}
 use Rattle.scripting.specs.declared.Marks.{Marks}
-use Rattle.scripting.specs.Script.{State, atHand, buildLine, buildIn, buildBy, listIn}
-use Rattle.scripting.specs.States.{roomIn, stateIn, Inside, capacityOf}
+use Rattle.scripting.specs.Script.{State, at_hand, build_line, build_in, build_by, list_in}
+use Rattle.scripting.specs.States.{room_in, state_in, Inside, capacity_of}
 
 -- the tape at hand is the part between the marks
-pub at-hand : (m : Marks) (row : List ℕ) → take (m.end - m.begin) (drop m.begin row) ≡ atHand (stateIn m row)
-unfolding atHand
-at-hand m row = sym (slice-from m.begin m.end row)
+pub at_hand_lem : (m : Marks) (row : List ℕ) → take (m.end - m.begin) (drop m.begin row) ≡ at_hand (state_in m row)
+unfolding at_hand
+at_hand_lem m row = sym (slice_from m.begin m.end row)
 
 -- it is no longer than what is used of a tape, and a room no larger than the most
-pub list-whole : {m : Marks} {row : List ℕ} → Inside m row
+pub list_whole : {m : Marks} {row : List ℕ} → Inside m row
     → let tape = take (m.end - m.begin) (drop m.begin row) in
-    listIn (min m.room maxRoom) (take (capacityOf tape) tape) ≡ listIn m.room (atHand (stateIn m row))
-list-whole {m} {row} inside =
+    list_in (min m.room max_room) (take (capacity_of tape) tape) ≡ list_in m.room (at_hand (state_in m row))
+list_whole {m} {row} inside =
     let tape = take (m.end - m.begin) (drop m.begin row) in
-    let few : length tape ≤ capacityOf tape = omega (arith, inside.size, inside.end, length-take (m.end - m.begin) (drop m.begin row)) in
-    rw (min-eq_left inside.room, take_all (capacityOf tape) tape few, at-hand m row)
+    let few : length tape ≤ capacity_of tape = omega (arith, inside.size, inside.end, length-take (m.end - m.begin) (drop m.begin row)) in
+    rw (min-eq_left inside.room, take_all (capacity_of tape) tape few, at_hand_lem m row)
 
 -- ---- the room
 
-room-free : (m : Marks) → m.roomed ≡ false → roomIn m ≡ []
-room-free m e = ap (λ (b : Bool). cond b (m.room ∷ []) []) e
+room_free : (m : Marks) → m.roomed ≡ false → room_in m ≡ []
+room_free m e = ap (λ (b : Bool). cond b (m.room ∷ []) []) e
 
-room-set : (m : Marks) → m.roomed ≡ true → roomIn m ≡ m.room ∷ []
-room-set m e = ap (λ (b : Bool). cond b (m.room ∷ []) []) e
+room_set : (m : Marks) → m.roomed ≡ true → room_in m ≡ m.room ∷ []
+room_set m e = ap (λ (b : Bool). cond b (m.room ∷ []) []) e
 
 module _ (capacity own : ℕ) (v : List ℕ) (m : Marks) (s : State) where
-  pub build-free : m.roomed ≡ false → buildBy capacity (roomIn m) own v s ≡ buildLine capacity own v s
-  build-free e = ap (λ (room : List ℕ). buildBy capacity room own v s) (room-free m e)
+  pub build_free : m.roomed ≡ false → build_by capacity (room_in m) own v s ≡ build_line capacity own v s
+  build_free e = ap (λ (room : List ℕ). build_by capacity room own v s) (room_free m e)
 
-  pub build-room : m.roomed ≡ true → buildBy capacity (roomIn m) own v s ≡ buildIn capacity m.room own v s
-  build-room e = ap (λ (room : List ℕ). buildBy capacity room own v s) (room-set m e)
+  pub build_room : m.roomed ≡ true → build_by capacity (room_in m) own v s ≡ build_in capacity m.room own v s
+  build_room e = ap (λ (room : List ℕ). build_by capacity room own v s) (room_set m e)

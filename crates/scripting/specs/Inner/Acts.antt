@@ -6,25 +6,25 @@ use Rattle.tool.specs.declared.Call.{Call}
 use Rattle.tool.specs.declared.Call.TheVariants.{NoWord, NoVerb, WrongCount, Unread, Known}
 use Rattle.scripting.specs.declared.Act.{Act}
 use Rattle.scripting.specs.declared.Act.TheVariants.{Reply, Edit, BuildTape, PlacesInRoom, ListInRoom}
-use Rattle.scripting.specs.Script.{isPlaces, isListing}
+use Rattle.scripting.specs.Script.{is_places, is_listing}
 
 -- by the verb, whether there is a room, and the refusal that is the verb's own
-abbrev pub actBy : Verb → Bool → ℕ → Act
-actBy (InScript verb) roomed own = Edit verb
-actBy Build roomed own = BuildTape own
-actBy (OnNumbers verb) roomed own = cond (isPlaces verb) (cond roomed (PlacesInRoom own) Reply) Reply
-actBy (OnTape verb) roomed own = cond (isListing verb) (cond roomed ListInRoom Reply) Reply
-actBy Unknown roomed own = Reply
-actBy Script roomed own = Reply
-actBy Help roomed own = Reply
-actBy Version roomed own = Reply
+abbrev pub act_by : Verb → Bool → ℕ → Act
+act_by (InScript verb) roomed own = Edit verb
+act_by Build roomed own = BuildTape own
+act_by (OnNumbers verb) roomed own = cond (is_places verb) (cond roomed (PlacesInRoom own) Reply) Reply
+act_by (OnTape verb) roomed own = cond (is_listing verb) (cond roomed ListInRoom Reply) Reply
+act_by Unknown roomed own = Reply
+act_by Script roomed own = Reply
+act_by Help roomed own = Reply
+act_by Version roomed own = Reply
 
-abbrev pub actOf : Call → Bool → Act
-actOf (Known row count) roomed = actBy row.verb roomed row.own_val
-actOf NoWord roomed = Reply
-actOf NoVerb roomed = Reply
-actOf (WrongCount row given) roomed = Reply
-actOf (Unread row index) roomed = Reply
+abbrev pub act_of : Call → Bool → Act
+act_of (Known row count) roomed = act_by row.verb roomed row.own_val
+act_of NoWord roomed = Reply
+act_of NoVerb roomed = Reply
+act_of (WrongCount row given) roomed = Reply
+act_of (Unread row index) roomed = Reply
 
 -- how many parameters it has
 abbrev pub count_of : Call → ℕ

@@ -2,7 +2,7 @@
 use Rattle.std.specs.Prelude.{List, ℕ, ◌≤◌, length}
 use Rattle.refusal.specs.declared.NumberAnswer.{NumberAnswer}
 use Rattle.scripting.specs.declared.Marks.{Marks}
-use Rattle.scripting.specs.States.{Inside, countIn}
+use Rattle.scripting.specs.States.{Inside, count_in}
 
 -- a row of at most so many words
 pub record ShortRow (most : ℕ) (m : Marks) (tapes row : List ℕ) : Type 0 where
@@ -13,7 +13,7 @@ pub record ShortRow (most : ℕ) (m : Marks) (tapes row : List ℕ) : Type 0 whe
 pub record WrittenRow (most : ℕ) (m : Marks) (tapes row : List ℕ) (answer : NumberAnswer) : Type 0 where
   pub inside : Inside m tapes
   pub short : length row ≤ most
-  pub counted : countIn answer ≤ length row
+  pub counted : count_in answer ≤ length row
 
 -- a place in the tape at hand, or past its end
 pub record Placed (m : Marks) (tapes : List ℕ) (at : ℕ) : Type 0 where

@@ -9,114 +9,114 @@ use lib.Dec.{leb, eqb}
 use lib.ListN.{length, set, take, drop}
 use lib.Seq.{sets, length-slice}
 use borrow.Author.Tests.{leb-false, eqb-false, ne_eqb, lt-leb}
-use Rattle.refusal.specs.Outcomes.{Outcome, Rule, answered, refusalNumber, after}
-use Rattle.refusal.proofs.Laws.Rules.{passed, refused-where, zero-answered, other-refused}
+use Rattle.refusal.specs.Outcomes.{Outcome, Rule, answered, refusal_number, after}
+use Rattle.refusal.proofs.Laws.Rules.{passed, refused_where, zero_answered, other_refused}
 use Rattle.modular.specs.Primes.{Prime}
 use Rattle.modular.specs.Residues.{Residue}
 use Rattle.refusal.proofs.Laws.Tests.{neither}
-use Rattle.tape.specs.Layout.{maxWords, headerOf, stepIndex, stepWordsOf, steps_of, stepWords}
+use Rattle.tape.specs.Layout.{max_words, header_of, step_index, step_words_of, steps_of, step_words}
 use Rattle.tape.specs.Steps.{AllSound}
-use Rattle.tape.proofs.Laws.Rows.{all-steps-sound, slice-from}
+use Rattle.tape.proofs.Laws.Rows.{all_steps_sound, slice_from}
 use Rattle.tape.proofs.Laws.Reading.{length_most}
-use Rattle.tape.proofs.Laws.Layout.{laid-out-long}
+use Rattle.tape.proofs.Laws.Layout.{laid_out_long}
 use Rattle.machine.specs.Machine.{Residues}
-use Rattle.machine.proofs.Laws.Steps.{residues-four}
-use Rattle.program.specs.Services.{checkRules, checkOutcome, acceptOutcome}
-use Rattle.program.specs.Door.{onTape}
+use Rattle.machine.proofs.Laws.Steps.{residues_four}
+use Rattle.program.specs.Services.{check_rules, check_outcome, accept_outcome}
+use Rattle.program.specs.Door.{on_tape}
 use Rattle.program.proofs.Laws.Checking.{accepted}
-use Rattle.program.proofs.Laws.Accepting.{accepted-prime}
-use Rattle.program.proofs.Laws.Door.{answered-tape, answered-own, answered-with}
+use Rattle.program.proofs.Laws.Accepting.{accepted_prime}
+use Rattle.program.proofs.Laws.Door.{answered_tape, answered_own, answered_with}
 use Rattle.sequencer.specs.Records.{Record}
-use Rattle.sequencer.specs.Services.{badRegister, badRegisters, badBase, baseRules, startRecord, loadOutcome, runRules, recordAt, runOutcome, cutRules, cutOutcome, cutStart, cutCount}
-use Rattle.sequencer.specs.Lists.{Request, given, answerTo, recordAfter, numbersAll}
+use Rattle.sequencer.specs.Services.{bad_register, bad_registers, bad_base, base_rules, start_record, load_outcome, run_rules, record_at, run_outcome, cut_rules, cut_outcome, cut_start, cut_count}
+use Rattle.sequencer.specs.Lists.{Request, given, answer_to, record_after, numbers_all}
 use Rattle.sequencer.specs.Demand.{AsSaid, EachAsSaid}
-use Rattle.sequencer.proofs.Laws.Cases.{good-cut}
+use Rattle.sequencer.proofs.Laws.Cases.{good_cut}
 
 -- what is said of an outcome is said of the answer that comes to it
 pub said_of : {A : Type 0} {o answer : Outcome A} (P Q : Outcome A → Type 0) → P o → Q o → answer ≡ o → (answer ≡ o) × (P answer × Q answer)
 said_of P Q p q e = (e, (subst P (sym e) p, subst Q (sym e) q))
 
 -- a number that refusal 9 lets pass
-pub good-register : (p x : ℕ) → badRegister p x ≡ false → Residue p x
-unfolding badRegister
+pub good-register : (p x : ℕ) → bad_register p x ≡ false → Residue p x
+unfolding bad_register
 good-register p x good =
     let n = neither (eqb x 0) (leb p x) good in
     record { low = omega (arith, eqb-false x 0 n.0); high = leb-false p x n.1 }
 
-pub residue-good : (p x : ℕ) → Residue p x → badRegister p x ≡ false
-unfolding badRegister
+pub residue-good : (p x : ℕ) → Residue p x → bad_register p x ≡ false
+unfolding bad_register
 residue-good p x r = rw (ne_eqb x 0 (λ e. omega arith), lt-leb p x r.high)
 
-pub residues-registers : (p c d e f : ℕ) → badRegisters p (c ∷ d ∷ e ∷ f ∷ []) ≡ false → Residues p (c ∷ d ∷ e ∷ f ∷ [])
-unfolding badRegisters
+pub residues-registers : (p c d e f : ℕ) → bad_registers p (c ∷ d ∷ e ∷ f ∷ []) ≡ false → Residues p (c ∷ d ∷ e ∷ f ∷ [])
+unfolding bad_registers
 residues-registers p c d e f good =
-    let first = neither (badRegister p c) _ good in
-    let second = neither (badRegister p d) _ first.1 in
-    let third = neither (badRegister p e) _ second.1 in
-    let fourth = neither (badRegister p f) _ third.1 in
-    residues-four p c d e f (good-register p c first.0) (good-register p d second.0) (good-register p e third.0) (good-register p f fourth.0)
+    let first = neither (bad_register p c) _ good in
+    let second = neither (bad_register p d) _ first.1 in
+    let third = neither (bad_register p e) _ second.1 in
+    let fourth = neither (bad_register p f) _ third.1 in
+    residues_four p c d e f (good-register p c first.0) (good-register p d second.0) (good-register p e third.0) (good-register p f fourth.0)
 
 -- the steps of a tape are sound, and an accepted tape's p is prime
 pub steps-sound : (tape : List ℕ) → AllSound (steps_of tape)
-steps-sound tape = all-steps-sound (stepWordsOf tape)
+steps-sound tape = all_steps_sound (step_words_of tape)
 
-pub prime-of : (tape : List ℕ) → checkOutcome tape ≡ answered 0 → Prime (headerOf tape).modulus
-prime-of tape e = accepted-prime tape (accepted 0 tape e)
+pub prime-of : (tape : List ℕ) → check_outcome tape ≡ answered 0 → Prime (header_of tape).modulus
+prime-of tape e = accepted_prime tape (accepted 0 tape e)
 
 pub record Loaded (tape : List ℕ) (a : ℕ) (s : Record) : Type 0 where
-  pub accepted : acceptOutcome tape ≡ answered (headerOf tape)
-  pub base : Residue (headerOf tape).modulus a
-  pub allowed : badBase (headerOf tape) a ≡ false
-  pub record_is : s ≡ startRecord a
+  pub accepted : accept_outcome tape ≡ answered (header_of tape)
+  pub base : Residue (header_of tape).modulus a
+  pub allowed : bad_base (header_of tape) a ≡ false
+  pub record_is : s ≡ start_record a
 
-pub load-answered : (tape : List ℕ) (a : ℕ) (s : Record) → loadOutcome tape a ≡ answered s → Loaded tape a s
-unfolding loadOutcome baseRules
+pub load-answered : (tape : List ℕ) (a : ℕ) (s : Record) → load_outcome tape a ≡ answered s → Loaded tape a s
+unfolding load_outcome base_rules
 load-answered tape a s e =
-    let register = passed _ _ _ _ _ (answered-own tape _ (startRecord a) e) in
+    let register = passed _ _ _ _ _ (answered_own tape _ (start_record a) e) in
     record {
-      accepted = answered-tape tape _ (startRecord a) e;
+      accepted = answered_tape tape _ (start_record a) e;
       base = good-register _ a register.0;
       allowed = (passed _ _ _ _ _ register.1).0;
-      record_is = answered-with tape _ (startRecord a) e;
+      record_is = answered_with tape _ (start_record a) e;
     }
 
-pub run-answered : (tape : List ℕ) (s : Record) (goal : ℕ) {t : Record} → runOutcome tape s goal ≡ answered t
-    → t ≡ recordAt (headerOf tape) (steps_of tape) s goal
-unfolding runOutcome
-run-answered tape s goal e = answered-with tape _ _ e
+pub run-answered : (tape : List ℕ) (s : Record) (goal : ℕ) {t : Record} → run_outcome tape s goal ≡ answered t
+    → t ≡ record_at (header_of tape) (steps_of tape) s goal
+unfolding run_outcome
+run-answered tape s goal e = answered_with tape _ _ e
 
--- what 0 beside a cut says: its words are those of the definition, and stand where `cutStart` and `cutCount` say, inside a tape of at
+-- what 0 beside a cut says: its words are those of the definition, and stand where `cut_start` and `cut_count` say, inside a tape of at
 -- most so many words as a tape has
 pub record Stands (tape : List ℕ) (first last : ℕ) : Type 0 where
-  pub words : cutOutcome tape first last ≡ answered (stepWords tape first last)
-  pub start : (held : ℕ) → after (cutStart tape first last) held ≡ stepIndex tape first
-  pub count : (held : ℕ) → after (cutCount tape first last) held ≡ length (stepWords tape first last)
-  pub part : take (length (stepWords tape first last)) (drop (stepIndex tape first) tape) ≡ stepWords tape first last
+  pub words : cut_outcome tape first last ≡ answered (step_words tape first last)
+  pub start : (held : ℕ) → after (cut_start tape first last) held ≡ step_index tape first
+  pub count : (held : ℕ) → after (cut_count tape first last) held ≡ length (step_words tape first last)
+  pub part : take (length (step_words tape first last)) (drop (step_index tape first) tape) ≡ step_words tape first last
   pub order : first ≤ last
-  pub inside : stepIndex tape last ≤ length tape
-  pub short : length tape ≤ maxWords
-  pub most : length (stepWords tape first last) ≤ length tape
+  pub inside : step_index tape last ≤ length tape
+  pub short : length tape ≤ max_words
+  pub most : length (step_words tape first last) ≤ length tape
 
 module _ (tape : List ℕ) (first last : ℕ) where
   abbrev words : List ℕ
-  words = stepWords tape first last
+  words = step_words tape first last
 
   abbrev rules : List Rule
-  rules = checkRules tape ++ cutRules (headerOf tape) first last
+  rules = check_rules tape ++ cut_rules (header_of tape) first last
 
-  pub cut_stands : refusalNumber (cutOutcome tape first last) ≡ 0 → Stands tape first last
-  unfolding cutOutcome cutRules cutStart cutCount onTape
+  pub cut_stands : refusal_number (cut_outcome tape first last) ≡ 0 → Stands tape first last
+  unfolding cut_outcome cut_rules cut_start cut_count on_tape
   cut_stands e =
-      let answer = (zero-answered words words words rules e).0 in
-      let all = accepted _ tape (answered-tape tape _ words answer) in
-      let within = good-cut (headerOf tape).steps first last (passed _ _ _ _ _ (answered-own tape _ words answer)).0 in
-      let long = laid-out-long tape all.laid in
-      let size = length-slice (stepIndex tape first) (stepIndex tape last) tape (omega arith) in
+      let answer = (zero_answered words words words rules e).0 in
+      let all = accepted _ tape (answered_tape tape _ words answer) in
+      let within = good_cut (header_of tape).steps first last (passed _ _ _ _ _ (answered_own tape _ words answer)).0 in
+      let long = laid_out_long tape all.laid in
+      let size = length-slice (step_index tape first) (step_index tape last) tape (omega arith) in
       record {
         words = answer;
-        start = λ held. (zero-answered words (stepIndex tape first) held rules e).1;
-        count = λ held. (zero-answered words (length words) held rules e).1;
-        part = rw size (sym (slice-from (stepIndex tape first) (stepIndex tape last) tape));
+        start = λ held. (zero_answered words (step_index tape first) held rules e).1;
+        count = λ held. (zero_answered words (length words) held rules e).1;
+        part = rw size (sym (slice_from (step_index tape first) (step_index tape last) tape));
         order = within.0;
         inside = omega arith;
         short = length_most tape all.long;
@@ -124,32 +124,32 @@ module _ (tape : List ℕ) (first last : ℕ) where
       }
 
   -- and another number: both places hold what they held
-  pub cut-not : ¬ (refusalNumber (cutOutcome tape first last) ≡ 0) → (held : ℕ)
-      → (after (cutStart tape first last) held ≡ held) × (after (cutCount tape first last) held ≡ held)
-  unfolding cutOutcome cutStart cutCount onTape
-  cut-not some held = (other-refused words (stepIndex tape first) held rules some, other-refused words (length words) held rules some)
+  pub cut-not : ¬ (refusal_number (cut_outcome tape first last) ≡ 0) → (held : ℕ)
+      → (after (cut_start tape first last) held ≡ held) × (after (cut_count tape first last) held ≡ held)
+  unfolding cut_outcome cut_start cut_count on_tape
+  cut-not some held = (other_refused words (step_index tape first) held rules some, other_refused words (length words) held rules some)
 
 -- every run of every list is refused or answers as said
 as_said : (q : Request) (s : Record) → AsSaid q s
-unfolding runOutcome onTape runRules
-as_said q s = refused-where (runRules q.tape (given q s) q.goal) _
+unfolding run_outcome on_tape run_rules
+as_said q s = refused_where (run_rules q.tape (given q s) q.goal) _
 
 -- a row written from its first entry on, entry by entry
 sets-none : (i : ℕ) (numbers : List ℕ) → sets [] i numbers ≡ []
 sets-none i [] = refl
 sets-none i (n ∷ numbers) = sets-none (suc i) numbers
 
-sets-past : (x : ℕ) (row : List ℕ) (i : ℕ) (numbers : List ℕ) → sets (x ∷ row) (suc i) numbers ≡ x ∷ sets row i numbers
-sets-past x row i [] = refl
-sets-past x row i (n ∷ numbers) = sets-past x (set row i n) (suc i) numbers
+sets_past : (x : ℕ) (row : List ℕ) (i : ℕ) (numbers : List ℕ) → sets (x ∷ row) (suc i) numbers ≡ x ∷ sets row i numbers
+sets_past x row i [] = refl
+sets_past x row i (n ∷ numbers) = sets_past x (set row i n) (suc i) numbers
 
 -- with its number in its place of a row
-pub each-as-said : (qs : List Request) (s : Record) (row : List ℕ) → EachAsSaid qs s (sets row 0 (numbersAll qs s))
-unfolding EachAsSaid numbersAll
+pub each-as-said : (qs : List Request) (s : Record) (row : List ℕ) → EachAsSaid qs s (sets row 0 (numbers_all qs s))
+unfolding EachAsSaid numbers_all
 each-as-said [] s row = tt
 each-as-said (q ∷ qs) s [] =
-    let rest = each-as-said qs (recordAfter q s) [] in
-    rw (sets-none 1 (numbersAll qs (recordAfter q s))) (as_said q s, rw (sets-none 0 (numbersAll qs (recordAfter q s))) at rest)
+    let rest = each-as-said qs (record_after q s) [] in
+    rw (sets-none 1 (numbers_all qs (record_after q s))) (as_said q s, rw (sets-none 0 (numbers_all qs (record_after q s))) at rest)
 each-as-said (q ∷ qs) s (n ∷ row) =
-    rw (sets-past (refusalNumber (answerTo q s)) row 0 (numbersAll qs (recordAfter q s)))
-    (as_said q s, refl, each-as-said qs (recordAfter q s) row)
+    rw (sets_past (refusal_number (answer_to q s)) row 0 (numbers_all qs (record_after q s)))
+    (as_said q s, refl, each-as-said qs (record_after q s) row)

@@ -6,70 +6,70 @@ use Prim.Native.Nat.{ℕ, ◌+◌, ◌-◌, ◌≤◌, ◌<◌}
 use native.Mathlib.Omega.{arith}
 use lib.ListN.{length, get_or, length-map}
 use borrow.Author.Tests.{ltb-false}
-use Rattle.refusal.specs.Outcomes.{Outcome, refused, answered, outcome, refusalNumber, and_then}
-use Rattle.refusal.proofs.Laws.Rules.{made_of, still-answered, passed, by_number}
+use Rattle.refusal.specs.Outcomes.{Outcome, refused, answered, outcome, refusal_number, and_then}
+use Rattle.refusal.proofs.Laws.Rules.{made_of, still_answered, passed, by_number}
 use Rattle.tape.specs.declared.Step.{Step}
-use Rattle.tape.specs.Layout.{maxSteps, isLength, headerOf, stepWordsOf, part, stepsIn, steps_of}
-use Rattle.tape.specs.Inner.Operations.{rawSteps}
+use Rattle.tape.specs.Layout.{max_steps, is_length, header_of, step_words_of, part, steps_in, steps_of}
+use Rattle.tape.specs.Inner.Operations.{raw_steps}
 use Rattle.tape.proofs.Laws.Rows.{words_count}
 use Rattle.tape.proofs.Laws.Reading.{length_most}
-use Rattle.machine.specs.Machine.{doAll, inverted}
-use Rattle.machine.specs.Ways.{way, countsOf}
-use Rattle.machine.proofs.Laws.Ways.{run-way, way-forward, way-backward, run-here}
-use Rattle.machine.proofs.Laws.Counts.{exchanged, counts-inverted, counts-total, counts-here, counts-back, way-length}
-use Rattle.program.specs.Services.{checkRules}
-use Rattle.program.specs.Door.{onTape}
+use Rattle.machine.specs.Machine.{do_all, inverted}
+use Rattle.machine.specs.Ways.{way, counts_of}
+use Rattle.machine.proofs.Laws.Ways.{run_way, way_forward, way_backward, run_here}
+use Rattle.machine.proofs.Laws.Counts.{exchanged, counts_inverted, counts_total, counts_here, counts_back, way_length}
+use Rattle.program.specs.Services.{check_rules}
+use Rattle.program.specs.Door.{on_tape}
 use Rattle.program.proofs.Laws.Checking.{accepted}
-use Rattle.program.proofs.Laws.Door.{answered-tape, answered-own, answered-with}
+use Rattle.program.proofs.Laws.Door.{answered_tape, answered_own, answered_with}
 use Rattle.sequencer.specs.Records.{Record}
-use Rattle.sequencer.specs.Services.{recordRules, goalRules, runRules, recordAt, runOutcome}
-use Rattle.sequencer.specs.Sessions.{openOutcome, refusedRecord}
-use Rattle.sequencer.specs.Previews.{Shown, shownAt, previewOutcome, sessionPreview}
+use Rattle.sequencer.specs.Services.{record_rules, goal_rules, run_rules, record_at, run_outcome}
+use Rattle.sequencer.specs.Sessions.{open_outcome, refused_record}
+use Rattle.sequencer.specs.Previews.{Shown, shown_at, preview_outcome, session_preview}
 use Rattle.sequencer.specs.Inner.Runs.{Inside}
-use Rattle.sequencer.proofs.Laws.Cases.{words-steps}
-use Rattle.sequencer.proofs.Laws.Positions.{raw-part}
-use Rattle.sequencer.proofs.Laws.Sessions.{run-opens, stands, opened}
+use Rattle.sequencer.proofs.Laws.Cases.{words_steps}
+use Rattle.sequencer.proofs.Laws.Positions.{raw_part}
+use Rattle.sequencer.proofs.Laws.Sessions.{run_opens, stands, opened}
 
 -- on the empty tape
-preview-empty : (s : Record) (goal : ℕ) → previewOutcome [] s goal ≡ refused 6
-unfolding previewOutcome onTape checkRules isLength outcome
-preview-empty s goal = refl
+preview_empty : (s : Record) (goal : ℕ) → preview_outcome [] s goal ≡ refused 6
+unfolding preview_outcome on_tape check_rules is_length outcome
+preview_empty s goal = refl
 
 -- ---- the words that the counts are read off
 
 -- a run that is answered leads from one position of its steps to another, and these are few
-pub run_inside : (tape : List ℕ) (s : Record) (goal : ℕ) {t : Record} → runOutcome tape s goal ≡ answered t
-    → Inside (stepWordsOf tape) s.position goal × (length (stepWordsOf tape) ≤ maxSteps)
-unfolding runOutcome goalRules recordRules
+pub run_inside : (tape : List ℕ) (s : Record) (goal : ℕ) {t : Record} → run_outcome tape s goal ≡ answered t
+    → Inside (step_words_of tape) s.position goal × (length (step_words_of tape) ≤ max_steps)
+unfolding run_outcome goal_rules record_rules
 run_inside tape s goal e =
-    let h = headerOf tape in
-    let there = recordAt h (steps_of tape) s goal in
-    let accept = answered-tape tape _ there e in
-    let registers = passed _ _ _ _ _ (answered-own tape _ there e) in
+    let h = header_of tape in
+    let there = record_at h (steps_of tape) s goal in
+    let accept = answered_tape tape _ there e in
+    let registers = passed _ _ _ _ _ (answered_own tape _ there e) in
     let from = passed _ _ _ _ _ registers.1 in
     let count = words_count tape in (
       record {
-        are-steps = words-steps tape h accept;
-        from-inside = omega (arith, ltb-false h.steps s.position from.0);
-        goal-inside = omega (arith, ltb-false h.steps goal (passed _ _ _ _ _ from.1).0);
+        are_steps = words_steps tape h accept;
+        from_inside = omega (arith, ltb-false h.steps s.position from.0);
+        goal_inside = omega (arith, ltb-false h.steps goal (passed _ _ _ _ _ from.1).0);
       },
       omega (arith, length_most tape (accepted h tape accept).long),
     )
 
 -- the steps in the digits of the words between are those of the way, forward, and those of the way taken back, backward
 module _ (words : List ℕ) (i j : ℕ) (inside : Inside words i j) where
-  pub counts-forward : i ≤ j → countsOf (rawSteps (part words i j)) ≡ countsOf (way (stepsIn words) i j)
-  counts-forward order = ap countsOf (raw-part words inside.are-steps i j order inside.goal-inside ∙ sym (way-forward (stepsIn words) i j order))
+  pub counts_forward : i ≤ j → counts_of (raw_steps (part words i j)) ≡ counts_of (way (steps_in words) i j)
+  counts_forward order = ap counts_of (raw_part words inside.are_steps i j order inside.goal_inside ∙ sym (way_forward (steps_in words) i j order))
 
-  pub counts-backward : j < i → exchanged (countsOf (rawSteps (part words j i))) ≡ countsOf (way (stepsIn words) i j)
-  counts-backward order =
-      sym (counts-inverted (rawSteps (part words j i)))
-      ∙ ap (λ (l : List Step). countsOf (inverted l)) (raw-part words inside.are-steps j i (omega arith) inside.from-inside)
-      ∙ ap countsOf (sym (way-backward (stepsIn words) i j order))
+  pub counts_backward : j < i → exchanged (counts_of (raw_steps (part words j i))) ≡ counts_of (way (steps_in words) i j)
+  counts_backward order =
+      sym (counts_inverted (raw_steps (part words j i)))
+      ∙ ap (λ (l : List Step). counts_of (inverted l)) (raw_part words inside.are_steps j i (omega arith) inside.from_inside)
+      ∙ ap counts_of (sym (way_backward (steps_in words) i j order))
 
 module _ (tape : List ℕ) (s : Record) where
   abbrev p : ℕ
-  p = (headerOf tape).modulus
+  p = (header_of tape).modulus
 
   abbrev xs : List Step
   xs = steps_of tape
@@ -84,72 +84,72 @@ module _ (tape : List ℕ) (s : Record) where
 
     -- what is shown of the record that a run answers
     abbrev shown : Record → Shown
-    shown t = record { registers = t.registers; counts = countsOf done }
+    shown t = record { registers = t.registers; counts = counts_of done }
 
     -- ---- a preview is a run on a copy
 
-    pub preview-run : previewOutcome tape s goal ≡ and_then (runOutcome tape s goal) (λ t. answered (shown t))
-    unfolding previewOutcome runOutcome onTape runRules
-    preview-run = made_of shown (recordAt (headerOf tape) xs s goal) (runRules tape s goal)
+    pub preview_run : preview_outcome tape s goal ≡ and_then (run_outcome tape s goal) (λ t. answered (shown t))
+    unfolding preview_outcome run_outcome on_tape run_rules
+    preview_run = made_of shown (record_at (header_of tape) xs s goal) (run_rules tape s goal)
 
     -- refused exactly as it is
-    pub preview-number : refusalNumber (previewOutcome tape s goal) ≡ refusalNumber (runOutcome tape s goal)
-    preview-number = ap refusalNumber preview-run ∙ go (runOutcome tape s goal)
+    pub preview_number : refusal_number (preview_outcome tape s goal) ≡ refusal_number (run_outcome tape s goal)
+    preview_number = ap refusal_number preview_run ∙ go (run_outcome tape s goal)
       where
-        go : (o : Outcome Record) → refusalNumber (and_then o (λ t. answered (shown t))) ≡ refusalNumber o
+        go : (o : Outcome Record) → refusal_number (and_then o (λ t. answered (shown t))) ≡ refusal_number o
         go (refused n) = refl
         go (answered t) = refl
 
-    module _ {w : Shown} (e : previewOutcome tape s goal ≡ answered w) where
-      shows : w ≡ shownAt (headerOf tape) xs s goal
-      unfolding previewOutcome
-      shows = answered-with tape _ _ e
+    module _ {w : Shown} (e : preview_outcome tape s goal ≡ answered w) where
+      shows : w ≡ shown_at (header_of tape) xs s goal
+      unfolding preview_outcome
+      shows = answered_with tape _ _ e
 
       -- and else what is shown is what it answers
-      pub preview-answered : runOutcome tape s goal ≡ answered (record { registers = w.registers; position = goal })
-      unfolding previewOutcome runOutcome onTape runRules
-      preview-answered =
-          still-answered (shownAt (headerOf tape) xs s goal) (recordAt (headerOf tape) xs s goal) (runRules tape s goal) e
+      pub preview_answered : run_outcome tape s goal ≡ answered (record { registers = w.registers; position = goal })
+      unfolding preview_outcome run_outcome on_tape run_rules
+      preview_answered =
+          still_answered (shown_at (header_of tape) xs s goal) (record_at (header_of tape) xs s goal) (run_rules tape s goal) e
           ∙ ap (λ (x : Shown). answered (record { registers = x.registers; position = goal })) (sym shows)
 
       -- the steps that are counted are those that make the registers
-      pub preview-way : (w.registers ≡ doAll p done s.registers) × (w.counts ≡ countsOf done)
-      preview-way = (ap (λ (x : Shown). x.registers) shows ∙ run-way p xs position goal s.registers, ap (λ (x : Shown). x.counts) shows)
+      pub preview_way : (w.registers ≡ do_all p done s.registers) × (w.counts ≡ counts_of done)
+      preview_way = (ap (λ (x : Shown). x.registers) shows ∙ run_way p xs position goal s.registers, ap (λ (x : Shown). x.counts) shows)
 
       -- the three counts add up to how far the goal is
-      pub preview-distance : get_or w.counts 0 0 + get_or w.counts 1 0 + get_or w.counts 2 0 ≡ (goal - position) + (position - goal)
-      preview-distance =
-          let inside = (run_inside tape s goal preview-answered).0 in
-          let as_many : length xs ≡ length (stepWordsOf tape) = length-map (stepWordsOf tape) _ in
-          rw preview-way.1
-          (counts-total done ∙ way-length xs position goal (omega (arith, inside.from-inside)) (omega (arith, inside.goal-inside)))
+      pub preview_distance : get_or w.counts 0 0 + get_or w.counts 1 0 + get_or w.counts 2 0 ≡ (goal - position) + (position - goal)
+      preview_distance =
+          let inside = (run_inside tape s goal preview_answered).0 in
+          let as_many : length xs ≡ length (step_words_of tape) = length-map (step_words_of tape) _ in
+          rw preview_way.1
+          (counts_total done ∙ way_length xs position goal (omega (arith, inside.from_inside)) (omega (arith, inside.goal_inside)))
 
       -- on the way back from a record there, mul and div are exchanged
-      pub preview-back : (t : Record) → t.position ≡ goal → {b : Shown} → previewOutcome tape t position ≡ answered b → b.counts ≡ exchanged w.counts
-      unfolding previewOutcome
-      preview-back t at f =
-          ap (λ (x : Shown). x.counts) (answered-with tape _ _ f)
-          ∙ ap (λ (i : ℕ). countsOf (way xs i position)) at
-          ∙ counts-back xs position goal
-          ∙ ap exchanged (sym preview-way.1)
+      pub preview_back : (t : Record) → t.position ≡ goal → {b : Shown} → preview_outcome tape t position ≡ answered b → b.counts ≡ exchanged w.counts
+      unfolding preview_outcome
+      preview_back t at f =
+          ap (λ (x : Shown). x.counts) (answered_with tape _ _ f)
+          ∙ ap (λ (i : ℕ). counts_of (way xs i position)) at
+          ∙ counts_back xs position goal
+          ∙ ap exchanged (sym preview_way.1)
 
     -- ---- a preview of the session that is opened
 
     -- opening comes first
-    opens : {n : ℕ} → openOutcome tape s ≡ refused n → previewOutcome tape s goal ≡ refused n
-    opens e = preview-run ∙ rw (run-opens tape s goal, e) refl
+    opens : {n : ℕ} → open_outcome tape s ≡ refused n → preview_outcome tape s goal ≡ refused n
+    opens e = preview_run ∙ rw (run_opens tape s goal, e) refl
 
-    pub preview-not-opened : ¬ (refusalNumber (openOutcome tape s) ≡ 0) → previewOutcome tape s goal ≡ refused (refusalNumber (openOutcome tape s))
-    preview-not-opened some = opens (by_number _ some)
+    pub preview_not_opened : ¬ (refusal_number (open_outcome tape s) ≡ 0) → preview_outcome tape s goal ≡ refused (refusal_number (open_outcome tape s))
+    preview_not_opened some = opens (by_number _ some)
 
-    pub preview-opened : refusalNumber (openOutcome tape s) ≡ 0 → sessionPreview tape s goal ≡ previewOutcome tape s goal
-    unfolding sessionPreview
-    preview-opened zero = rw (opened tape s zero) refl
+    pub preview_opened : refusal_number (open_outcome tape s) ≡ 0 → session_preview tape s goal ≡ preview_outcome tape s goal
+    unfolding session_preview
+    preview_opened zero = rw (opened tape s zero) refl
 
     -- a refused one holds the empty tape, so its preview gives 6
-    pub refused-preview : {n : ℕ} → openOutcome tape s ≡ refused n → sessionPreview tape s goal ≡ refused 6
-    unfolding sessionPreview
-    refused-preview e = rw e (preview-empty refusedRecord goal)
+    pub refused_preview : {n : ℕ} → open_outcome tape s ≡ refused n → session_preview tape s goal ≡ refused 6
+    unfolding session_preview
+    refused_preview e = rw e (preview_empty refused_record goal)
 
   -- ---- where the record stands
 
@@ -157,9 +157,9 @@ module _ (tape : List ℕ) (s : Record) where
   here = record { registers = s.registers; counts = 0 ∷ 0 ∷ 0 ∷ [] }
 
   -- a preview is refused as opening is, and else shows the registers and three zeros
-  pub preview-here : previewOutcome tape s position ≡ and_then (openOutcome tape s) (λ t. answered here)
-  preview-here = go (openOutcome tape s) refl
+  pub preview_here : preview_outcome tape s position ≡ and_then (open_outcome tape s) (λ t. answered here)
+  preview_here = go (open_outcome tape s) refl
     where
-      go : (o : Outcome Record) → openOutcome tape s ≡ o → previewOutcome tape s position ≡ and_then o (λ t. answered here)
+      go : (o : Outcome Record) → open_outcome tape s ≡ o → preview_outcome tape s position ≡ and_then o (λ t. answered here)
       go (refused n) e = opens position e
-      go (answered t) e = preview-run position ∙ rw (stands tape s e, counts-here xs position, run-here p xs position s.registers) refl
+      go (answered t) e = preview_run position ∙ rw (stands tape s e, counts_here xs position, run_here p xs position s.registers) refl

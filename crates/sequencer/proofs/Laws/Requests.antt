@@ -6,14 +6,14 @@ use Prim.Native.Nat.{ℕ, suc, ◌+◌, ◌-◌, ◌^◌, ◌≤◌, ◌<◌}
 use native.Mathlib.Omega.{arith}
 use lib.ListN.{length, get_or, set, drop, length-drop, length-append}
 use lib.Seq.{sets, take_at, drop_at}
-use Rattle.refusal.specs.Outcomes.{refusalNumber}
+use Rattle.refusal.specs.Outcomes.{refusal_number}
 use Rattle.tape.specs.Layout.{part}
-use Rattle.tape.proofs.Laws.Rows.{part-inside, drop-next}
+use Rattle.tape.proofs.Laws.Rows.{part_inside, drop_next}
 use Rattle.sequencer.specs.Records.{Record}
-use Rattle.sequencer.specs.Lists.{Turn, none, to, Request, answerTo, recordAfter, afterAll, numbersAll, turn_of, requestsOf, AllBelow, EncodedRequests, tapesOf, turnWord, PositionsFit}
+use Rattle.sequencer.specs.Lists.{Turn, none, to, Request, answer_to, record_after, after_all, numbers_all, turn_of, requests_of, AllBelow, EncodedRequests, tapes_of, turn_word, PositionsFit}
 
-fewer : (row words : List ℕ) → length words < 4 → requestsOf row words ≡ []
-unfolding requestsOf
+fewer : (row words : List ℕ) → length words < 4 → requests_of row words ≡ []
+unfolding requests_of
 fewer row [] h = refl
 fewer row (a ∷ []) h = refl
 fewer row (a ∷ b ∷ []) h = refl
@@ -23,11 +23,11 @@ fewer row (a ∷ b ∷ c ∷ d ∷ words) h = absurd (omega arith)
 module _ (row words : List ℕ) (i : ℕ) where
   -- the word at an index, and those past it
   next_word : (j : ℕ) → j < length words → drop j words ≡ get_or words j 0 ∷ drop (j + 1) words
-  next_word j h = drop-next words j (j + 1) 0 refl h
+  next_word j h = drop_next words j (j + 1) 0 refl h
 
-  four-words : i + 4 ≤ length words
+  four_words : i + 4 ≤ length words
       → drop i words ≡ get_or words i 0 ∷ get_or words (i + 1) 0 ∷ get_or words (i + 2) 0 ∷ get_or words (i + 3) 0 ∷ drop (i + 4) words
-  four-words h =
+  four_words h =
       let a = next_word i (omega arith) in
       let b = next_word (i + 1) (omega arith) in
       let c = next_word (i + 2) (omega arith) in
@@ -42,65 +42,65 @@ module _ (row words : List ℕ) (i : ℕ) where
     abbrev request : Request
     request = record { tape = part row (get_or words i 0) (get_or words (i + 1) 0); turn = turn_of (get_or words (i + 2) 0); goal = get_or words (i + 3) 0 }
 
-    first : requestsOf row (drop i words) ≡ request ∷ requestsOf row (drop (i + 4) words)
-    unfolding requestsOf
-    first = ap (requestsOf row) (four-words h)
+    first : requests_of row (drop i words) ≡ request ∷ requests_of row (drop (i + 4) words)
+    unfolding requests_of
+    first = ap (requests_of row) (four_words h)
 
-    pub after_next : t ≡ recordAfter request s → afterAll (requestsOf row (drop (i + 4) words)) t ≡ afterAll (requestsOf row (drop i words)) s
-    unfolding afterAll
-    after_next this = ap (afterAll (requestsOf row (drop (i + 4) words))) this ∙ sym (ap (λ (qs : List Request). afterAll qs s) first)
+    pub after_next : t ≡ record_after request s → after_all (requests_of row (drop (i + 4) words)) t ≡ after_all (requests_of row (drop i words)) s
+    unfolding after_all
+    after_next this = ap (after_all (requests_of row (drop (i + 4) words))) this ∙ sym (ap (λ (qs : List Request). after_all qs s) first)
 
-    pub numbers-next : (numbers numbers' : List ℕ) (n : ℕ) → t ≡ recordAfter request s → numbers' ≡ set numbers n (refusalNumber (answerTo request s))
-        → sets numbers' (n + 1) (numbersAll (requestsOf row (drop (i + 4) words)) t) ≡ sets numbers n (numbersAll (requestsOf row (drop i words)) s)
-    unfolding numbersAll
-    numbers-next numbers numbers' n this noted =
+    pub numbers_next : (numbers numbers' : List ℕ) (n : ℕ) → t ≡ record_after request s → numbers' ≡ set numbers n (refusal_number (answer_to request s))
+        → sets numbers' (n + 1) (numbers_all (requests_of row (drop (i + 4) words)) t) ≡ sets numbers n (numbers_all (requests_of row (drop i words)) s)
+    unfolding numbers_all
+    numbers_next numbers numbers' n this noted =
         let next : n + 1 ≡ suc n = omega arith in
-        rw (this, noted, next) (sym (ap (λ (qs : List Request). sets numbers n (numbersAll qs s)) first))
+        rw (this, noted, next) (sym (ap (λ (qs : List Request). sets numbers n (numbers_all qs s)) first))
 
   module _ (s : Record) (h : length words - i < 4) where
-    no_more : requestsOf row (drop i words) ≡ []
+    no_more : requests_of row (drop i words) ≡ []
     no_more = fewer row (drop i words) (omega (arith, length-drop i words))
 
-    pub after_last : afterAll (requestsOf row (drop i words)) s ≡ s
-    unfolding afterAll
-    after_last = ap (λ (qs : List Request). afterAll qs s) no_more
+    pub after_last : after_all (requests_of row (drop i words)) s ≡ s
+    unfolding after_all
+    after_last = ap (λ (qs : List Request). after_all qs s) no_more
 
-    pub numbers-last : (numbers : List ℕ) (n : ℕ) → sets numbers n (numbersAll (requestsOf row (drop i words)) s) ≡ numbers
-    unfolding numbersAll
-    numbers-last numbers n = ap (λ (qs : List Request). sets numbers n (numbersAll qs s)) no_more
+    pub numbers_last : (numbers : List ℕ) (n : ℕ) → sets numbers n (numbers_all (requests_of row (drop i words)) s) ≡ numbers
+    unfolding numbers_all
+    numbers_last numbers n = ap (λ (qs : List Request). sets numbers n (numbers_all qs s)) no_more
 
 -- ---- from requests to words
 
 -- the tapes stand one behind another, from an index on
-wordsFrom : ℕ → List Request → List ℕ
-wordsFrom at [] = []
-wordsFrom at (q ∷ qs) = at ∷ (at + length q.tape) ∷ turnWord q.turn ∷ q.goal ∷ wordsFrom (at + length q.tape) qs
+words_from : ℕ → List Request → List ℕ
+words_from at [] = []
+words_from at (q ∷ qs) = at ∷ (at + length q.tape) ∷ turn_word q.turn ∷ q.goal ∷ words_from (at + length q.tape) qs
 
 middle : (front tape rest : List ℕ) → part (front ++ tape ++ rest) (length front) (length front + length tape) ≡ tape
 middle front tape rest =
     let long : length front + length tape ≤ length (front ++ tape ++ rest) = omega (arith, length-append (front ++ tape) rest, length-append front tape) in
-    part-inside (front ++ tape ++ rest) (length front) (length front + length tape) (omega arith) long
+    part_inside (front ++ tape ++ rest) (length front) (length front + length tape) (omega arith) long
     ∙ ap (drop (length front)) (take_at (front ++ tape) rest _ (length-append front tape))
     ∙ drop_at front tape _ refl
 
-turn-word : (t : Turn) → turn_of (turnWord t) ≡ t
-turn-word none = refl
-turn-word (to n) = refl
+turn_word_lem : (t : Turn) → turn_of (turn_word t) ≡ t
+turn_word_lem none = refl
+turn_word_lem (to n) = refl
 
-words-requests : (front : List ℕ) (qs : List Request) → requestsOf (front ++ tapesOf qs) (wordsFrom (length front) qs) ≡ qs
-unfolding requestsOf tapesOf wordsFrom
-words-requests front [] = refl
-words-requests front (q ∷ qs) =
-    let again : front ++ (q.tape ++ tapesOf qs) ≡ front ++ q.tape ++ tapesOf qs = sym (append_assoc front q.tape (tapesOf qs)) in
-    rw (again, middle front q.tape (tapesOf qs), turn-word q.turn, ← (length-append front q.tape), words-requests (front ++ q.tape) qs)
+words_requests : (front : List ℕ) (qs : List Request) → requests_of (front ++ tapes_of qs) (words_from (length front) qs) ≡ qs
+unfolding requests_of tapes_of words_from
+words_requests front [] = refl
+words_requests front (q ∷ qs) =
+    let again : front ++ (q.tape ++ tapes_of qs) ≡ front ++ q.tape ++ tapes_of qs = sym (append_assoc front q.tape (tapes_of qs)) in
+    rw (again, middle front q.tape (tapes_of qs), turn_word_lem q.turn, ← (length-append front q.tape), words_requests (front ++ q.tape) qs)
 
-below-words : (at : ℕ) (qs : List Request) → at + length (tapesOf qs) < 2 ^ 32 → PositionsFit qs → AllBelow (2 ^ 32) (wordsFrom at qs)
-unfolding AllBelow tapesOf wordsFrom PositionsFit
-below-words at [] short fit = tt
-below-words at (q ∷ qs) short fit =
-    let long = length-append q.tape (tapesOf qs) in
-    (omega arith, (omega arith, (fit.0, (fit.1, below-words (at + length q.tape) qs (omega arith) fit.2))))
+below_words : (at : ℕ) (qs : List Request) → at + length (tapes_of qs) < 2 ^ 32 → PositionsFit qs → AllBelow (2 ^ 32) (words_from at qs)
+unfolding AllBelow tapes_of words_from PositionsFit
+below_words at [] short fit = tt
+below_words at (q ∷ qs) short fit =
+    let long = length-append q.tape (tapes_of qs) in
+    (omega arith, (omega arith, (fit.0, (fit.1, below_words (at + length q.tape) qs (omega arith) fit.2))))
 
-pub requests-given : (qs : List Request) → AllBelow (2 ^ 32) (tapesOf qs) → length (tapesOf qs) < 2 ^ 32 → PositionsFit qs → EncodedRequests qs
-requests-given qs fits short positions =
-    record { row = tapesOf qs; words = wordsFrom 0 qs; row_fits = fits; words-fit = below-words 0 qs (omega arith) positions; requests = words-requests [] qs }
+pub requests_given : (qs : List Request) → AllBelow (2 ^ 32) (tapes_of qs) → length (tapes_of qs) < 2 ^ 32 → PositionsFit qs → EncodedRequests qs
+requests_given qs fits short positions =
+    record { row = tapes_of qs; words = words_from 0 qs; row_fits = fits; words_fit = below_words 0 qs (omega arith) positions; requests = words_requests [] qs }

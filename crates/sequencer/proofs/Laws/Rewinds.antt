@@ -8,84 +8,84 @@ use lib.Seq.{sets}
 use Rattle.refusal.specs.Outcomes.{Outcome, refused, answered, after}
 use Rattle.modular.specs.Primes.{Prime}
 use Rattle.tape.specs.declared.Step.{Step}
-use Rattle.tape.specs.Layout.{headerOf, steps_of}
+use Rattle.tape.specs.Layout.{header_of, steps_of}
 use Rattle.machine.specs.Machine.{run, Residues}
-use Rattle.machine.proofs.Laws.Runs.{run-residues, run-compose}
-use Rattle.machine.proofs.Laws.Ways.{run-here}
+use Rattle.machine.proofs.Laws.Runs.{run_residues, run_compose}
+use Rattle.machine.proofs.Laws.Ways.{run_here}
 use Rattle.sequencer.specs.Records.{Record}
-use Rattle.sequencer.specs.Services.{recordAt}
-use Rattle.sequencer.specs.Lists.{Turn, none, turned, Request, given, answerTo, afterAll, numbersAll, unlessRefused, performed}
+use Rattle.sequencer.specs.Services.{record_at}
+use Rattle.sequencer.specs.Lists.{Turn, none, turned, Request, given, answer_to, after_all, numbers_all, unless_refused, performed}
 use Rattle.sequencer.specs.Demand.{NoTurns, Returns, BeginReached, RewindEnds}
 use Rattle.sequencer.proofs.Laws.Answers.{steps-sound, prime-of, run-answered, each-as-said}
 
 -- without a turn a run gets the record as it stands
-given-straight : (q : Request) (s : Record) → q.turn ≡ none → given q s ≡ s
-given-straight q s e = ap (λ (t : Turn). turned t s) e
+given_straight : (q : Request) (s : Record) → q.turn ≡ none → given q s ≡ s
+given_straight q s e = ap (λ (t : Turn). turned t s) e
 
 -- so each run begins at the position reached
-pub begin-reached : (qs : List Request) (s : Record) → NoTurns qs → BeginReached s.position (performed qs s)
+pub begin_reached_lem : (qs : List Request) (s : Record) → NoTurns qs → BeginReached s.position (performed qs s)
 unfolding performed NoTurns BeginReached
-begin-reached [] s straight = tt
-begin-reached (q ∷ qs) s straight = go (answerTo q s) refl (λ t. begin-reached qs t straight.1)
+begin_reached_lem [] s straight = tt
+begin_reached_lem (q ∷ qs) s straight = go (answer_to q s) refl (λ t. begin_reached_lem qs t straight.1)
   where
     position : (given q s).position ≡ s.position
-    position = ap (λ (t : Record). t.position) (given-straight q s straight.0)
+    position = ap (λ (t : Record). t.position) (given_straight q s straight.0)
 
-    go : (answer : Outcome Record) → answerTo q s ≡ answer → ((t : Record) → BeginReached t.position (performed qs t))
+    go : (answer : Outcome Record) → answer_to q s ≡ answer → ((t : Record) → BeginReached t.position (performed qs t))
         → BeginReached s.position
-        (unlessRefused answer (record { tape = q.tape; from = (given q s).position; goal = q.goal }) (performed qs (after answer (given q s))))
+        (unless_refused answer (record { tape = q.tape; from = (given q s).position; goal = q.goal }) (performed qs (after answer (given q s))))
     go (refused n) e rest = subst (λ (i : ℕ). BeginReached i (performed qs (given q s))) position (rest (given q s))
     go (answered t) e rest =
         let there : t.position ≡ q.goal = ap (λ (x : Record). x.position) (run-answered q.tape (given q s) q.goal e) in
         (position, subst (λ (i : ℕ). BeginReached i (performed qs t)) there (rest t))
 
-module _ (tape : List ℕ) (home : ℕ) (pr : Prime (headerOf tape).modulus) where
+module _ (tape : List ℕ) (home : ℕ) (pr : Prime (header_of tape).modulus) where
   abbrev p : ℕ
-  p = (headerOf tape).modulus
+  p = (header_of tape).modulus
 
   abbrev xs : List Step
   xs = steps_of tape
 
   -- the record that one run brings to a position
-  abbrev ranTo : ℕ → Record → Record
-  ranTo goal s = recordAt (headerOf tape) xs s goal
+  abbrev ran_to : ℕ → Record → Record
+  ran_to goal s = record_at (header_of tape) xs s goal
 
-  from-there : (qs : List Request) (s : Record) → Residues p s.registers → NoTurns qs → Returns tape home s.position (performed qs s)
-      → afterAll qs s ≡ ranTo home s
-  unfolding afterAll performed NoTurns Returns
-  from-there [] s g straight e =
+  from_there : (qs : List Request) (s : Record) → Residues p s.registers → NoTurns qs → Returns tape home s.position (performed qs s)
+      → after_all qs s ≡ ran_to home s
+  unfolding after_all performed NoTurns Returns
+  from_there [] s g straight e =
       ap₂ (λ (v : List ℕ) (i : ℕ). record { registers = v; position = i })
-      (sym (run-here p xs s.position s.registers) ∙ ap (λ (j : ℕ). run p xs s.position j s.registers) e) e
-  from-there (q ∷ qs) s g straight h = go (answerTo q s) refl (λ t residues. from-there qs t residues straight.1) h
+      (sym (run_here p xs s.position s.registers) ∙ ap (λ (j : ℕ). run p xs s.position j s.registers) e) e
+  from_there (q ∷ qs) s g straight h = go (answer_to q s) refl (λ t residues. from_there qs t residues straight.1) h
     where
       same : given q s ≡ s
-      same = given-straight q s straight.0
+      same = given_straight q s straight.0
 
-      go : (answer : Outcome Record) → answerTo q s ≡ answer
-          → ((t : Record) → Residues p t.registers → Returns tape home t.position (performed qs t) → afterAll qs t ≡ ranTo home t)
+      go : (answer : Outcome Record) → answer_to q s ≡ answer
+          → ((t : Record) → Residues p t.registers → Returns tape home t.position (performed qs t) → after_all qs t ≡ ran_to home t)
           → Returns tape home s.position
-          (unlessRefused answer (record { tape = q.tape; from = (given q s).position; goal = q.goal }) (performed qs (after answer (given q s))))
-          → afterAll qs (after answer (given q s)) ≡ ranTo home s
+          (unless_refused answer (record { tape = q.tape; from = (given q s).position; goal = q.goal }) (performed qs (after answer (given q s))))
+          → after_all qs (after answer (given q s)) ≡ ran_to home s
       go (refused n) e rest returns =
           rest (given q s) (subst (λ (t : Record). Residues p t.registers) (sym same) g)
           (subst (λ (t : Record). Returns tape home t.position (performed qs (given q s))) (sym same) returns)
-          ∙ ap (ranTo home) same
+          ∙ ap (ran_to home) same
       go (answered t) e rest returns =
-          let there : t ≡ ranTo q.goal s =
+          let there : t ≡ ran_to q.goal s =
           run-answered q.tape (given q s) q.goal e
-          ∙ ap₂ (λ (l : List ℕ) (u : Record). recordAt (headerOf l) (steps_of l) u q.goal) returns.0 same in
+          ∙ ap₂ (λ (l : List ℕ) (u : Record). record_at (header_of l) (steps_of l) u q.goal) returns.0 same in
           rest t
-          (subst (λ (u : Record). Residues p u.registers) (sym there) (run-residues p pr xs (steps-sound tape) s.position q.goal s.registers g))
+          (subst (λ (u : Record). Residues p u.registers) (sym there) (run_residues p pr xs (steps-sound tape) s.position q.goal s.registers g))
           (subst (λ (u : Record). Returns tape home u.position (performed qs t)) (sym there) returns.1)
-          ∙ ap (ranTo home) there
+          ∙ ap (ran_to home) there
           ∙ ap (λ (v : List ℕ). record { registers = v; position = home })
-          (run-compose p pr xs (steps-sound tape) s.position q.goal home s.registers g)
+          (run_compose p pr xs (steps-sound tape) s.position q.goal home s.registers g)
 
-pub rewind-ends : (qs : List Request) (s : Record) (row : List ℕ) → RewindEnds qs s (sets row 0 (numbersAll qs s)) (afterAll qs s)
-rewind-ends qs s row tape h =
+pub rewind_ends_lem : (qs : List Request) (s : Record) (row : List ℕ) → RewindEnds qs s (sets row 0 (numbers_all qs s)) (after_all qs s)
+rewind_ends_lem qs s row tape h =
     let pr = prime-of tape h.accepted in (
       each-as-said qs s row,
-      from-there tape s.position pr qs s h.registers h.no-turns h.returns
+      from_there tape s.position pr qs s h.registers h.no_turns_lem h.returns
           ∙ ap (λ (v : List ℕ). record { registers = v; position = s.position })
-          (run-here (headerOf tape).modulus (steps_of tape) s.position s.registers),
+          (run_here (header_of tape).modulus (steps_of tape) s.position s.registers),
     )

@@ -11,85 +11,85 @@ use lib.ListN.{take}
 use borrow.Author.Tests.{not-false}
 use Rattle.refusal.specs.Outcomes.{answered, passes, answers}
 use Rattle.refusal.proofs.Laws.Rules.{passed}
-use Rattle.matrices.specs.Matrices.{Matrix, determinant, columnOf, matrixProduct, identityMatrix}
-use Rattle.tape.specs.Layout.{headerOf, steps_of}
+use Rattle.matrices.specs.Matrices.{Matrix, determinant, column_of, matrix_product, identity_matrix}
+use Rattle.tape.specs.Layout.{header_of, steps_of}
 use Rattle.machine.specs.Machine.{run, Residues}
-use Rattle.machine.specs.Ways.{way, countWhere, isSwp}
-use Rattle.machine.proofs.Laws.Runs.{sound-take}
+use Rattle.machine.specs.Ways.{way, count_where, is_swp}
+use Rattle.machine.proofs.Laws.Runs.{sound_take}
 use Rattle.machine.proofs.Laws.Ways.{way_out}
-use Rattle.tables.specs.Tables.{table_of, tableStays, powerProduct, sign_of}
-use Rattle.tables.proofs.Laws.Signs.{table-sign}
-use Rattle.tables.proofs.Laws.Columns.{table-back, table-trace}
-use Rattle.tables.proofs.Laws.Products.{way-products, run-products}
-use Rattle.tables.proofs.Laws.Ranges.{columns-stay}
-use Rattle.program.specs.Services.{checkOutcome}
-use Rattle.program.proofs.Laws.Door.{answered-tape, answered-own, answered-with}
-use Rattle.sequencer.specs.Services.{traceRules, traceOutcome}
-use Rattle.sequencer.specs.Tables.{tableRules, tableOutcome, MeansProducts, HasSign}
+use Rattle.tables.specs.Tables.{table_of, table_stays, power_product, sign_of}
+use Rattle.tables.proofs.Laws.Signs.{table_sign}
+use Rattle.tables.proofs.Laws.Columns.{table_back, table_trace}
+use Rattle.tables.proofs.Laws.Products.{way_products, run_products}
+use Rattle.tables.proofs.Laws.Ranges.{columns_stay}
+use Rattle.program.specs.Services.{check_outcome}
+use Rattle.program.proofs.Laws.Door.{answered_tape, answered_own, answered_with}
+use Rattle.sequencer.specs.Services.{trace_rules, trace_outcome}
+use Rattle.sequencer.specs.Tables.{table_rules, table_outcome, MeansProducts, HasSign}
 use Rattle.sequencer.proofs.Laws.Answers.{steps-sound, prime-of}
-use Rattle.sequencer.proofs.Laws.Cases.{modulus-prime, trace-rules}
+use Rattle.sequencer.proofs.Laws.Cases.{modulus_prime, trace_rules_lem}
 
 module _ (tape : List ℕ) where
   -- ---- every position, whether the table there is in range or not
 
   -- of an accepted program each register is the product of the start values to its row's exponents
-  pub program-products : checkOutcome tape ≡ answered 0 → (position : ℕ) (v : List ℕ) → Residues (headerOf tape).modulus v
-      → run (headerOf tape).modulus (steps_of tape) 0 position v ≡ map (powerProduct (headerOf tape).modulus v) (table_of (take position (steps_of tape)))
-  program-products e position v g = run-products _ (prime-of tape e) (steps_of tape) position v (steps-sound tape) g
+  pub program_products : check_outcome tape ≡ answered 0 → (position : ℕ) (v : List ℕ) → Residues (header_of tape).modulus v
+      → run (header_of tape).modulus (steps_of tape) 0 position v ≡ map (power_product (header_of tape).modulus v) (table_of (take position (steps_of tape)))
+  program_products e position v g = run_products _ (prime-of tape e) (steps_of tape) position v (steps-sound tape) g
 
   -- and so on the way from any position to any other
-  pub program-way : checkOutcome tape ≡ answered 0 → (i j : ℕ) (v : List ℕ) → Residues (headerOf tape).modulus v
-      → run (headerOf tape).modulus (steps_of tape) i j v ≡ map (powerProduct (headerOf tape).modulus v) (table_of (way (steps_of tape) i j))
-  program-way e i j v g = way-products _ (prime-of tape e) (steps_of tape) i j v (steps-sound tape) g
+  pub program_way : check_outcome tape ≡ answered 0 → (i j : ℕ) (v : List ℕ) → Residues (header_of tape).modulus v
+      → run (header_of tape).modulus (steps_of tape) i j v ≡ map (power_product (header_of tape).modulus v) (table_of (way (steps_of tape) i j))
+  program_way e i j v g = way_products _ (prime-of tape e) (steps_of tape) i j v (steps-sound tape) g
 
   -- the determinant by the number of swaps
-  pub program-sign : (position : ℕ) → determinant 4 (table_of (take position (steps_of tape))) ≡ sign_of (countWhere isSwp (take position (steps_of tape)))
-  program-sign position = table-sign (take position (steps_of tape)) (sound-take position (steps_of tape) (steps-sound tape))
+  pub program_sign : (position : ℕ) → determinant 4 (table_of (take position (steps_of tape))) ≡ sign_of (count_where is_swp (take position (steps_of tape)))
+  program_sign position = table_sign (take position (steps_of tape)) (sound_take position (steps_of tape) (steps-sound tape))
 
   -- the way back times the way out, between any two positions
-  pub program-back : (i j : ℕ) → matrixProduct 4 (table_of (way (steps_of tape) j i)) (table_of (way (steps_of tape) i j)) ≡ identityMatrix 4
-  program-back i j = table-back (steps_of tape) i j (steps-sound tape)
+  pub program_back : (i j : ℕ) → matrix_product 4 (table_of (way (steps_of tape) j i)) (table_of (way (steps_of tape) i j)) ≡ identity_matrix 4
+  program_back i j = table_back (steps_of tape) i j (steps-sound tape)
 
   -- ---- an answer
 
   module _ (position : ℕ) where
     -- is the table of the definition
-    answer-is : (m : Matrix) → tableOutcome tape position ≡ answered m → m ≡ table_of (take position (steps_of tape))
-    unfolding tableOutcome
-    answer-is m e = answered-with tape _ _ e
+    answer_is : (m : Matrix) → table_outcome tape position ≡ answered m → m ≡ table_of (take position (steps_of tape))
+    unfolding table_outcome
+    answer_is m e = answered_with tape _ _ e
 
-    pub table-means : MeansProducts tape position (tableOutcome tape position)
-    unfolding tableOutcome
-    table-means m e v g =
-        let prime = modulus-prime tape (headerOf tape) (answered-tape tape _ (table_of (take position (steps_of tape))) e) in
-        run-products _ prime (steps_of tape) position v (steps-sound tape) g ∙ ap (map _) (sym (answer-is m e))
+    pub table_means : MeansProducts tape position (table_outcome tape position)
+    unfolding table_outcome
+    table_means m e v g =
+        let prime = modulus_prime tape (header_of tape) (answered_tape tape _ (table_of (take position (steps_of tape))) e) in
+        run_products _ prime (steps_of tape) position v (steps-sound tape) g ∙ ap (map _) (sym (answer_is m e))
 
-    pub table-has-sign : HasSign tape position (tableOutcome tape position)
-    table-has-sign m e = ap (determinant 4) (answer-is m e) ∙ program-sign position
+    pub table_has_sign : HasSign tape position (table_outcome tape position)
+    table_has_sign m e = ap (determinant 4) (answer_is m e) ∙ program_sign position
 
     -- the way back from that position times it
-    pub table-taken-back : (m : Matrix) → tableOutcome tape position ≡ answered m
-        → matrixProduct 4 (table_of (way (steps_of tape) position 0)) m ≡ identityMatrix 4
-    table-taken-back m e =
-        ap (matrixProduct 4 (table_of (way (steps_of tape) position 0))) (answer-is m e ∙ ap table_of (sym (way_out (steps_of tape) position)))
-        ∙ program-back 0 position
+    pub table_taken_back : (m : Matrix) → table_outcome tape position ≡ answered m
+        → matrix_product 4 (table_of (way (steps_of tape) position 0)) m ≡ identity_matrix 4
+    table_taken_back m e =
+        ap (matrix_product 4 (table_of (way (steps_of tape) position 0))) (answer_is m e ∙ ap table_of (sym (way_out (steps_of tape) position)))
+        ∙ program_back 0 position
 
     -- ---- the trace is column 1
 
-    pub trace-column : (z : List ℤ) → traceOutcome tape position ≡ answered z → z ≡ columnOf (table_of (take position (steps_of tape))) 1
-    unfolding traceOutcome
-    trace-column z e = answered-with tape _ _ e ∙ sym (table-trace (steps_of tape) position (steps-sound tape))
+    pub trace_column : (z : List ℤ) → trace_outcome tape position ≡ answered z → z ≡ column_of (table_of (take position (steps_of tape))) 1
+    unfolding trace_outcome
+    trace_column z e = answered_with tape _ _ e ∙ sym (table_trace (steps_of tape) position (steps-sound tape))
 
     -- and it is answered where the table is
-    pub table-column : (m : Matrix) → tableOutcome tape position ≡ answered m → traceOutcome tape position ≡ answered (columnOf m 1)
-    unfolding tableOutcome tableRules traceRules
-    table-column m e =
+    pub table_column : (m : Matrix) → table_outcome tape position ≡ answered m → trace_outcome tape position ≡ answered (column_of m 1)
+    unfolding table_outcome table_rules trace_rules
+    table_column m e =
         let xs = take position (steps_of tape) in
-        let own = passed (ltb (headerOf tape).steps position) _ _ _ _ (answered-own tape _ (table_of xs) e) in
-        let stays = not-false (tableStays xs) (passed _ _ _ _ _ own.1).0 in
-        let traced = columns-stay xs stays 1 (omega arith) in
-        trace-rules tape (headerOf tape) (answered-tape tape _ (table_of xs) e) position
+        let own = passed (ltb (header_of tape).steps position) _ _ _ _ (answered_own tape _ (table_of xs) e) in
+        let stays = not-false (table_stays xs) (passed _ _ _ _ _ own.1).0 in
+        let traced = columns_stay xs stays 1 (omega arith) in
+        trace_rules_lem tape (header_of tape) (answered_tape tape _ (table_of xs) e) position
         ∙ passes _ _ _ own.0
         ∙ passes _ _ _ (ap not traced)
         ∙ answers _
-        ∙ ap answered (sym (ap (λ (m : Matrix). columnOf m 1) (answer-is m e) ∙ table-trace (steps_of tape) position (steps-sound tape)))
+        ∙ ap answered (sym (ap (λ (m : Matrix). column_of m 1) (answer_is m e) ∙ table_trace (steps_of tape) position (steps-sound tape)))

@@ -2,11 +2,11 @@
 -- is above every step count.
 use Rattle.std.specs.Prelude.{Bool, cond, ℕ, suc, ◌-◌, ltb}
 
-abbrev pub noPosition : ℕ
-noPosition = 4294967295
+abbrev pub no_position : ℕ
+no_position = 4294967295
 
-unfoldable pub stepGoal : Bool → ℕ → ℕ
-stepGoal backward position =
+unfoldable pub step_goal : Bool → ℕ → ℕ
+step_goal backward position =
     cond backward
-    (cond (ltb 0 position) (position - 1) noPosition)
-    (cond (ltb position noPosition) (suc position) noPosition)
+    (cond (ltb 0 position) (position - 1) no_position)
+    (cond (ltb position no_position) (suc position) no_position)

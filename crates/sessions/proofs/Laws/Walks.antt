@@ -103,28 +103,28 @@ module _ {M : Type 1} {𝓤 : Ura M} (𝓛 : Logic 𝓤) where
       let F : SProp 𝓤 = sep 𝓤 (H.room e.0 e.1 zero) (H.dies e.0 e.1) in
       via 𝓤 (sep 𝓤 F (sep 𝓤 P (release 𝓤 H E Q))) (mono_r 𝓤 F (before E P Q)) (qed 𝓛 (raw F ∷ raw P ∷ raw (release 𝓤 H E Q) ∷ []) ∵ move ! (1 ∷ 0 ∷ []) $ done !)
 
-  all-free : (ls : List Local) (bs : Blocks ls) (us : Contents ls) (Γ : List (Item 𝓤)) (P : SProp 𝓤) → ent 𝓤 (⋆ 𝓛 Γ) P → ent 𝓤 (⋆ 𝓛 (cells 𝓤 H ls bs us Γ)) (release 𝓤 H (frame_of 𝓤 H ls bs) P)
-  all-free [] bs us Γ P h = h
-  all-free (local τ k ∷ ls) bs us Γ P h =
+  all_free : (ls : List Local) (bs : Blocks ls) (us : Contents ls) (Γ : List (Item 𝓤)) (P : SProp 𝓤) → ent 𝓤 (⋆ 𝓛 Γ) P → ent 𝓤 (⋆ 𝓛 (cells 𝓤 H ls bs us Γ)) (release 𝓤 H (frame_of 𝓤 H ls bs) P)
+  all_free [] bs us Γ P h = h
+  all_free (local τ k ∷ ls) bs us Γ P h =
       let F : SProp 𝓤 = sep 𝓤 (H.room τ bs.0 zero) (H.dies τ bs.0) in
       via 𝓤 (release 𝓤 H (frame_of 𝓤 H ls bs.1) (sep 𝓤 F P))
-      (all-free ls bs.1 us.1 (‵ (fat full_share τ bs.0 zero us.0) ∷ ‵ (fdies τ bs.0) ∷ Γ) (sep 𝓤 F P)
+      (all_free ls bs.1 us.1 (‵ (fat full_share τ bs.0 zero us.0) ∷ ‵ (fdies τ bs.0) ∷ Γ) (sep 𝓤 F P)
       (qed 𝓛 (‵ (fat full_share τ bs.0 zero us.0) ∷ ‵ (fdies τ bs.0) ∷ Γ) ∵ forget ! 0 refl $ join ! $ frame ! $ by ! h))
       (before (frame_of 𝓤 H ls bs.1) F P)
 
 module _ {M : Type 1} {𝓤 : Ura M} {𝓛 : Logic 𝓤} {K : Type 0} where
   open 𝓛 use {H}
 
-  all-alloc : K → (ls : List Local) (Γ : List (Item 𝓤)) (Kt : Env 𝓤 H → Goal 𝓤 H) → ((bs : Blocks ls) → Seq K 𝓛 (rooms 𝓤 H ls bs Γ) (Kt (frame_of 𝓤 H ls bs))) → Seq K 𝓛 Γ (allocs ls Kt)
-  all-alloc t [] Γ Kt k = alloc0 t $ k tt
-  all-alloc t (local τ h ∷ ls) Γ Kt k = alloc1 t (λ b. all-alloc t ls _ (λ E. Kt ((τ, b) ∷ E)) (λ bs. k (b, bs)))
+  all_alloc : K → (ls : List Local) (Γ : List (Item 𝓤)) (Kt : Env 𝓤 H → Goal 𝓤 H) → ((bs : Blocks ls) → Seq K 𝓛 (rooms 𝓤 H ls bs Γ) (Kt (frame_of 𝓤 H ls bs))) → Seq K 𝓛 Γ (allocs ls Kt)
+  all_alloc t [] Γ Kt k = alloc0 t $ k tt
+  all_alloc t (local τ h ∷ ls) Γ Kt k = alloc1 t (λ b. all_alloc t ls _ (λ E. Kt ((τ, b) ∷ E)) (λ bs. k (b, bs)))
 
   module _ {Γ : List (Item 𝓤)} where
     -- n entries stand before the locals
     pub frees_all : K → (n : ℕ) (ls : List Local) (bs : Blocks ls) (us : Contents ls) {Δ : List (Item 𝓤)} {P : SProp 𝓤} → sel 𝓛 (past n ls) Γ ≡ cells 𝓤 H ls bs us Δ
         → Step K 𝓛 Δ (prop P) Γ (frees (frame_of 𝓤 H ls bs) (prop P))
     frees_all t n ls bs us {Δ} {P} e = step (λ s. by t (via 𝓤 _ (sel⊢ 𝓛 (past n ls) Γ)
-        (subst (λ (Θ : List (Item 𝓤)). ent 𝓤 (⋆ 𝓛 Θ) (release 𝓤 H (frame_of 𝓤 H ls bs) P)) (sym e) (all-free 𝓛 ls bs us Δ P s.prf))))
+        (subst (λ (Θ : List (Item 𝓤)). ent 𝓤 (⋆ 𝓛 Θ) (release 𝓤 H (frame_of 𝓤 H ls bs) P)) (sym e) (all_free 𝓛 ls bs us Δ P s.prf))))
 
     -- ---- operands
     module _ {E : Env 𝓤 H} {i : ℕ} where
@@ -133,10 +133,10 @@ module _ {M : Type 1} {𝓤 : Ura M} {𝓛 : Logic 𝓤} {K : Type 0} where
 
       pub part : K → (n k : ℕ) {q : Share} {ν : Sym} {τs : Tys} {b : ℕ} {vs : Fields} → spot_of 𝓤 H E i ≡ (ty_struct ν τs, b, zero) → field_at zero τs k ≡ just (found (field_at zero τs k))
           → nth 𝓛 n Γ ≡ ‵ (fat q (ty_struct ν τs) b zero (vstruct vs)) → Opd K 𝓛 Γ E (copy (place i (field k ∷ []))) (get_v vs k)
-      part t n k {q} {ν} {τs} {b} {vs} at_i at-k e =
+      part t n k {q} {ν} {τs} {b} {vs} at_i at_k e =
           let at = found (field_at zero τs k) in
-          load t (from t (subst (λ (sp : Spot 𝓤 H). Walks K 𝓛 Γ E sp (field k ∷ []) (at.0, b, zero + at.1)) (sym at_i) (fld t at-k (stop t))))
-          (look_in t n (subst (λ (j : Item 𝓤). Part K 𝓛 j q at.0 b (zero + at.1) (get_v vs k) (λ u. ‵ (fat q (ty_struct ν τs) b zero (vstruct (set_v vs k u))))) (sym e) (sub t k at-k (whole t))))
+          load t (from t (subst (λ (sp : Spot 𝓤 H). Walks K 𝓛 Γ E sp (field k ∷ []) (at.0, b, zero + at.1)) (sym at_i) (fld t at_k (stop t))))
+          (look_in t n (subst (λ (j : Item 𝓤). Part K 𝓛 j q at.0 b (zero + at.1) (get_v vs k) (λ u. ‵ (fat q (ty_struct ν τs) b zero (vstruct (set_v vs k u))))) (sym e) (sub t k at_k (whole t))))
 
     -- ---- a local is stored whole
     module _ {E : Env 𝓤 H} {C : Calls 𝓤 H} {Λ : Loops 𝓤 H} {q : Post 𝓤 H} {i : ℕ} {rest : Body} {v : Val} where
@@ -144,9 +144,9 @@ module _ {M : Type 1} {𝓤 : Ura M} {𝓛 : Logic 𝓤} {K : Type 0} where
           → Step K 𝓛 (put 𝓛 n (‵ (fat full_share (spot_of 𝓤 H E i).0 (spot_of 𝓤 H E i).1 zero v)) Γ) (runs C Λ E rest q) Γ (runs C Λ E (seq (assign (place i []) rv) rest) q)
       sets t r n e wt = assigns t r (from t (stop t)) (init t n e wt)
 
-      pub lands-in : K → (n : ℕ) → nth 𝓛 n Γ ≡ ‵ (froom (spot_of 𝓤 H E i).0 (spot_of 𝓤 H E i).1 zero) → Holds (has_ty (spot_of 𝓤 H E i).0 v) × WT v
+      pub lands_in : K → (n : ℕ) → nth 𝓛 n Γ ≡ ‵ (froom (spot_of 𝓤 H E i).0 (spot_of 𝓤 H E i).1 zero) → Holds (has_ty (spot_of 𝓤 H E i).0 v) × WT v
           → Step K 𝓛 (put 𝓛 n (‵ (fat full_share (spot_of 𝓤 H E i).0 (spot_of 𝓤 H E i).1 zero v)) Γ) (runs C Λ E rest q) Γ (lands C Λ E (place i []) v rest q)
-      lands-in t n e wt = land t (from t (stop t)) (init t n e wt)
+      lands_in t n e wt = land t (from t (stop t)) (init t n e wt)
 
     -- ---- what is owned
     pub beside : K → {G : Goal 𝓤 H} {P : Fml} (Rs : List RattleType) → Makess 𝓛 Rs (Ises Rs) → (a : Denots Rs) (vss : Valss Rs) → Are Rs (Ises Rs) a vss → Step K 𝓛 (‵ (fsep P (owns Rs a vss)) ∷ Γ) G (‵ P ∷ Γ) G
@@ -155,9 +155,9 @@ module _ {M : Type 1} {𝓤 : Ura M} {𝓛 : Logic 𝓤} {K : Type 0} where
     pub doubled : K → {G : Goal 𝓤 H} (R : RattleType) → Copy 𝓛 R → (x : R.Denot) (vs : List Val) → Step K 𝓛 (‵ (R.own x vs) ∷ ‵ (R.own x vs) ∷ Γ) G (‵ (R.own x vs) ∷ Γ) G
     doubled t R copies x vs = step (λ s. use1 𝓛 (‵ (R.own x vs) ⊛ ‵ (R.own x vs)) (copies.twice x vs) $ split t $ s)
 
-pub first-owned : {M : Type 1} {𝓤 : Ura M} (𝓛 : Logic 𝓤) (D : Declared) (L : Laws D) (v : Values D.parts) (w : Val)
+pub first_owned : {M : Type 1} {𝓤 : Ura M} (𝓛 : Logic 𝓤) (D : Declared) (L : Laws D) (v : Values D.parts) (w : Val)
     → ent 𝓤 (sem 𝓛 ((Struct (shape D)).own_val (intos D.parts v) (w ∷ []))) (sem 𝓛 (field_own D.parts L 0 (get_at D.parts 0 v)))
-first-owned 𝓛 D L v w =
+first_owned 𝓛 D L v w =
     qed 𝓛 (‵ ((Struct (shape D)).own_val (intos D.parts v) (w ∷ [])) ∷ []) ∵ use1 𝓛 (given (w ∷ [] ≡ vstruct (spelled D.parts L v) ∷ []) (‵ (all_own D.parts L v))) (own_open 𝓛 D L v w) $ learn ! (λ _.
     use1 𝓛 (‵ (field_own D.parts L 0 (get_at D.parts 0 v)) ⊛ ‵ (rest D.parts L 0 v)) (own_out 𝓛 D.parts L 0 v) $ split ! $ keep ! (0 ∷ []) $ done !)
 
@@ -193,15 +193,15 @@ module _ {M : Type 1} {𝓤 : Ura M} (𝓛 : Logic 𝓤) (T : Ended) (c : Clause
   pub begins : (C : Calls 𝓤 H) (Λ : Loops 𝓤 H) (f : Fn)
       → ((bs : Blocks f.locals) → let E = frame_of 𝓤 H f.locals bs in Seq (Go {0}) 𝓛 (rooms 𝓤 H f.locals bs (Token ∷ Owned ∷ []))
       (params' E vs (runs C Λ E f.body (at_ret E (Stated.post y))))) → Walked C Λ f
-  begins C Λ f k = qed 𝓛 (Token ∷ Owned ∷ []) ∵ enter ! C Λ f _ _ $ all-alloc ! f.locals _ _ k
+  begins C Λ f k = qed 𝓛 (Token ∷ Owned ∷ []) ∵ enter ! C Λ f _ _ $ all_alloc ! f.locals _ _ k
 
-  pub calls-told : {K : Type 0} → K → {Γ : List (Item 𝓤)} {E : Env 𝓤 H} {C : Calls 𝓤 H} {Λ : Loops 𝓤 H} {q : Post 𝓤 H} {f : Name} {xs : List Operand} {d : Place} {rest : Body} → FmC 𝓤 H 𝓛.laws C
+  pub calls_told : {K : Type 0} → K → {Γ : List (Item 𝓤)} {E : Env 𝓤 H} {C : Calls 𝓤 H} {Λ : Loops 𝓤 H} {q : Post 𝓤 H} {f : Name} {xs : List Operand} {d : Place} {rest : Body} → FmC 𝓤 H 𝓛.laws C
       → Triple 𝓤 (C f) Stated → ent 𝓤 (emp 𝓤) ((c κs a).requires y.1)
       → (val : R.Denot → Val) → Tells R (Is R) (λ r. val r ∷ []) → (φ : R.Denot → Type 0) → ((r : R.Denot) (e : AtExit T κs) → ent 𝓤 ((c κs a).ensures y.1 r e) (fact 𝓤 (φ r)))
       → Opds K 𝓛 ((Token ⊛ Owned) ∷ Γ) E xs vs
       → ((r : R.Denot) → φ r → Is R r (val r ∷ []) → Seq K 𝓛 (‵ (R.own r (val r ∷ [])) ∷ Token ∷ Γ) (lands C Λ E d (val r) rest q))
       → Seq K 𝓛 ((Token ⊛ Owned) ∷ Γ) (runs C Λ E (seq (call f xs d) rest) q)
-  calls-told {K} t {Γ} {E} {C} {Λ} {q} {f} {xs} {d} {rest} fm known free val tells φ say os k =
+  calls_told {K} t {Γ} {E} {C} {Λ} {q} {f} {xs} {d} {rest} fm known free val tells φ say os k =
       calls_from t fm (Token ⊛ Owned) vs (Stated.post y)
       (via 𝓤 _ (qed 𝓛 ((Token ⊛ Owned) ∷ []) ∵ frame ! $ by ! free) (known y)) os (λ w.
       use1 𝓛 (later (some (λ (r : R.Denot). (Token ⊛ ‵ (R.own r (w ∷ []))) ⊛ raw (ensured 𝓛 T c κs a y.1 r)))) (id⊢ 𝓤 _) $ await t tt $ pick t (λ r. split t $ move t (1 ∷ []) $

@@ -26,8 +26,8 @@ use Rattle.previewing.proofs.preview.Symbol as on-tape-def
 use Rattle.previewing.proofs.preview.Symbol.{name as #on-tape}
 use Rattle.previewing.proofs.preview.Met as on-tape-thm
 use Rattle.sessions.specs.declared.Session.{Session}
-use Rattle.sessions.proofs.Laws.Walks.{shown, begins, copies, part, sets, lands-in, beside, calls-told, frees_all, Walked, ends, proved}
-use Rattle.sessions.proofs.Laws.Types.{Row, val, Good, GoodNumber, tells, state, session, TapeRow, tapeVal, previewVal, preview-tells, session-parts, Previewed, typed, tape-typed, preview-typed, state-makes, tape-owned}
+use Rattle.sessions.proofs.Laws.Walks.{shown, begins, copies, part, sets, lands_in, beside, calls_told, frees_all, Walked, ends, proved}
+use Rattle.sessions.proofs.Laws.Types.{Row, val, Good, GoodNumber, tells, state, session, TapeRow, tape_val, preview_val, preview_tells, session_parts, Previewed, typed, tape_typed, preview_typed, state_makes, tape_owned}
 use Rattle.sessions.specs.contracts.preview as previewing
 use Rattle.sessions.specs.contracts.preview.Key.{name as #preview}
 use Rattle.sessions.proofs.preview.Statement as stated
@@ -49,7 +49,7 @@ module _ {M : Type 1} {𝓤 : Ura M} (𝓛 : Logic 𝓤) (mem : Memory → SProp
     at = (((κ, tt), (q, tt), tt, (d, (n, tt)), (val (session κ) d ∷ [], (vint w32 n ∷ [], tt))), tt)
 
     abbrev at-state : OnTape.Ghost
-    at-state = (((κ, tt), (q, tt), tt, (d.tape, (d.state, (n, tt))), (tapeVal d.tape ∷ [], (val state d.state ∷ [], (vint w32 n ∷ [], tt)))), tt)
+    at-state = (((κ, tt), (q, tt), tt, (d.tape, (d.state, (n, tt))), (tape_val d.tape ∷ [], (val state d.state ∷ [], (vint w32 n ∷ [], tt)))), tt)
 
     walk : Good (session κ) d → GoodNumber n → (C : Calls 𝓤 H) (Λ : Loops 𝓤 H) → FmC 𝓤 H 𝓛.laws C → Triple 𝓤 (C #on-tape) OnTape
         → Walked 𝓛 previewing.ended (previewing.clauses 𝓛 mem run) at C Λ code.function
@@ -57,15 +57,15 @@ module _ {M : Type 1} {𝓤 : Ura M} (𝓛 : Logic 𝓤) (mem : Memory → SProp
         begins 𝓛 previewing.ended (previewing.clauses 𝓛 mem run) at C Λ code.function (λ bs. params1 ! $
         pass1 ! (init ! 6 refl (typed 𝓛 (session κ) d is-d).0) $ pass1 ! (init ! 4 refl (tt, record { fits = is-n.1 })) $ pass0 ! $
         -- [_4; …; _3; …; _2; …; _1; …; room for _0; …; the token; what session and to own]
-        let fields = session-parts κ d is-d in
-        sets ! (of_opd ! (part ! 6 0 refl refl refl)) 2 refl (tape-typed 𝓛 erased κ d.tape fields.0).0 $ sets ! (of_opd ! (part ! 6 1 refl refl refl)) 0 refl (typed 𝓛 state d.state fields.1).0 $
-        move ! (11 ∷ []) $ fsplit ! $ move ! (1 ∷ []) $ drop ! $ use1 𝓛 (‵ ((TapeRow κ).own d.tape (tapeVal d.tape ∷ []))) (tape-owned 𝓛 κ d) $
-        beside ! (Row state ∷ u32 ∷ []) (state-makes 𝓛, (uint_Makes 𝓛 w32, tt)) (d.state, (n, tt)) (val state d.state ∷ [], (vint w32 n ∷ [], tt)) (fields.1, (is-n, tt)) $ move ! (11 ∷ 0 ∷ []) $ join ! $
-        calls-told 𝓛 on-tape.ended (on-tape.clauses 𝓛 mem run) at-state ! fm known (id⊢ 𝓤 _) previewVal preview-tells (Previewed n d) (λ r e. id⊢ 𝓤 _)
+        let fields = session_parts κ d is-d in
+        sets ! (of_opd ! (part ! 6 0 refl refl refl)) 2 refl (tape_typed 𝓛 erased κ d.tape fields.0).0 $ sets ! (of_opd ! (part ! 6 1 refl refl refl)) 0 refl (typed 𝓛 state d.state fields.1).0 $
+        move ! (11 ∷ []) $ fsplit ! $ move ! (1 ∷ []) $ drop ! $ use1 𝓛 (‵ ((TapeRow κ).own d.tape (tape_val d.tape ∷ []))) (tape_owned 𝓛 κ d) $
+        beside ! (Row state ∷ u32 ∷ []) (state_makes 𝓛, (uint_Makes 𝓛 w32, tt)) (d.state, (n, tt)) (val state d.state ∷ [], (vint w32 n ∷ [], tt)) (fields.1, (is-n, tt)) $ move ! (11 ∷ 0 ∷ []) $ join ! $
+        calls_told 𝓛 on-tape.ended (on-tape.clauses 𝓛 mem run) at-state ! fm known (id⊢ 𝓤 _) preview_val preview_tells (Previewed n d) (λ r e. id⊢ 𝓤 _)
         (and_then ! (copies ! 3 refl) (and_then ! (copies ! 1 refl) (and_then ! (copies ! 5 refl) (no_more !)))) (λ r says is-r.
         -- [what the answer owns; the token; _4; …; _3; …; _2; …; _1; …; room for _0; …]
-        lands-in ! 10 refl (preview-typed 𝓛 r is-r).0 $ move ! (1 ∷ 0 ∷ []) $ returns ! (look ! 10 refl) $
-        frees_all ! 2 (code.function).locals bs (previewVal r, (val (session κ) d, (vint w32 n, (tapeVal d.tape, (val state d.state, tt))))) refl $
+        lands_in ! 10 refl (preview_typed 𝓛 r is-r).0 $ move ! (1 ∷ 0 ∷ []) $ returns ! (look ! 10 refl) $
+        frees_all ! 2 (code.function).locals bs (preview_val r, (val (session κ) d, (vint w32 n, (tape_val d.tape, (val state d.state, tt))))) refl $
         ends 𝓛 previewing.ended (previewing.clauses 𝓛 mem run) at ! r (tt, (tt, tt)) (tt, (tt, tt)) (tt, (tt, tt)) (shown 𝓤 says)))
 
 pub preview-spec : {M : Type 1} → stated.statement M

@@ -23,13 +23,13 @@ use denote.Slice.{shr_slice_copy}
 use denote.Triple.Spec.{triple_of}
 use denote.Triple.Statement.{Contract, Triple}
 use denote.Triple.Table.{cited}
-use Rattle.refusal.specs.Outcomes.{refusalNumber, after}
-use Rattle.sequencer.specs.Records.{recordOf}
-use Rattle.sequencer.specs.Sessions.{stepOutcome}
+use Rattle.refusal.specs.Outcomes.{refusal_number, after}
+use Rattle.sequencer.specs.Records.{record_of}
+use Rattle.sequencer.specs.Sessions.{step_outcome}
 use Rattle.sessions.specs.declared.Session.{Session}
 use Rattle.sessions.specs.declared.Numbered.{Numbered}
-use Rattle.sessions.proofs.Laws.Walks.{shown, also, and_fact, begins, copies, part, sets, lands-in, beside, doubled, calls-told, frees_all, Walked, ends, proved}
-use Rattle.sessions.proofs.Laws.Types.{Row, val, Good, tells, state, numbered, sessionAt, session, answer, TapeRow, tapeVal, answer_of, session-parts, answer-parts, answer-is, typed, tape-typed, state-makes, tape-owned, answer-owned}
+use Rattle.sessions.proofs.Laws.Walks.{shown, also, and_fact, begins, copies, part, sets, lands_in, beside, doubled, calls_told, frees_all, Walked, ends, proved}
+use Rattle.sessions.proofs.Laws.Types.{Row, val, Good, tells, state, numbered, session_at, session, answer, TapeRow, tape_val, answer_of, session_parts, answer_parts, answer_is, typed, tape_typed, state_makes, tape_owned, answer_owned}
 use Rattle.sessions.specs.contracts.state_stepped as ss
 use Rattle.sessions.proofs.state_stepped.Symbol as ss-def
 use Rattle.sessions.proofs.state_stepped.Symbol.{name as #state-stepped}
@@ -42,8 +42,8 @@ use Rattle.sessions.proofs.step.Code as code
 -- what `state_stepped` says of its result
 abbrev Stepped : Session → Bool → Numbered → Type 0
 Stepped d f t =
-    let o = stepOutcome d.tape.now (recordOf d.state) f in
-    (recordOf t.state ≡ after o (recordOf d.state)) × (t.number ≡ refusalNumber o)
+    let o = step_outcome d.tape.now (record_of d.state) f in
+    (record_of t.state ≡ after o (record_of d.state)) × (t.number ≡ refusal_number o)
 
 module _ {M : Type 1} {𝓤 : Ura M} (𝓛 : Logic 𝓤) (mem : Memory → SProp 𝓤) (run : Routine → Fun 𝓤) where
   -- the contract that the proof cites, and its own
@@ -61,7 +61,7 @@ module _ {M : Type 1} {𝓤 : Ura M} (𝓛 : Logic 𝓤) (mem : Memory → SProp
     at = (((κ, tt), (q, tt), tt, (d, (f, tt)), (val (session κ) d ∷ [], (vbool f ∷ [], tt))), tt)
 
     abbrev at-state : StateStepped.Ghost
-    at-state = (((κ, tt), (q, tt), tt, (d.tape, (d.state, (f, tt))), (tapeVal d.tape ∷ [], (val state d.state ∷ [], (vbool f ∷ [], tt)))), tt)
+    at-state = (((κ, tt), (q, tt), tt, (d.tape, (d.state, (f, tt))), (tape_val d.tape ∷ [], (val state d.state ∷ [], (vbool f ∷ [], tt)))), tt)
 
     walk : Good (session κ) d → (C : Calls 𝓤 H) (Λ : Loops 𝓤 H) → FmC 𝓤 H 𝓛.laws C → Triple 𝓤 (C #state-stepped) StateStepped
         → Walked 𝓛 stepping.ended (stepping.clauses 𝓛 mem run) at C Λ code.function
@@ -69,21 +69,21 @@ module _ {M : Type 1} {𝓤 : Ura M} (𝓛 : Logic 𝓤) (mem : Memory → SProp
         begins 𝓛 stepping.ended (stepping.clauses 𝓛 mem run) at C Λ code.function (λ bs. params1 ! $
         pass1 ! (init ! 12 refl (typed 𝓛 (session κ) d is-d).0) $ pass1 ! (init ! 10 refl (tt, tt)) $ pass0 ! $
         -- [_7; …; _6; …; _5; …; _4; …; _3; …; _2; …; _1; …; room for _0; …; the token; what session and backward own]
-        let fields = session-parts κ d is-d in let fits = (tape-typed 𝓛 erased κ d.tape fields.0).0 in
+        let fields = session_parts κ d is-d in let fits = (tape_typed 𝓛 erased κ d.tape fields.0).0 in
         sets ! (of_opd ! (part ! 12 0 refl refl refl)) 6 refl fits $ sets ! (of_opd ! (part ! 12 1 refl refl refl)) 4 refl (typed 𝓛 state d.state fields.1).0 $
-        move ! (17 ∷ []) $ fsplit ! $ move ! (1 ∷ []) $ drop ! $ use1 𝓛 (‵ ((TapeRow κ).own d.tape (tapeVal d.tape ∷ []))) (tape-owned 𝓛 κ d) $
-        doubled ! (TapeRow κ) (shr_slice_copy 𝓛 (named 0) κ u32) d.tape (tapeVal d.tape ∷ []) $
-        beside ! (Row state ∷ bool ∷ []) (state-makes 𝓛, (bool_Makes 𝓛, tt)) (d.state, (f, tt)) (val state d.state ∷ [], (vbool f ∷ [], tt)) (fields.1, (refl, tt)) $ move ! (18 ∷ 0 ∷ []) $ join ! $
-        calls-told 𝓛 ss.ended (ss.clauses 𝓛 mem run) at-state ! fm known (id⊢ 𝓤 _) (val numbered) (tells numbered) (Stepped d f) (λ t e. and_fact 𝓤 𝓛 _ _ (id⊢ 𝓤 _) (id⊢ 𝓤 _))
+        move ! (17 ∷ []) $ fsplit ! $ move ! (1 ∷ []) $ drop ! $ use1 𝓛 (‵ ((TapeRow κ).own d.tape (tape_val d.tape ∷ []))) (tape_owned 𝓛 κ d) $
+        doubled ! (TapeRow κ) (shr_slice_copy 𝓛 (named 0) κ u32) d.tape (tape_val d.tape ∷ []) $
+        beside ! (Row state ∷ bool ∷ []) (state_makes 𝓛, (bool_Makes 𝓛, tt)) (d.state, (f, tt)) (val state d.state ∷ [], (vbool f ∷ [], tt)) (fields.1, (refl, tt)) $ move ! (18 ∷ 0 ∷ []) $ join ! $
+        calls_told 𝓛 ss.ended (ss.clauses 𝓛 mem run) at-state ! fm known (id⊢ 𝓤 _) (val numbered) (tells numbered) (Stepped d f) (λ t e. and_fact 𝓤 𝓛 _ _ (id⊢ 𝓤 _) (id⊢ 𝓤 _))
         (and_then ! (copies ! 8 refl) (and_then ! (copies ! 6 refl) (and_then ! (copies ! 12 refl) (no_more !)))) (λ t stepped is-t. drop ! $
-        let a = answer_of d.tape t in let is-a = answer-is κ d.tape t fields.0 is-t in
+        let a = answer_of d.tape t in let is-a = answer_is κ d.tape t fields.0 is-t in
         -- [the token; what tape owns; _7; …; _6; …; _5; …; _4; …; room for _3; …; _2; …; _1; …; room for _0; …]
-        lands-in ! 10 refl (typed 𝓛 numbered t is-t).0 $ move ! (1 ∷ []) $ use1 𝓛 (‵ ((Row (answer κ)).own a (val (answer κ) a ∷ []))) (answer-owned 𝓛 κ a is-a) $ move ! (1 ∷ 0 ∷ []) $
+        lands_in ! 10 refl (typed 𝓛 numbered t is-t).0 $ move ! (1 ∷ []) $ use1 𝓛 (‵ ((Row (answer κ)).own a (val (answer κ) a ∷ []))) (answer_owned 𝓛 κ a is-a) $ move ! (1 ∷ 0 ∷ []) $
         sets ! (of_opd ! (part ! 14 0 refl refl refl)) 4 refl fits $
-        sets ! (agg ! (and_then ! (copies ! 4 refl) (and_then ! (part ! 10 0 refl refl refl) (no_more !)))) 2 refl (typed 𝓛 (sessionAt erased κ) a.session (answer-parts κ a is-a).0).0 $
+        sets ! (agg ! (and_then ! (copies ! 4 refl) (and_then ! (part ! 10 0 refl refl refl) (no_more !)))) 2 refl (typed 𝓛 (session_at erased κ) a.session (answer_parts κ a is-a).0).0 $
         sets ! (agg ! (and_then ! (copies ! 2 refl) (and_then ! (part ! 10 1 refl refl refl) (no_more !)))) 16 refl (typed 𝓛 (answer κ) a is-a).0 $
         returns ! (look ! 16 refl) $
-        frees_all ! 2 (code.function).locals bs (val (answer κ) a, (val (session κ) d, (vbool f, (val numbered t, (tapeVal d.tape, (val state d.state, (tapeVal d.tape, (val (session κ) a.session, tt)))))))) refl $
+        frees_all ! 2 (code.function).locals bs (val (answer κ) a, (val (session κ) d, (vbool f, (val numbered t, (tape_val d.tape, (val state d.state, (tape_val d.tape, (val (session κ) a.session, tt)))))))) refl $
         ends 𝓛 stepping.ended (stepping.clauses 𝓛 mem run) at ! a (tt, (tt, tt)) (tt, (tt, tt)) (tt, (tt, tt)) (also 𝓤 (shown 𝓤 refl) (also 𝓤 (shown 𝓤 stepped.0) (shown 𝓤 stepped.1)))))
 
 pub step_spec : {M : Type 1} → stated.statement M

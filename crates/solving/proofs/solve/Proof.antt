@@ -3,7 +3,7 @@ use mathlib.Core.Path.{sym, ap, ◌∙◌}
 use Prim.Native.Nat.{ℕ, ◌%◌}
 use native.Mathlib.Omega.{arith}
 use borrow.Author.Rules.{rules}
-use Rattle.fibonacci.proofs.Laws.Solving.{height-most, Ready, high-some, left-fits, right-fits, scaled_fits, next_fits, times-fits, inside, inside-next, found, found-next}
+use Rattle.fibonacci.proofs.Laws.Solving.{height_most, Ready, high_some, left_fits, right_fits, scaled_fits, next_fits, times_fits, inside, inside_next, found, found_next}
 use Rattle.solving.proofs.solve.Statement.{statement}
 use Rattle.solving.proofs.solve.Tie as tie
 
@@ -16,34 +16,34 @@ ready c =
       small = pre.0;
       value = pre.1.0;
       residue = pre.1.1;
-      h-is = c.before.before.height.ensures;
-      m-is = c.before.fibonacci-or-zero.ensures;
-      n-is = c.fibonacci-or-zero2.ensures;
+      h_is = c.before.before.height.ensures;
+      m_is = c.before.fibonacci-or-zero.ensures;
+      n_is = c.fibonacci-or-zero2.ensures;
     }
 
 add-fibonacci-or-zero : tie.Need-overflow-add-fibonacci-or-zero
-add-fibonacci-or-zero c = omega (arith, height-most c.before.requires.0 c.height.ensures)
+add-fibonacci-or-zero c = omega (arith, height_most c.before.requires.0 c.height.ensures)
 
 add-fibonacci-or-zero-2 : tie.Need-overflow-add-fibonacci-or-zero-2
-add-fibonacci-or-zero-2 c = omega (arith, height-most c.before.before.requires.0 c.before.height.ensures)
+add-fibonacci-or-zero-2 c = omega (arith, height_most c.before.before.requires.0 c.before.height.ensures)
 
 mul-i : tie.Need-overflow-mul-i
-mul-i c = omega (arith, left-fits (ready c))
+mul-i c = omega (arith, left_fits (ready c))
 
 mul-i-2 : tie.Need-overflow-mul-i-2
-mul-i-2 c = omega (arith, right-fits (ready c))
+mul-i-2 c = omega (arith, right_fits (ready c))
 
 add-i-2 : tie.Need-overflow-add-i-2
-add-i-2 c = omega (arith, left-fits (ready c), right-fits (ready c))
+add-i-2 c = omega (arith, left_fits (ready c), right_fits (ready c))
 
 add-fibonacci-or-zero-3 : tie.Need-overflow-add-fibonacci-or-zero-3
-add-fibonacci-or-zero-3 c = omega (arith, height-most c.before.before.before.requires.0 c.before.before.height.ensures)
+add-fibonacci-or-zero-3 c = omega (arith, height_most c.before.before.before.requires.0 c.before.before.height.ensures)
 
 mul-w : tie.Need-overflow-mul-w
-mul-w c = omega (arith, times-fits (ready c.before) c.fibonacci-or-zero3.ensures)
+mul-w c = omega (arith, times_fits (ready c.before) c.fibonacci-or-zero3.ensures)
 
 rem-w : tie.Need-nonzero-rem-w
-rem-w c = omega (arith, high-some (ready c.before))
+rem-w c = omega (arith, high_some (ready c.before))
 
 mul-v : tie.Need-overflow-mul-v
 mul-v c = omega (arith, scaled_fits (ready c.before) _ (inside (ready c.before) c.fibonacci-or-zero3.ensures))
@@ -62,22 +62,22 @@ add-result c =
     omega (arith, next_fits (ready at.before) _ (inside (ready at.before) at.fibonacci-or-zero3.ensures))
 
 rem-result : tie.Need-nonzero-rem-result
-rem-result c = omega (arith, high-some (ready c.before.before.before))
+rem-result c = omega (arith, high_some (ready c.before.before.before))
 
 mul-result : tie.Need-overflow-mul-result
 mul-result c =
     let at = c.before.before in
-    omega (arith, scaled_fits (ready at.before) _ (inside-next (ready at.before) at.fibonacci-or-zero3.ensures))
+    omega (arith, scaled_fits (ready at.before) _ (inside_next (ready at.before) at.fibonacci-or-zero3.ensures))
 
 add-result-2 : tie.Need-overflow-add-result-2
 add-result-2 c =
     let at = c.before.before in
-    omega (arith, scaled_fits (ready at.before) _ (inside-next (ready at.before) at.fibonacci-or-zero3.ensures))
+    omega (arith, scaled_fits (ready at.before) _ (inside_next (ready at.before) at.fibonacci-or-zero3.ensures))
 
 returns-2 : tie.Need-returns-2
 returns-2 c =
     let at = c.before.before in
-    found-next (ready at.before) at.fibonacci-or-zero3.ensures (λ e. c.if1.false (ap (λ (x : ℕ). x % at.before.before.before.before.args.r) c.before.hofstadter.ensures ∙ e))
+    found_next (ready at.before) at.fibonacci-or-zero3.ensures (λ e. c.if1.false (ap (λ (x : ℕ). x % at.before.before.before.before.args.r) c.before.hofstadter.ensures ∙ e))
 
 pub solve-spec : {M : Type 1} → statement M
 solve-spec =

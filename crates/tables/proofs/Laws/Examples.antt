@@ -4,14 +4,14 @@ use mathlib.Core.List.{List, [], ◌∷◌}
 use lib.IntN.{pos, negsuc}
 use Rattle.tape.specs.declared.Step.{Step}
 use Rattle.tape.specs.declared.Step.TheVariants.{Mul, Div, Swp}
-use Rattle.matrices.specs.Matrices.{alternatingSum, without, minor, entry_at, determinant}
-use Rattle.machine.specs.Machine.{inverseStep, inverted}
-use Rattle.machine.specs.Ways.{way, countWhere, isMul, isDiv, isSwp, countsOf}
-use Rattle.machine.specs.Exponents.{shift, shiftAll}
+use Rattle.matrices.specs.Matrices.{alternating_sum, without, minor, entry_at, determinant}
+use Rattle.machine.specs.Machine.{inverse_step, inverted}
+use Rattle.machine.specs.Ways.{way, count_where, is_mul, is_div, is_swp, counts_of}
+use Rattle.machine.specs.Exponents.{shift, shift_all}
 use Rattle.tables.specs.Tables.{table_of, sign_of}
 
-abbrev case-a : List Step
-case-a =
+abbrev case_a : List Step
+case_a =
     Mul 0 1
     ∷ Swp 0 1
     ∷ Mul 2 1
@@ -25,26 +25,26 @@ case-a =
     ∷ Div 0 1
     ∷ []
 
-pub case-a-table : table_of case-a
+pub case_a_table : table_of case_a
     ≡ (pos 1 ∷ pos 0 ∷ pos 0 ∷ pos 0 ∷ [])
     ∷ (pos 1 ∷ pos 1 ∷ pos 1 ∷ pos 0 ∷ [])
     ∷ (negsuc 1 ∷ pos 0 ∷ negsuc 0 ∷ pos 0 ∷ [])
     ∷ (pos 0 ∷ pos 0 ∷ pos 0 ∷ pos 1 ∷ [])
     ∷ []
-unfolding table_of shiftAll shift
-case-a-table = refl
+unfolding table_of shift_all shift
+case_a_table = refl
 
-pub case-a-determinant : determinant 4 (table_of case-a) ≡ negsuc 0
-unfolding table_of shiftAll shift determinant alternatingSum entry_at minor without
-case-a-determinant = refl
+pub case_a_determinant : determinant 4 (table_of case_a) ≡ negsuc 0
+unfolding table_of shift_all shift determinant alternating_sum entry_at minor without
+case_a_determinant = refl
 
-pub case-a-sign : sign_of (countWhere isSwp case-a) ≡ negsuc 0
-unfolding sign_of countWhere isSwp
-case-a-sign = refl
+pub case_a_sign : sign_of (count_where is_swp case_a) ≡ negsuc 0
+unfolding sign_of count_where is_swp
+case_a_sign = refl
 
 -- the steps on the way from end to end; on that to position 4, and on the way back from there
-pub case-a-counts : (countsOf (way case-a 0 11) ≡ 3 ∷ 3 ∷ 5 ∷ [])
-    × (countsOf (way case-a 0 4) ≡ 2 ∷ 0 ∷ 2 ∷ [])
-    × (countsOf (way case-a 4 0) ≡ 0 ∷ 2 ∷ 2 ∷ [])
-unfolding way inverted inverseStep countsOf countWhere isMul isDiv isSwp
-case-a-counts = (refl, refl, refl)
+pub case_a_counts : (counts_of (way case_a 0 11) ≡ 3 ∷ 3 ∷ 5 ∷ [])
+    × (counts_of (way case_a 0 4) ≡ 2 ∷ 0 ∷ 2 ∷ [])
+    × (counts_of (way case_a 4 0) ≡ 0 ∷ 2 ∷ 2 ∷ [])
+unfolding way inverted inverse_step counts_of count_where is_mul is_div is_swp
+case_a_counts = (refl, refl, refl)

@@ -1,14 +1,14 @@
 -- What steps come to on whole exponents: 12 where one leaves the range, else those of one start value, or of all four.
 use Rattle.std.specs.Prelude.{not, List, [], ◌∷◌, ℕ, ℤ}
 use Rattle.refusal.specs.declared.Refusal.TheVariants.{Range}
-use Rattle.refusal.specs.Outcomes.{Outcome, outcome, ◌given-if◌}
+use Rattle.refusal.specs.Outcomes.{Outcome, outcome, ◌given_if◌}
 use Rattle.matrices.specs.Matrices.{Matrix}
 use Rattle.tape.specs.declared.Step.{Step}
-use Rattle.machine.specs.Exponents.{staysInRange}
-use Rattle.tables.specs.Tables.{unit, columnAfter, table_of, tableStays}
+use Rattle.machine.specs.Exponents.{stays_in_range}
+use Rattle.tables.specs.Tables.{unit, column_after, table_of, table_stays}
 
-unfoldable pub columnOutcome : List Step → ℕ → Outcome (List ℤ)
-columnOutcome xs j = outcome ((Range given-if not (staysInRange xs (unit j))) ∷ []) (columnAfter xs j)
+unfoldable pub column_outcome : List Step → ℕ → Outcome (List ℤ)
+column_outcome xs j = outcome ((Range given_if not (stays_in_range xs (unit j))) ∷ []) (column_after xs j)
 
-unfoldable pub columnsOutcome : List Step → Outcome Matrix
-columnsOutcome xs = outcome ((Range given-if not (tableStays xs)) ∷ []) (table_of xs)
+unfoldable pub columns_outcome : List Step → Outcome Matrix
+columns_outcome xs = outcome ((Range given_if not (table_stays xs)) ∷ []) (table_of xs)

@@ -13,64 +13,64 @@ use borrow.Author.Tests.{eqb-true, eq-eqb}
 use Rattle.tape.specs.declared.Decoded.TheVariants.{Heading, P, R, K, End}
 use Rattle.tape.specs.declared.Header.{Header}
 use Rattle.tape.specs.Steps.{AllSound}
-use Rattle.tape.specs.Words.{numberLimit, variantLimit, decoded, encoded, stepWord}
-use Rattle.tape.specs.Layout.{otherWords, stepCount, stepWords, stepWordsOf, end_at, sortOf, value_of, meansAt, headerOf, stepsIn, steps_of, isHeader, isFreeOrNamed, allSteps, isEnd, laidOut, Program, headerFor, programWords, program_of}
+use Rattle.tape.specs.Words.{number_limit, variant_limit, decoded, encoded, step_word}
+use Rattle.tape.specs.Layout.{other_words, step_count, step_words, step_words_of, end_at, sort_of, value_of, means_at, header_of, steps_in, steps_of, is_header, is_free_or_named, all_steps, is_end, laid_out, Program, header_for, program_words, program_of}
 use Rattle.refusal.proofs.Laws.Tests.{both, and_both, implied, implies}
-use Rattle.tape.proofs.Laws.Words.{decoded-encoded, decoded-lawful, value-small, variant-small, word-again}
-use Rattle.tape.proofs.Laws.Rows.{steps-words, words-all-steps, words-steps, words_count, means-past}
+use Rattle.tape.proofs.Laws.Words.{decoded_encoded, decoded_lawful, value_small, variant_small, word_again}
+use Rattle.tape.proofs.Laws.Rows.{steps_words, words_all_steps, words_steps, words_count, means_past}
 
 -- ---- the layout by its rules
 
 pub record LaidOut (tape : List ℕ) : Type 0 where
-  pub sort-0 : sortOf (meansAt tape 0) ≡ 1
-  pub sort-1 : sortOf (meansAt tape 1) ≡ 2
-  pub sort-2 : sortOf (meansAt tape 2) ≡ 3
-  pub sort-3 : sortOf (meansAt tape 3) ≡ 4
-  pub free : value_of (meansAt tape 0) ≡ 0 → (value_of (meansAt tape 2) ≡ 0) × (value_of (meansAt tape 3) ≡ 0)
-  pub steps : allSteps (stepWordsOf tape) ≡ true
-  pub end : sortOf (decoded (end_at tape)) ≡ 15
-  pub count : value_of (decoded (end_at tape)) ≡ stepCount tape
+  pub sort_0 : sort_of (means_at tape 0) ≡ 1
+  pub sort_1 : sort_of (means_at tape 1) ≡ 2
+  pub sort_2 : sort_of (means_at tape 2) ≡ 3
+  pub sort_3 : sort_of (means_at tape 3) ≡ 4
+  pub free : value_of (means_at tape 0) ≡ 0 → (value_of (means_at tape 2) ≡ 0) × (value_of (means_at tape 3) ≡ 0)
+  pub steps : all_steps (step_words_of tape) ≡ true
+  pub end : sort_of (decoded (end_at tape)) ≡ 15
+  pub count : value_of (decoded (end_at tape)) ≡ step_count tape
 
 module _ (tape : List ℕ) where
-  zeros : eqb (value_of (meansAt tape 2)) 0 && eqb (value_of (meansAt tape 3)) 0 ≡ true → (value_of (meansAt tape 2) ≡ 0) × (value_of (meansAt tape 3) ≡ 0)
+  zeros : eqb (value_of (means_at tape 2)) 0 && eqb (value_of (means_at tape 3)) 0 ≡ true → (value_of (means_at tape 2) ≡ 0) × (value_of (means_at tape 3) ≡ 0)
   zeros e =
-      let t = both (eqb (value_of (meansAt tape 2)) 0) (eqb (value_of (meansAt tape 3)) 0) e in
+      let t = both (eqb (value_of (means_at tape 2)) 0) (eqb (value_of (means_at tape 3)) 0) e in
       (eqb-true _ _ t.0, eqb-true _ _ t.1)
 
-  pub laid-out-rules : laidOut tape ≡ true → LaidOut tape
-  unfolding laidOut isHeader isFreeOrNamed isEnd
-  laid-out-rules e =
-      let a = both (isHeader tape) _ e in
-      let b = both (isFreeOrNamed (headerOf tape)) _ a.1 in
-      let c = both (allSteps (stepWordsOf tape)) _ b.1 in
-      let d = both (eqb (sortOf (decoded (end_at tape))) 15) _ c.1 in
-      let h0 = both (eqb (sortOf (meansAt tape 0)) 1) _ a.0 in
-      let h1 = both (eqb (sortOf (meansAt tape 1)) 2) _ h0.1 in
-      let h2 = both (eqb (sortOf (meansAt tape 2)) 3) _ h1.1 in
+  pub laid_out_rules : laid_out tape ≡ true → LaidOut tape
+  unfolding laid_out is_header is_free_or_named is_end
+  laid_out_rules e =
+      let a = both (is_header tape) _ e in
+      let b = both (is_free_or_named (header_of tape)) _ a.1 in
+      let c = both (all_steps (step_words_of tape)) _ b.1 in
+      let d = both (eqb (sort_of (decoded (end_at tape))) 15) _ c.1 in
+      let h0 = both (eqb (sort_of (means_at tape 0)) 1) _ a.0 in
+      let h1 = both (eqb (sort_of (means_at tape 1)) 2) _ h0.1 in
+      let h2 = both (eqb (sort_of (means_at tape 2)) 3) _ h1.1 in
       record {
-        sort-0 = eqb-true _ _ h0.0;
-        sort-1 = eqb-true _ _ h1.0;
-        sort-2 = eqb-true _ _ h2.0;
-        sort-3 = eqb-true _ _ h2.1;
-        free = λ z. zeros (implied (eqb (value_of (meansAt tape 0)) 0) _ b.0 (eq-eqb _ _ z));
+        sort_0 = eqb-true _ _ h0.0;
+        sort_1 = eqb-true _ _ h1.0;
+        sort_2 = eqb-true _ _ h2.0;
+        sort_3 = eqb-true _ _ h2.1;
+        free = λ z. zeros (implied (eqb (value_of (means_at tape 0)) 0) _ b.0 (eq-eqb _ _ z));
         steps = c.0;
         end = eqb-true _ _ d.0;
         count = eqb-true _ _ d.1;
       }
 
-  pub rules-laid-out : LaidOut tape → laidOut tape ≡ true
-  unfolding laidOut isHeader isFreeOrNamed isEnd
-  rules-laid-out l =
-      let named = implies (eqb (value_of (meansAt tape 0)) 0) (eqb (value_of (meansAt tape 2)) 0 && eqb (value_of (meansAt tape 3)) 0)
+  pub rules_laid_out : LaidOut tape → laid_out tape ≡ true
+  unfolding laid_out is_header is_free_or_named is_end
+  rules_laid_out l =
+      let named = implies (eqb (value_of (means_at tape 0)) 0) (eqb (value_of (means_at tape 2)) 0 && eqb (value_of (means_at tape 3)) 0)
       (λ e. let z = l.free (eqb-true _ _ e) in and_both _ _ (eq-eqb _ _ z.0) (eq-eqb _ _ z.1)) in
       rw (
-        eq-eqb (sortOf (meansAt tape 0)) 1 l.sort-0,
-        eq-eqb (sortOf (meansAt tape 1)) 2 l.sort-1,
-        eq-eqb (sortOf (meansAt tape 2)) 3 l.sort-2,
-        eq-eqb (sortOf (meansAt tape 3)) 4 l.sort-3,
+        eq-eqb (sort_of (means_at tape 0)) 1 l.sort_0,
+        eq-eqb (sort_of (means_at tape 1)) 2 l.sort_1,
+        eq-eqb (sort_of (means_at tape 2)) 3 l.sort_2,
+        eq-eqb (sort_of (means_at tape 3)) 4 l.sort_3,
         l.steps,
-        eq-eqb (sortOf (decoded (end_at tape))) 15 l.end,
-        eq-eqb (value_of (decoded (end_at tape))) (stepCount tape) l.count,
+        eq-eqb (sort_of (decoded (end_at tape))) 15 l.end,
+        eq-eqb (value_of (decoded (end_at tape))) (step_count tape) l.count,
       )
       (and_both _ _ named refl)
 
@@ -80,16 +80,16 @@ abbrev pub row : ℕ → ℕ → ℕ → ℕ → List ℕ → ℕ → List ℕ
 row a b c d words e = a ∷ b ∷ c ∷ d ∷ (words ++ e ∷ [])
 
 module _ (a b c d e : ℕ) (words : List ℕ) where
-  pub row_count : stepCount (row a b c d words e) ≡ length words
+  pub row_count : step_count (row a b c d words e) ≡ length words
   row_count = simp length-append (omega arith)
 
-  pub row_words : stepWordsOf (row a b c d words e) ≡ words
+  pub row_words : step_words_of (row a b c d words e) ≡ words
   row_words =
-      ap (λ (n : ℕ). stepWords (row a b c d words e) 0 n) row_count
+      ap (λ (n : ℕ). step_words (row a b c d words e) 0 n) row_count
       ∙ ap (drop 4) (take_at (a ∷ b ∷ c ∷ d ∷ words) (e ∷ []) (4 + length words) (omega arith))
 
-  pub row-end : end_at (row a b c d words e) ≡ e
-  row-end =
+  pub row_end : end_at (row a b c d words e) ≡ e
+  row_end =
       ap (λ (n : ℕ). get_or (row a b c d words e) (4 + n) 0) row_count
       ∙ get_or_at (a ∷ b ∷ c ∷ d ∷ words) e [] 0 (4 + length words) (omega arith)
 
@@ -101,10 +101,10 @@ front (a ∷ b ∷ c ∷ []) h = absurd (omega arith)
 front (a ∷ b ∷ c ∷ d ∷ l) h = refl
 
 -- a tape of at least five words is such a row
-pub tape-row : (tape : List ℕ) → otherWords ≤ length tape
-    → tape ≡ row (get_or tape 0 0) (get_or tape 1 0) (get_or tape 2 0) (get_or tape 3 0) (stepWordsOf tape) (end_at tape)
-tape-row tape h =
-    let n : ℕ = 4 + stepCount tape in
+pub tape_row_lem : (tape : List ℕ) → other_words ≤ length tape
+    → tape ≡ row (get_or tape 0 0) (get_or tape 1 0) (get_or tape 2 0) (get_or tape 3 0) (step_words_of tape) (end_at tape)
+tape_row_lem tape h =
+    let n : ℕ = 4 + step_count tape in
     let t : List ℕ = take n tape in
     let rest : drop (suc n) tape ≡ [] = drop_of_length-le tape {i = suc n} (omega arith) in
     let four : 4 ≤ length t = omega (arith, length-take-le n tape (omega arith)) in
@@ -119,113 +119,113 @@ tape-row tape h =
 
 -- ---- from a tape to its program and back
 
-pub steps-count : (tape : List ℕ) → length (steps_of tape) ≡ stepCount tape
-steps-count tape = simp length-map (words_count tape)
+pub steps_count : (tape : List ℕ) → length (steps_of tape) ≡ step_count tape
+steps_count tape = simp length-map (words_count tape)
 
-module _ (tape : List ℕ) (laid : laidOut tape ≡ true) where
+module _ (tape : List ℕ) (laid : laid_out tape ≡ true) where
   rules : LaidOut tape
-  rules = laid-out-rules tape laid
+  rules = laid_out_rules tape laid
 
-  pub laid-out-long : otherWords ≤ length tape
-  laid-out-long = elim (dec_le otherWords (length tape)) [
+  pub laid_out_long : other_words ≤ length tape
+  laid_out_long = elim (dec_le other_words (length tape)) [
     | yes h ↦ h
-    | no h ↦ absurd (omega (arith, rules.end, ap sortOf (means-past tape (4 + stepCount tape) (omega arith))))
+    | no h ↦ absurd (omega (arith, rules.end, ap sort_of (means_past tape (4 + step_count tape) (omega arith))))
   ]
 
-  pub words-program : programWords (program_of tape) ≡ tape
-  unfolding programWords
-  words-program =
-      let w0 = word-again (get_or tape 0 0) rules.sort-0 (λ z. omega arith) in
-      let w1 = word-again (get_or tape 1 0) rules.sort-1 (λ z. omega arith) in
-      let w2 = word-again (get_or tape 2 0) rules.sort-2 (λ z. omega arith) in
-      let w3 = word-again (get_or tape 3 0) rules.sort-3 (λ z. omega arith) in
-      let steps = steps-words (stepWordsOf tape) rules.steps in
-      let end = ap (λ (n : ℕ). encoded (End n)) (steps-count tape ∙ sym rules.count) ∙ word-again (end_at tape) rules.end (λ z. omega arith) in
-      rw (w0, w1, w2, w3, steps, end) (sym (tape-row tape laid-out-long))
+  pub words_program : program_words (program_of tape) ≡ tape
+  unfolding program_words
+  words_program =
+      let w0 = word_again (get_or tape 0 0) rules.sort_0 (λ z. omega arith) in
+      let w1 = word_again (get_or tape 1 0) rules.sort_1 (λ z. omega arith) in
+      let w2 = word_again (get_or tape 2 0) rules.sort_2 (λ z. omega arith) in
+      let w3 = word_again (get_or tape 3 0) rules.sort_3 (λ z. omega arith) in
+      let steps = steps_words (step_words_of tape) rules.steps in
+      let end = ap (λ (n : ℕ). encoded (End n)) (steps_count tape ∙ sym rules.count) ∙ word_again (end_at tape) rules.end (λ z. omega arith) in
+      rw (w0, w1, w2, w3, steps, end) (sym (tape_row_lem tape laid_out_long))
 
 -- the numbers of a header fit their words
 pub record HeaderFits (h : Header) : Type 0 where
-  pub variant-small : h.variant < variantLimit
-  pub modulus-small : h.modulus < numberLimit
-  pub order_small : h.order < numberLimit
-  pub exponent_small : h.exponent < numberLimit
-  pub count_small : h.steps < numberLimit
+  pub variant_small : h.variant < variant_limit
+  pub modulus_small : h.modulus < number_limit
+  pub order_small : h.order < number_limit
+  pub exponent_small : h.exponent < number_limit
+  pub count_small : h.steps < number_limit
 
 -- what a program's words can say: its numbers fit, a free program has 0 for r and k, and the steps are sound
 pub record LawfulProgram (q : Program) : Type 0 where
-  pub fits : HeaderFits (headerFor q)
+  pub fits : HeaderFits (header_for q)
   pub free : q.variant ≡ 0 → (q.order ≡ 0) × (q.exponent ≡ 0)
   pub sound : AllSound q.steps
 
-pub header-fits : (tape : List ℕ) → laidOut tape ≡ true → HeaderFits (headerOf tape)
-header-fits tape laid =
-    let rules = laid-out-rules tape laid in
+pub header_fits_lem : (tape : List ℕ) → laid_out tape ≡ true → HeaderFits (header_of tape)
+header_fits_lem tape laid =
+    let rules = laid_out_rules tape laid in
     record {
-      variant-small = variant-small (get_or tape 0 0) rules.sort-0;
-      modulus-small = value-small (meansAt tape 1) (decoded-lawful (get_or tape 1 0));
-      order_small = value-small (meansAt tape 2) (decoded-lawful (get_or tape 2 0));
-      exponent_small = value-small (meansAt tape 3) (decoded-lawful (get_or tape 3 0));
-      count_small = omega (arith, rules.count, value-small (decoded (end_at tape)) (decoded-lawful (end_at tape)));
+      variant_small = variant_small (get_or tape 0 0) rules.sort_0;
+      modulus_small = value_small (means_at tape 1) (decoded_lawful (get_or tape 1 0));
+      order_small = value_small (means_at tape 2) (decoded_lawful (get_or tape 2 0));
+      exponent_small = value_small (means_at tape 3) (decoded_lawful (get_or tape 3 0));
+      count_small = omega (arith, rules.count, value_small (decoded (end_at tape)) (decoded_lawful (end_at tape)));
     }
 
 -- ---- from a program to its tape and back
 
-pub program-length : (q : Program) → length (programWords q) ≡ length q.steps + otherWords
-unfolding programWords
-program-length q = simp (length-append, length-map) (omega arith)
+pub program_length : (q : Program) → length (program_words q) ≡ length q.steps + other_words
+unfolding program_words
+program_length q = simp (length-append, length-map) (omega arith)
 
 module _ (q : Program) (lawful : LawfulProgram q) where
-  means-0 : meansAt (programWords q) 0 ≡ Heading q.variant
-  unfolding programWords
-  means-0 = decoded-encoded (Heading q.variant) lawful.fits.variant-small
+  means_0 : means_at (program_words q) 0 ≡ Heading q.variant
+  unfolding program_words
+  means_0 = decoded_encoded (Heading q.variant) lawful.fits.variant_small
 
-  means-1 : meansAt (programWords q) 1 ≡ P q.modulus
-  unfolding programWords
-  means-1 = decoded-encoded (P q.modulus) lawful.fits.modulus-small
+  means_1 : means_at (program_words q) 1 ≡ P q.modulus
+  unfolding program_words
+  means_1 = decoded_encoded (P q.modulus) lawful.fits.modulus_small
 
-  means-2 : meansAt (programWords q) 2 ≡ R q.order
-  unfolding programWords
-  means-2 = decoded-encoded (R q.order) lawful.fits.order_small
+  means_2 : means_at (program_words q) 2 ≡ R q.order
+  unfolding program_words
+  means_2 = decoded_encoded (R q.order) lawful.fits.order_small
 
-  means-3 : meansAt (programWords q) 3 ≡ K q.exponent
-  unfolding programWords
-  means-3 = decoded-encoded (K q.exponent) lawful.fits.exponent_small
+  means_3 : means_at (program_words q) 3 ≡ K q.exponent
+  unfolding program_words
+  means_3 = decoded_encoded (K q.exponent) lawful.fits.exponent_small
 
-  count-is : stepCount (programWords q) ≡ length q.steps
-  count-is = omega (arith, program-length q)
+  count_is : step_count (program_words q) ≡ length q.steps
+  count_is = omega (arith, program_length q)
 
-  words_are : stepWordsOf (programWords q) ≡ map stepWord q.steps
-  unfolding programWords
-  words_are = row_words _ _ _ _ _ (map stepWord q.steps)
+  words_are : step_words_of (program_words q) ≡ map step_word q.steps
+  unfolding program_words
+  words_are = row_words _ _ _ _ _ (map step_word q.steps)
 
-  end-means : decoded (end_at (programWords q)) ≡ End (length q.steps)
-  unfolding programWords
-  end-means =
-      ap decoded (row-end _ _ _ _ (encoded (End (length q.steps))) (map stepWord q.steps))
-      ∙ decoded-encoded (End (length q.steps)) lawful.fits.count_small
+  end_means : decoded (end_at (program_words q)) ≡ End (length q.steps)
+  unfolding program_words
+  end_means =
+      ap decoded (row_end _ _ _ _ (encoded (End (length q.steps))) (map step_word q.steps))
+      ∙ decoded_encoded (End (length q.steps)) lawful.fits.count_small
 
-  pub program-laid-out : laidOut (programWords q) ≡ true
-  program-laid-out =
-      rules-laid-out (programWords q)
+  pub program_laid_out : laid_out (program_words q) ≡ true
+  program_laid_out =
+      rules_laid_out (program_words q)
       (record {
-        sort-0 = ap sortOf means-0;
-        sort-1 = ap sortOf means-1;
-        sort-2 = ap sortOf means-2;
-        sort-3 = ap sortOf means-3;
-        free = λ z. let zero = lawful.free (sym (ap value_of means-0) ∙ z) in (ap value_of means-2 ∙ zero.0, ap value_of means-3 ∙ zero.1);
-        steps = ap allSteps words_are ∙ words-all-steps q.steps lawful.sound;
-        end = ap sortOf end-means;
-        count = ap value_of end-means ∙ sym count-is;
+        sort_0 = ap sort_of means_0;
+        sort_1 = ap sort_of means_1;
+        sort_2 = ap sort_of means_2;
+        sort_3 = ap sort_of means_3;
+        free = λ z. let zero = lawful.free (sym (ap value_of means_0) ∙ z) in (ap value_of means_2 ∙ zero.0, ap value_of means_3 ∙ zero.1);
+        steps = ap all_steps words_are ∙ words_all_steps q.steps lawful.sound;
+        end = ap sort_of end_means;
+        count = ap value_of end_means ∙ sym count_is;
       })
 
-  pub program-header : headerOf (programWords q) ≡ headerFor q
-  program-header = cc (ap value_of means-0, ap value_of means-1, ap value_of means-2, ap value_of means-3, count-is)
+  pub program_header : header_of (program_words q) ≡ header_for q
+  program_header = cc (ap value_of means_0, ap value_of means_1, ap value_of means_2, ap value_of means_3, count_is)
 
-  pub program-steps : steps_of (programWords q) ≡ q.steps
-  program-steps = ap stepsIn words_are ∙ words-steps q.steps lawful.sound
+  pub program_steps : steps_of (program_words q) ≡ q.steps
+  program_steps = ap steps_in words_are ∙ words_steps q.steps lawful.sound
 
-  pub program-words : program_of (programWords q) ≡ q
-  program-words =
-      let fields : program_of (programWords q) ≡ record { variant = q.variant; modulus = q.modulus; order = q.order; exponent = q.exponent; steps = q.steps } =
-      cc (ap value_of means-0, ap value_of means-1, ap value_of means-2, ap value_of means-3, program-steps) in
+  pub program_words_lem : program_of (program_words q) ≡ q
+  program_words_lem =
+      let fields : program_of (program_words q) ≡ record { variant = q.variant; modulus = q.modulus; order = q.order; exponent = q.exponent; steps = q.steps } =
+      cc (ap value_of means_0, ap value_of means_1, ap value_of means_2, ap value_of means_3, program_steps) in
       fields

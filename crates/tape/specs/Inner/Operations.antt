@@ -6,17 +6,17 @@ use Rattle.tape.specs.declared.Operation.{Operation}
 use Rattle.tape.specs.Words.{kind_of}
 
 -- 0 multiplies, 1 divides, 2 and above exchange
-unfoldable pub stepBy : ℕ → ℕ → ℕ → Step
-stepBy zero t s = Mul t s
-stepBy (suc zero) t s = Div t s
-stepBy (suc (suc n)) t s = Swp t s
+unfoldable pub step_by : ℕ → ℕ → ℕ → Step
+step_by zero t s = Mul t s
+step_by (suc zero) t s = Div t s
+step_by (suc (suc n)) t s = Swp t s
 
--- the step that a word has in its digits, whatever else it has: a step's word has its meaning there (`raw-steps` of proofs/Laws/Rows)
-unfoldable pub rawStep : ℕ → Step
-rawStep w = stepBy (kind_of w - 5) (w % 4) (w / 4 % 4)
+-- the step that a word has in its digits, whatever else it has: a step's word has its meaning there (`raw_steps_lem` of proofs/Laws/Rows)
+unfoldable pub raw_step : ℕ → Step
+raw_step w = step_by (kind_of w - 5) (w % 4) (w / 4 % 4)
 
-abbrev pub rawSteps : List ℕ → List Step
-rawSteps words = map rawStep words
+abbrev pub raw_steps : List ℕ → List Step
+raw_steps words = map raw_step words
 
-abbrev pub stepFor : Operation → Step
-stepFor op = stepBy op.opcode op.target op.source
+abbrev pub step_for : Operation → Step
+step_for op = step_by op.opcode op.target op.source

@@ -4,11 +4,11 @@ use mathlib.Core.List.{List}
 use Prim.Native.Nat.{ℕ}
 use borrow.Author.Rules.{rules}
 use lib.ListN.{get_or}
-use Rattle.refusal.specs.Outcomes.{refusalNumber}
-use Rattle.sequencer.specs.Records.{Record, recordIn}
-use Rattle.sequencer.specs.Sessions.{openOutcome}
-use Rattle.sequencer.specs.Previews.{sessionPreview, previewOutcomeOf}
-use Rattle.sequencer.proofs.Laws.Previews.{preview-not-opened, preview-opened}
+use Rattle.refusal.specs.Outcomes.{refusal_number}
+use Rattle.sequencer.specs.Records.{Record, record_in}
+use Rattle.sequencer.specs.Sessions.{open_outcome}
+use Rattle.sequencer.specs.Previews.{session_preview, preview_outcome_of}
+use Rattle.sequencer.proofs.Laws.Previews.{preview_not_opened, preview_opened}
 use Rattle.tape_verbs.proofs.preview.Statement.{statement}
 use Rattle.tape_verbs.proofs.preview.Tie as tie
 
@@ -21,25 +21,25 @@ module _ (c : tie.After-preview-once) where
   tape = c.before.before.before.before.before.before.args.tape.now
 
   abbrev s : Record
-  s = recordIn values
+  s = record_in values
 
   abbrev goal : ℕ
   goal = get_or values 5 0
 
-  came : (c.preview-once.result.opened ≡ refusalNumber (openOutcome tape s)) × (previewOutcomeOf c.preview-once.result.preview ≡ sessionPreview tape s goal)
+  came : (c.preview-once.result.opened ≡ refusal_number (open_outcome tape s)) × (preview_outcome_of c.preview-once.result.preview ≡ session_preview tape s goal)
   came = let said = rw (c.before.before.record.ensures, c.before.parameter.ensures) at c.preview-once.ensures in (said.0, said.1.0)
 
 returns : tie.Need-returns
 returns c =
     let then = c.before.before.before.before in
     let once = then.before.before in
-    rw (preview-not-opened (tape once) (s once) (goal once) (λ zero. then.if1.true ((came once).0 ∙ zero)), ← (came once).0) c.before.before.refuse.ensures
+    rw (preview_not_opened (tape once) (s once) (goal once) (λ zero. then.if1.true ((came once).0 ∙ zero)), ← (came once).0) c.before.before.refuse.ensures
 
 returns-2 : tie.Need-returns-2
 returns-2 c =
     let opened = c.before.before.before.before in
     let once = opened.before.before in
-    rw (← preview-opened (tape once) (s once) (goal once) (sym (came once).0 ∙ opened.if1.false), ← (came once).1) c.before.before.print-preview.ensures
+    rw (← preview_opened (tape once) (s once) (goal once) (sym (came once).0 ∙ opened.if1.false), ← (came once).1) c.before.before.print-preview.ensures
 
 pub preview-spec : {M : Type 1} → statement M
 preview-spec =

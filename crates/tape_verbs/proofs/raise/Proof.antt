@@ -5,7 +5,7 @@ use Prim.Native.Nat.{ℕ, ◌≤◌}
 use native.Mathlib.Omega.{arith}
 use lib.ListN.{length, take}
 use lib.Seq.{length-take-le}
-use Rattle.text.proofs.Laws.Puts.{put-taken, put-inside}
+use Rattle.text.proofs.Laws.Puts.{put_taken, put_inside}
 use borrow.Author.Rules.{rules}
 use Rattle.tape_verbs.proofs.raise.Statement.{statement}
 use Rattle.tape_verbs.proofs.raise.Tie as tie
@@ -15,10 +15,10 @@ module _ (c : tie.After-put-words) where
   values = c.before.before.before.before.before.args.values.now
 
   taken : take c.put-words.result c.put-words.new.0 ≡ values
-  taken = put-taken c.put-words.ensures c.before.before.before.before.before.requires
+  taken = put_taken c.put-words.ensures c.before.before.before.before.before.requires
 
   inside : c.put-words.result ≤ length c.put-words.new.0
-  inside = put-inside c.put-words.ensures (omega arith)
+  inside = put_inside c.put-words.ensures (omega arith)
 
 array-borrow-prefix-row : tie.Need-array-borrow-prefix-row
 array-borrow-prefix-row c = inside c.before
@@ -32,7 +32,7 @@ raise-row-requires c κs =
     rw (taken put) put.before.before.before.before.before.requires
 
 returns : tie.Need-returns
-returns c = rw (taken c.before.before.before.before.before.before.before) at c.before.before.before.raise-row.ensures
+returns c = rw (taken c.before.before.before.before.before.before.before) at c.before.before.before.raise_row.ensures
 
 pub raise-spec : {M : Type 1} → statement M
 raise-spec =

@@ -15,7 +15,7 @@ returns-2 : tie.Need-returns-2
 returns-2 c =
     let raise = c.before.before.before.before.before.before.before.before.before in
     let start = raise.before.before.before.before.before in
-    let line = c.before.before.numbers-line.ensures in
+    let line = c.before.before.numbers_line_lem.ensures in
     rw (← raise.raise.ensures.0, c.before.before.before.before.before.enum_told.given.1, ← raise.raise.ensures.1)
     (record { status = refl; text = line.0; short = omega (arith, line.1, raise.raise.auto.1.0, start.requires) })
 

@@ -5,10 +5,10 @@ use mathlib.Core.List.{List}
 use Prim.Native.Nat.{ℕ}
 use borrow.Author.Rules.{rules}
 use lib.ListN.{get_or}
-use Rattle.refusal.specs.Outcomes.{refusalNumber, after}
-use Rattle.sequencer.specs.Records.{Record, recordIn, recordOf}
-use Rattle.sequencer.specs.Sessions.{isBackward, openOutcome, heldRecord, sessionOutcome}
-use Rattle.sequencer.proofs.Laws.Sessions.{not_opened, not-stepped, stepped}
+use Rattle.refusal.specs.Outcomes.{refusal_number, after}
+use Rattle.sequencer.specs.Records.{Record, record_in, record_of}
+use Rattle.sequencer.specs.Sessions.{is_backward, open_outcome, held_record, session_outcome}
+use Rattle.sequencer.proofs.Laws.Sessions.{not_opened, not_stepped, stepped}
 use Rattle.tape_verbs.proofs.step.Statement.{statement}
 use Rattle.tape_verbs.proofs.step.Tie as tie
 
@@ -21,14 +21,14 @@ module _ (c : tie.After-step-once) where
   tape = c.before.before.before.before.before.before.args.tape.now
 
   abbrev s : Record
-  s = recordIn values
+  s = record_in values
 
   abbrev backward : Bool
-  backward = isBackward (get_or values 5 0)
+  backward = is_backward (get_or values 5 0)
 
-  came : (c.step-once.result.opened ≡ refusalNumber (openOutcome tape s))
-      × ((c.step-once.result.stepped ≡ refusalNumber (sessionOutcome tape s backward))
-      × (recordOf c.step-once.result.state ≡ after (sessionOutcome tape s backward) (heldRecord (openOutcome tape s))))
+  came : (c.step-once.result.opened ≡ refusal_number (open_outcome tape s))
+      × ((c.step-once.result.stepped ≡ refusal_number (session_outcome tape s backward))
+      × (record_of c.step-once.result.state ≡ after (session_outcome tape s backward) (held_record (open_outcome tape s))))
   came = rw (c.before.before.record.ensures, c.before.parameter.ensures) at c.step-once.ensures
 
 returns : tie.Need-returns
@@ -43,7 +43,7 @@ returns-2 c =
     let opened = then.before.before in
     let once = opened.before.before in
     rw (
-      not-stepped (tape once) (s once) (backward once) (sym (came once).0 ∙ opened.if1.false) (λ zero. then.if2.true ((came once).1.0 ∙ zero)),
+      not_stepped (tape once) (s once) (backward once) (sym (came once).0 ∙ opened.if1.false) (λ zero. then.if2.true ((came once).1.0 ∙ zero)),
       ← (came once).1.0,
     )
     c.before.before.refuse2.ensures

@@ -13,12 +13,12 @@ use lib.Dec.{leb, ltb, eqb}
 use lib.ListN.{length, get_or, drop}
 use lib.Seq.{drop-cons}
 use borrow.Author.Tests.{le-leb, lt-leb, leb-true, lt-ltb, le-ltb, ltb-true, eq-eqb, ne_eqb}
-use Rattle.refusal.proofs.Laws.Tests.{test-false, by-test, both, and_both}
+use Rattle.refusal.proofs.Laws.Tests.{test_false, by_test, both, and_both}
 use Rattle.text.specs.declared.Parsed.{Parsed}
 use Rattle.text.specs.declared.Parsed.TheVariants.{Number, NoNumber}
 use Rattle.text.specs.Text.{decimal}
-use Rattle.text.specs.Reading.{within, digitOf, allDigits, valueFrom, numberFrom, inBase, isHexadecimal, parseNumber, Small}
-use Rattle.text.proofs.Laws.Decimal.{decimal-one, decimal-again, decimal-some}
+use Rattle.text.specs.Reading.{within, digit_of, all_digits, value_from, number_from, in_base, is_hexadecimal, parse_number, Small}
+use Rattle.text.proofs.Laws.Decimal.{decimal_one, decimal_again, decimal_some}
 
 -- ---- a digit's value
 
@@ -33,190 +33,190 @@ not_within first last byte h =
     ]
 
 module _ (byte : ℕ) where
-  pub digit-decimal : code "0" ≤ byte → byte ≤ code "9" → digitOf byte ≡ byte - code "0"
-  unfolding digitOf
-  digit-decimal low high = rw (is_within (code "0") (code "9") byte low high)
+  pub digit_decimal : code "0" ≤ byte → byte ≤ code "9" → digit_of byte ≡ byte - code "0"
+  unfolding digit_of
+  digit_decimal low high = rw (is_within (code "0") (code "9") byte low high)
 
-  pub digit-lower : code "a" ≤ byte → byte ≤ code "f" → digitOf byte ≡ byte - code "a" + 10
-  unfolding digitOf
-  digit-lower low high = rw (not_within (code "0") (code "9") byte (λ h. omega arith), is_within (code "a") (code "f") byte low high)
+  pub digit_lower : code "a" ≤ byte → byte ≤ code "f" → digit_of byte ≡ byte - code "a" + 10
+  unfolding digit_of
+  digit_lower low high = rw (not_within (code "0") (code "9") byte (λ h. omega arith), is_within (code "a") (code "f") byte low high)
 
-  pub digit-upper : code "A" ≤ byte → byte ≤ code "F" → digitOf byte ≡ byte - code "A" + 10
-  unfolding digitOf
-  digit-upper low high =
+  pub digit_upper : code "A" ≤ byte → byte ≤ code "F" → digit_of byte ≡ byte - code "A" + 10
+  unfolding digit_of
+  digit_upper low high =
       rw
       (not_within (code "0") (code "9") byte (λ h. omega arith), not_within (code "a") (code "f") byte (λ h. omega arith), is_within (code "A") (code "F") byte low high)
 
-  pub digit-none : (code "0" ≤ byte → code "9" < byte) → (code "a" ≤ byte → code "f" < byte) → (code "A" ≤ byte → code "F" < byte) → digitOf byte ≡ 16
-  unfolding digitOf
-  digit-none d l u = rw (not_within (code "0") (code "9") byte d, not_within (code "a") (code "f") byte l, not_within (code "A") (code "F") byte u)
+  pub digit_none : (code "0" ≤ byte → code "9" < byte) → (code "a" ≤ byte → code "f" < byte) → (code "A" ≤ byte → code "F" < byte) → digit_of byte ≡ 16
+  unfolding digit_of
+  digit_none d l u = rw (not_within (code "0") (code "9") byte d, not_within (code "a") (code "f") byte l, not_within (code "A") (code "F") byte u)
 
 -- ---- one more digit
 
 -- a number with a digit behind it is at most the most exactly where the number is at most (most - digit) / base
 module _ (base : ℕ) (some : 0 < base) (most n d : ℕ) (h : d ≤ most) where
-  pub digit-fits : n ≤ (most - d) / base → base * n + d ≤ most
-  digit-fits k = omega (arith, (le-div_iff_mul-le {k = base} {x = n} {y = most - d} some).0 k)
+  pub digit_fits : n ≤ (most - d) / base → base * n + d ≤ most
+  digit_fits k = omega (arith, (le-div_iff_mul-le {k = base} {x = n} {y = most - d} some).0 k)
 
-  pub digit-passes : (most - d) / base < n → most < base * n + d
-  digit-passes k = omega (arith, (div-lt_iff_lt-mul {k = base} {x = most - d} {y = n} some).0 k)
+  pub digit_passes : (most - d) / base < n → most < base * n + d
+  digit_passes k = omega (arith, (div-lt_iff_lt-mul {k = base} {x = most - d} {y = n} some).0 k)
 
 module _ (base : ℕ) (some : 0 < base) where
   -- digits alone never make a number less
-  value_grows : (n : ℕ) (text : List ℕ) → n ≤ valueFrom base n text
-  unfolding valueFrom
+  value_grows : (n : ℕ) (text : List ℕ) → n ≤ value_from base n text
+  unfolding value_from
   value_grows n [] = omega arith
-  value_grows n (b ∷ text) = omega (arith, mul-le-mul_left n some, value_grows (base * n + digitOf b) text)
+  value_grows n (b ∷ text) = omega (arith, mul-le-mul_left n some, value_grows (base * n + digit_of b) text)
 
-  pub number_past : (most n : ℕ) (text : List ℕ) → most < n → numberFrom base most n text ≡ NoNumber
-  unfolding numberFrom
-  number_past most n text h = rw (lt-leb (valueFrom base n text) most (omega (arith, value_grows n text)), and-false (allDigits base text))
+  pub number_past : (most n : ℕ) (text : List ℕ) → most < n → number_from base most n text ≡ NoNumber
+  unfolding number_from
+  number_past most n text h = rw (lt-leb (value_from base n text) most (omega (arith, value_grows n text)), and-false (all_digits base text))
 
 module _ (base most : ℕ) where
-  pub number-end : (n : ℕ) → n ≤ most → numberFrom base most n [] ≡ Number n
-  unfolding numberFrom allDigits valueFrom
-  number-end n h = rw (le-leb n most h)
+  pub number_end : (n : ℕ) → n ≤ most → number_from base most n [] ≡ Number n
+  unfolding number_from all_digits value_from
+  number_end n h = rw (le-leb n most h)
 
   module _ (n b : ℕ) (text : List ℕ) where
-    pub number-stop : base ≤ digitOf b → numberFrom base most n (b ∷ text) ≡ NoNumber
-    unfolding numberFrom allDigits
-    number-stop h = rw (le-ltb (digitOf b) base h)
+    pub number_stop : base ≤ digit_of b → number_from base most n (b ∷ text) ≡ NoNumber
+    unfolding number_from all_digits
+    number_stop h = rw (le-ltb (digit_of b) base h)
 
-    pub number-next : digitOf b < base → numberFrom base most n (b ∷ text) ≡ numberFrom base most (base * n + digitOf b) text
-    unfolding numberFrom allDigits valueFrom
-    number-next h = rw (lt-ltb (digitOf b) base h)
+    pub number_next : digit_of b < base → number_from base most n (b ∷ text) ≡ number_from base most (base * n + digit_of b) text
+    unfolding number_from all_digits value_from
+    number_next h = rw (lt-ltb (digit_of b) base h)
 
   -- what comes of the rest of a text, by what came of the byte in front of it
   abbrev pub behind : Parsed → List ℕ → Parsed
-  behind (Number n) text = numberFrom base most n text
+  behind (Number n) text = number_from base most n text
   behind NoNumber text = NoNumber
 
-  number_step : 0 < base → (n b : ℕ) (text : List ℕ) → numberFrom base most n (b ∷ text) ≡ behind (numberFrom base most n (b ∷ [])) text
+  number_step : 0 < base → (n b : ℕ) (text : List ℕ) → number_from base most n (b ∷ text) ≡ behind (number_from base most n (b ∷ [])) text
   number_step some n b text =
-      let m = base * n + digitOf b in
-      elim (dec_lt (digitOf b) base) [
+      let m = base * n + digit_of b in
+      elim (dec_lt (digit_of b) base) [
         | yes h ↦
-            let next : (rest : List ℕ) → numberFrom base most n (b ∷ rest) ≡ numberFrom base most m rest = λ rest. number-next n b rest h in
+            let next : (rest : List ℕ) → number_from base most n (b ∷ rest) ≡ number_from base most m rest = λ rest. number_next n b rest h in
             elim (dec_lt most m) [
               | yes k ↦ next text ∙ number_past base some most m text k ∙ sym (ap (λ (p : Parsed). behind p text) (next [] ∙ number_past base some most m [] k))
-              | no k ↦ next text ∙ sym (ap (λ (p : Parsed). behind p text) (next [] ∙ number-end m (omega arith)))
+              | no k ↦ next text ∙ sym (ap (λ (p : Parsed). behind p text) (next [] ∙ number_end m (omega arith)))
             ]
-        | no h ↦ number-stop n b text (omega arith) ∙ sym (ap (λ (p : Parsed). behind p text) (number-stop n b [] (omega arith)))
+        | no h ↦ number_stop n b text (omega arith) ∙ sym (ap (λ (p : Parsed). behind p text) (number_stop n b [] (omega arith)))
       ]
 
   -- the byte at an index, and the text past it
-  pub number-drop : 0 < base → (n : ℕ) (text : List ℕ) (i : ℕ) → i < length text
-      → numberFrom base most n (drop i text) ≡ behind (numberFrom base most n (get_or text i 0 ∷ [])) (drop (i + 1) text)
-  number-drop some n text i h = rw (add-one i, drop-cons text i 0 h) (number_step some n (get_or text i 0) (drop (suc i) text))
+  pub number_drop : 0 < base → (n : ℕ) (text : List ℕ) (i : ℕ) → i < length text
+      → number_from base most n (drop i text) ≡ behind (number_from base most n (get_or text i 0 ∷ [])) (drop (i + 1) text)
+  number_drop some n text i h = rw (add-one i, drop-cons text i 0 h) (number_step some n (get_or text i 0) (drop (suc i) text))
 
   -- a number that is read is not above the most
-  from-small : (n : ℕ) (text : List ℕ) → Small most (numberFrom base most n text)
-  unfolding numberFrom
-  from-small n text =
-      by-test (allDigits base text && leb (valueFrom base n text) most)
-      (λ yes. rw yes (leb-true (valueFrom base n text) most (both (allDigits base text) (leb (valueFrom base n text) most) yes).1))
+  from_small : (n : ℕ) (text : List ℕ) → Small most (number_from base most n text)
+  unfolding number_from
+  from_small n text =
+      by_test (all_digits base text && leb (value_from base n text) most)
+      (λ yes. rw yes (leb-true (value_from base n text) most (both (all_digits base text) (leb (value_from base n text) most) yes).1))
       (λ no. rw no (omega arith))
 
-  pub number-most : (n : ℕ) (text : List ℕ) (m : ℕ) → numberFrom base most n text ≡ Number m → m ≤ most
-  number-most n text m e = rw e at (from-small n text)
+  pub number_most : (n : ℕ) (text : List ℕ) (m : ℕ) → number_from base most n text ≡ Number m → m ≤ most
+  number_most n text m e = rw e at (from_small n text)
 
   -- a text that isn't empty
-  pub base-some : (text : List ℕ) → 0 < length text → inBase base most text ≡ numberFrom base most 0 text
-  unfolding inBase
-  base-some [] h = absurd (omega arith)
-  base-some (b ∷ text) h = refl
+  pub base_some : (text : List ℕ) → 0 < length text → in_base base most text ≡ number_from base most 0 text
+  unfolding in_base
+  base_some [] h = absurd (omega arith)
+  base_some (b ∷ text) h = refl
 
-  pub base-none : (text : List ℕ) → length text ≡ 0 → inBase base most text ≡ NoNumber
-  unfolding inBase
-  base-none [] h = refl
-  base-none (b ∷ text) h = absurd (omega arith)
+  pub base_none : (text : List ℕ) → length text ≡ 0 → in_base base most text ≡ NoNumber
+  unfolding in_base
+  base_none [] h = refl
+  base_none (b ∷ text) h = absurd (omega arith)
 
-  base-small : (text : List ℕ) → Small most (inBase base most text)
-  unfolding inBase
-  base-small [] = omega arith
-  base-small (b ∷ text) = from-small 0 (b ∷ text)
+  base_small : (text : List ℕ) → Small most (in_base base most text)
+  unfolding in_base
+  base_small [] = omega arith
+  base_small (b ∷ text) = from_small 0 (b ∷ text)
 
 -- ---- the base
 
 -- past the end of a text stands no x
-pub hexadecimal-long : (text : List ℕ) → isHexadecimal text ≡ true → 2 ≤ length text
-unfolding isHexadecimal
-hexadecimal-long [] e = absurd (false≢true e)
-hexadecimal-long (a ∷ []) e = absurd (false≢true (sym (and-false (eqb a (code "0"))) ∙ e))
-hexadecimal-long (a ∷ b ∷ text) e = omega arith
+pub hexadecimal_long : (text : List ℕ) → is_hexadecimal text ≡ true → 2 ≤ length text
+unfolding is_hexadecimal
+hexadecimal_long [] e = absurd (false≢true e)
+hexadecimal_long (a ∷ []) e = absurd (false≢true (sym (and-false (eqb a (code "0"))) ∙ e))
+hexadecimal_long (a ∷ b ∷ text) e = omega arith
 
 -- the two tests
-pub hexadecimal-not : (text : List ℕ) → ¬ (get_or text 0 0 ≡ code "0") → isHexadecimal text ≡ false
-unfolding isHexadecimal
-hexadecimal-not text h = rw (ne_eqb (get_or text 0 0) (code "0") h)
+pub hexadecimal_not : (text : List ℕ) → ¬ (get_or text 0 0 ≡ code "0") → is_hexadecimal text ≡ false
+unfolding is_hexadecimal
+hexadecimal_not text h = rw (ne_eqb (get_or text 0 0) (code "0") h)
 
-pub hexadecimal-by : (text : List ℕ) → get_or text 0 0 ≡ code "0" → isHexadecimal text ≡ eqb (get_or text 1 0) (code "x")
-unfolding isHexadecimal
-hexadecimal-by text h = rw (eq-eqb (get_or text 0 0) (code "0") h)
+pub hexadecimal_by : (text : List ℕ) → get_or text 0 0 ≡ code "0" → is_hexadecimal text ≡ eqb (get_or text 1 0) (code "x")
+unfolding is_hexadecimal
+hexadecimal_by text h = rw (eq-eqb (get_or text 0 0) (code "0") h)
 
-pub hexadecimal-short : (text : List ℕ) → length text < 2 → isHexadecimal text ≡ false
-hexadecimal-short text h = test-false (isHexadecimal text) (λ e. omega (arith, hexadecimal-long text e))
+pub hexadecimal_short : (text : List ℕ) → length text < 2 → is_hexadecimal text ≡ false
+hexadecimal_short text h = test_false (is_hexadecimal text) (λ e. omega (arith, hexadecimal_long text e))
 
 module _ (most : ℕ) (text : List ℕ) where
-  pub number-hexadecimal : isHexadecimal text ≡ true → parseNumber most text ≡ inBase 16 most (drop 2 text)
-  unfolding parseNumber
-  number-hexadecimal e = rw e
+  pub number_hexadecimal : is_hexadecimal text ≡ true → parse_number most text ≡ in_base 16 most (drop 2 text)
+  unfolding parse_number
+  number_hexadecimal e = rw e
 
-  pub number-decimal : isHexadecimal text ≡ false → parseNumber most text ≡ inBase 10 most text
-  unfolding parseNumber
-  number-decimal e = rw e
+  pub number_decimal : is_hexadecimal text ≡ false → parse_number most text ≡ in_base 10 most text
+  unfolding parse_number
+  number_decimal e = rw e
 
-  pub number_small : Small most (parseNumber most text)
+  pub number_small : Small most (parse_number most text)
   number_small =
-      by-test (isHexadecimal text)
-      (λ yes. rw (number-hexadecimal yes) (base-small 16 most (drop 2 text)))
-      (λ no. rw (number-decimal no) (base-small 10 most text))
+      by_test (is_hexadecimal text)
+      (λ yes. rw (number_hexadecimal yes) (base_small 16 most (drop 2 text)))
+      (λ no. rw (number_decimal no) (base_small 10 most text))
 
 -- ---- what is written is read back
 
-decimal_digit : (d : ℕ) → d < 10 → digitOf (code "0" + d) ≡ d
-decimal_digit d h = digit-decimal (code "0" + d) (omega arith) (omega arith) ∙ omega arith
+decimal_digit : (d : ℕ) → d < 10 → digit_of (code "0" + d) ≡ d
+decimal_digit d h = digit_decimal (code "0" + d) (omega arith) (omega arith) ∙ omega arith
 
-digits_append : (text : List ℕ) (d : ℕ) → d < 10 → allDigits 10 text ≡ true → allDigits 10 (text ++ (code "0" + d) ∷ []) ≡ true
-unfolding allDigits
+digits_append : (text : List ℕ) (d : ℕ) → d < 10 → all_digits 10 text ≡ true → all_digits 10 (text ++ (code "0" + d) ∷ []) ≡ true
+unfolding all_digits
 digits_append [] d h e = rw (decimal_digit d h, lt-ltb d 10 h)
 digits_append (b ∷ text) d h e =
-    let parts = both (ltb (digitOf b) 10) (allDigits 10 text) e in
-    and_both (ltb (digitOf b) 10) (allDigits 10 (text ++ (code "0" + d) ∷ [])) parts.0 (digits_append text d h parts.1)
+    let parts = both (ltb (digit_of b) 10) (all_digits 10 text) e in
+    and_both (ltb (digit_of b) 10) (all_digits 10 (text ++ (code "0" + d) ∷ [])) parts.0 (digits_append text d h parts.1)
 
-value-append : (n : ℕ) (text : List ℕ) (d : ℕ) → d < 10 → valueFrom 10 n (text ++ (code "0" + d) ∷ []) ≡ 10 * valueFrom 10 n text + d
-unfolding valueFrom
-value-append n [] d h = rw (decimal_digit d h)
-value-append n (b ∷ text) d h = value-append (10 * n + digitOf b) text d h
+value_append : (n : ℕ) (text : List ℕ) (d : ℕ) → d < 10 → value_from 10 n (text ++ (code "0" + d) ∷ []) ≡ 10 * value_from 10 n text + d
+unfolding value_from
+value_append n [] d h = rw (decimal_digit d h)
+value_append n (b ∷ text) d h = value_append (10 * n + digit_of b) text d h
 
 -- by the number's tenths; fuel above the number is enough
-spelt : (fuel n : ℕ) → n < fuel → (allDigits 10 (decimal n) ≡ true) × (valueFrom 10 0 (decimal n) ≡ n)
-unfolding allDigits valueFrom
+spelt : (fuel n : ℕ) → n < fuel → (all_digits 10 (decimal n) ≡ true) × (value_from 10 0 (decimal n) ≡ n)
+unfolding all_digits value_from
 spelt zero n h = absurd (omega arith)
 spelt (suc fuel) n h =
     elim (dec_lt n 10) [
-      | yes k ↦ rw (decimal-one n k) (digits_append [] n k refl, value-append 0 [] n k ∙ zero-add n)
+      | yes k ↦ rw (decimal_one n k) (digits_append [] n k refl, value_append 0 [] n k ∙ zero-add n)
       | no k ↦
           let tenth = spelt fuel (n / 10) (omega arith) in
-          rw (decimal-again n (omega arith))
-          (digits_append (decimal (n / 10)) (n % 10) (omega arith) tenth.0, value-append 0 (decimal (n / 10)) (n % 10) (omega arith) ∙ omega (arith, tenth.1))
+          rw (decimal_again n (omega arith))
+          (digits_append (decimal (n / 10)) (n % 10) (omega arith) tenth.0, value_append 0 (decimal (n / 10)) (n % 10) (omega arith) ∙ omega (arith, tenth.1))
     ]
 
 -- an x is no digit
-digits_decimal : (text : List ℕ) → allDigits 10 text ≡ true → isHexadecimal text ≡ false
-unfolding allDigits isHexadecimal digitOf
+digits_decimal : (text : List ℕ) → all_digits 10 text ≡ true → is_hexadecimal text ≡ false
+unfolding all_digits is_hexadecimal digit_of
 digits_decimal [] e = refl
 digits_decimal (a ∷ []) e = and-false (eqb a (code "0"))
 digits_decimal (a ∷ b ∷ text) e =
-    let rest = (both (ltb (digitOf a) 10) (allDigits 10 (b ∷ text)) e).1 in
-    let small : digitOf b < 10 = ltb-true (digitOf b) 10 (both (ltb (digitOf b) 10) (allDigits 10 text) rest).0 in
-    let other : ¬ (b ≡ code "x") = λ x. omega (arith, ap digitOf x) in
+    let rest = (both (ltb (digit_of a) 10) (all_digits 10 (b ∷ text)) e).1 in
+    let small : digit_of b < 10 = ltb-true (digit_of b) 10 (both (ltb (digit_of b) 10) (all_digits 10 text) rest).0 in
+    let other : ¬ (b ≡ code "x") = λ x. omega (arith, ap digit_of x) in
     rw (ne_eqb b (code "x") other, and-false (eqb a (code "0")))
 
-pub number-back : (most n : ℕ) → n ≤ most → parseNumber most (decimal n) ≡ Number n
-unfolding numberFrom
-number-back most n h =
+pub number_back : (most n : ℕ) → n ≤ most → parse_number most (decimal n) ≡ Number n
+unfolding number_from
+number_back most n h =
     let s = spelt (suc n) n (omega arith) in
-    number-decimal most (decimal n) (digits_decimal (decimal n) s.0)
-    ∙ base-some 10 most (decimal n) (decimal-some n)
+    number_decimal most (decimal n) (digits_decimal (decimal n) s.0)
+    ∙ base_some 10 most (decimal n) (decimal_some n)
     ∙ rw (s.0, s.1, le-leb n most h)

@@ -8,31 +8,31 @@ use native.Mathlib.Numerals.{add-one}
 use lib.ListN.{length, get_or, take, drop, set, length-take, take-append-drop}
 use lib.Seq.{take-nil, take_all, take-suc}
 use Rattle.refusal.specs.Rows.{Wrote}
-use Rattle.refusal.proofs.Laws.Rows.{wrote_none, wrote-length, wrote-next, wrote-taken}
+use Rattle.refusal.proofs.Laws.Rows.{wrote_none, wrote_length, wrote_next, wrote_taken}
 use Rattle.text.specs.Rows.{Put}
 
-pub put-length : {a b : List ℕ} {at n : ℕ} {ws : List ℕ} → Put a at ws n b → length b ≡ length a
-put-length v = wrote-length v.fitting
+pub put_length : {a b : List ℕ} {at n : ℕ} {ws : List ℕ} → Put a at ws n b → length b ≡ length a
+put_length v = wrote_length v.fitting
 
 -- what fits of two texts: what fits of the first, and of the second what fits behind it
-fitting-both : (room : ℕ) (vs ws : List ℕ) → take room (vs ++ ws) ≡ take room vs ++ take (room - length (take room vs)) ws
-fitting-both room [] ws = rw (take-nil {A = ℕ} room, sub-zero room)
-fitting-both zero (v ∷ vs) ws = refl
-fitting-both (suc room) (v ∷ vs) ws =
+fitting_both : (room : ℕ) (vs ws : List ℕ) → take room (vs ++ ws) ≡ take room vs ++ take (room - length (take room vs)) ws
+fitting_both room [] ws = rw (take-nil {A = ℕ} room, sub-zero room)
+fitting_both zero (v ∷ vs) ws = refl
+fitting_both (suc room) (v ∷ vs) ws =
     let e : room - length (take room vs) ≡ suc room - suc (length (take room vs)) = omega arith in
-    ap (λ (l : List ℕ). v ∷ l) (fitting-both room vs ws ∙ ap (λ (k : ℕ). take room vs ++ take k ws) e)
+    ap (λ (l : List ℕ). v ∷ l) (fitting_both room vs ws ∙ ap (λ (k : ℕ). take room vs ++ take k ws) e)
 
-pub puts-join : {a b c : List ℕ} {at m n : ℕ} {vs ws : List ℕ} → Put a at vs m b → Put b m ws n c → Put a at (vs ++ ws) n c
-puts-join {a} {b} {at = at} {m} {vs = vs} {ws} v w =
+pub puts_join : {a b c : List ℕ} {at m n : ℕ} {vs ws : List ℕ} → Put a at vs m b → Put b m ws n c → Put a at (vs ++ ws) n c
+puts_join {a} {b} {at = at} {m} {vs = vs} {ws} v w =
     let first = take (length a - at) vs in
-    let left : length a - at - length first ≡ length b - m = omega (arith, v.fitting.next-is, put-length v) in
-    record { fitting = wrote-next v.fitting w.fitting (fitting-both (length a - at) vs ws ∙ ap (λ (k : ℕ). first ++ take k ws) left) }
+    let left : length a - at - length first ≡ length b - m = omega (arith, v.fitting.next_is, put_length v) in
+    record { fitting = wrote_next v.fitting w.fitting (fitting_both (length a - at) vs ws ∙ ap (λ (k : ℕ). first ++ take k ws) left) }
 
-pub put-none : (row : List ℕ) (at : ℕ) → Put row at [] at row
-put-none row at = record { fitting = rw take-nil (wrote_none row at) }
+pub put_none : (row : List ℕ) (at : ℕ) → Put row at [] at row
+put_none row at = record { fitting = rw take-nil (wrote_none row at) }
 
 pub put_one : (row : List ℕ) (at x : ℕ) → at < length row → Put row at (x ∷ []) (at + 1) (set row at x)
-put_one row at x h = record { fitting = rw (take_all (length row - at) (x ∷ []) (omega arith)) (record { next-is = refl; after_is = refl }) }
+put_one row at x h = record { fitting = rw (take_all (length row - at) (x ∷ []) (omega arith)) (record { next_is = refl; after_is = refl }) }
 
 -- a row that is full
 pub put_full : (row text : List ℕ) (at : ℕ) → length row ≤ at → Put row at text at row
@@ -45,11 +45,11 @@ put_full row text at h =
 -- the byte at i, behind those in front of it
 pub put_next : {a b : List ℕ} {at m : ℕ} (text : List ℕ) (i : ℕ) → i < length text → m < length b → Put a at (take i text) m b
     → Put a at (take (i + 1) text) (m + 1) (set b m (get_or text i 0))
-put_next {b = b} {m = m} text i h room v = rw (add-one i, take-suc text i 0) (puts-join v (put_one b m (get_or text i 0) room))
+put_next {b = b} {m = m} text i h room v = rw (add-one i, take-suc text i 0) (puts_join v (put_one b m (get_or text i 0) room))
 
 -- the rest of a text, into a full row
 pub put_rest : {a b : List ℕ} {at m : ℕ} (text : List ℕ) (i : ℕ) → length b ≤ m → Put a at (take i text) m b → Put a at text m b
-put_rest {b = b} {m = m} text i full v = rw take-append-drop at (puts-join v (put_full b (drop i text) m full))
+put_rest {b = b} {m = m} text i full v = rw take-append-drop at (puts_join v (put_full b (drop i text) m full))
 
 -- ---- a loop that puts a text part by part
 
@@ -62,25 +62,25 @@ all_left row at text = record { whole = λ w. w }
 
 module _ {before : List ℕ} {at : ℕ} {text : List ℕ} {next : ℕ} {now : List ℕ} where
   pub nothing_left : RestToPut before at text next now [] → Put before at text next now
-  nothing_left left = left.whole (put-none now next)
+  nothing_left left = left.whole (put_none now next)
 
-  pub left-next : (one rest : List ℕ) → RestToPut before at text next now (one ++ rest) → {next' : ℕ} {now' : List ℕ} → Put now next one next' now'
+  pub left_next : (one rest : List ℕ) → RestToPut before at text next now (one ++ rest) → {next' : ℕ} {now' : List ℕ} → Put now next one next' now'
       → RestToPut before at text next' now' rest
-  left-next one rest left w = record { whole = λ v. left.whole (puts-join w v) }
+  left_next one rest left w = record { whole = λ v. left.whole (puts_join w v) }
 
 -- ---- a text that fits
 
-pub put-fits : {a b : List ℕ} {at n : ℕ} {text : List ℕ} → Put a at text n b → at + length text ≤ length a → Wrote a at text n b
-put-fits {a} {at = at} {text = text} v h = rw (take_all (length a - at) text (omega arith)) at v.fitting
+pub put_fits : {a b : List ℕ} {at n : ℕ} {text : List ℕ} → Put a at text n b → at + length text ≤ length a → Wrote a at text n b
+put_fits {a} {at = at} {text = text} v h = rw (take_all (length a - at) text (omega arith)) at v.fitting
 
 -- put from the start on, the row begins with what fits, and so with a text that fits
 pub put_front : {a b : List ℕ} {n : ℕ} {text : List ℕ} → Put a 0 text n b → take n b ≡ take (length a) text
 put_front {a} {text = text} v =
-    wrote-taken v.fitting (omega (arith, length-take (length a - 0) text)) ∙ ap (λ (k : ℕ). take k text) (sub-zero (length a))
+    wrote_taken v.fitting (omega (arith, length-take (length a - 0) text)) ∙ ap (λ (k : ℕ). take k text) (sub-zero (length a))
 
-pub put-taken : {a b : List ℕ} {n : ℕ} {text : List ℕ} → Put a 0 text n b → length text ≤ length a → take n b ≡ text
-put-taken {a} {text = text} v h = put_front v ∙ take_all (length a) text h
+pub put_taken : {a b : List ℕ} {n : ℕ} {text : List ℕ} → Put a 0 text n b → length text ≤ length a → take n b ≡ text
+put_taken {a} {text = text} v h = put_front v ∙ take_all (length a) text h
 
 -- and `next` is never past the row, where `at` isn't
-pub put-inside : {a b : List ℕ} {at n : ℕ} {text : List ℕ} → Put a at text n b → at ≤ length a → n ≤ length b
-put-inside {a} {at = at} {text = text} v h = omega (arith, v.fitting.next-is, length-take (length a - at) text, put-length v)
+pub put_inside : {a b : List ℕ} {at n : ℕ} {text : List ℕ} → Put a at text n b → at ≤ length a → n ≤ length b
+put_inside {a} {at = at} {text = text} v h = omega (arith, v.fitting.next_is, length-take (length a - at) text, put_length v)

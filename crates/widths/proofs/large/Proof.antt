@@ -3,12 +3,12 @@ use native.Mathlib.Omega.{arith}
 use Rattle.tool.specs.Verbs.{largest64}
 use Rattle.tool.proofs.Laws.Held.{held_at}
 use borrow.Author.Rules.{rules}
-use Rattle.widths.proofs.Laws.Stored.{held-nowhere}
+use Rattle.widths.proofs.Laws.Stored.{held_nowhere}
 use Rattle.widths.proofs.large.Statement.{statement}
 use Rattle.widths.proofs.large.Tie as tie
 
 returns : tie.Need-returns
-returns c = held-nowhere largest64 _ _ c.if1.true
+returns c = held_nowhere largest64 _ _ c.if1.true
 
 returns-2 : tie.Need-returns-2
 returns-2 c =

@@ -3,12 +3,12 @@ use mathlib.Core.Path.{sym, ◌∙◌}
 use Rattle.tool.specs.Verbs.{largest32}
 use Rattle.tool.proofs.Laws.Held.{held_at}
 use borrow.Author.Rules.{rules}
-use Rattle.widths.proofs.Laws.Stored.{held-nowhere}
+use Rattle.widths.proofs.Laws.Stored.{held_nowhere}
 use Rattle.widths.proofs.small.Statement.{statement}
 use Rattle.widths.proofs.small.Tie as tie
 
 returns : tie.Need-returns
-returns c = held-nowhere largest32 _ _ c.if1.true
+returns c = held_nowhere largest32 _ _ c.if1.true
 
 returns-2 : tie.Need-returns-2
 returns-2 c =

@@ -3,45 +3,45 @@ use Prim.Native.Nat.{◌-◌, ◌≤◌}
 use native.Mathlib.Omega.{arith}
 use lib.ListN.{length, take}
 use Rattle.text.specs.Rows.{Put}
-use Rattle.text.proofs.Laws.Puts.{put-none, put_rest, put-length}
+use Rattle.text.proofs.Laws.Puts.{put_none, put_rest, put_length}
 use Rattle.tool.specs.Verbs.{largest32}
-use Rattle.tool.specs.Inner.Held.{heldTo}
+use Rattle.tool.specs.Inner.Held.{held_to}
 use borrow.Author.Rules.{rules}
-use Rattle.widths.proofs.Laws.Stored.{put-held, put-all-held}
+use Rattle.widths.proofs.Laws.Stored.{put_held, put_all_held}
 use Rattle.widths.proofs.words.Statement.{statement}
 use Rattle.widths.proofs.words.Tie as tie
 
 abbrev invariant-loop : tie.invariant-loop
-invariant-loop values row₀ at next₀ i₀ row next i = (i ≤ length values) × Put row₀ at (take i (heldTo largest32 values)) next row
+invariant-loop values row₀ at next₀ i₀ row next i = (i ≤ length values) × Put row₀ at (take i (held_to largest32 values)) next row
 
 abbrev decreases-loop : tie.decreases-loop
 decreases-loop values row₀ at next₀ i₀ row next i = length values - i
 
 loop-holds : tie.Need-loop-init invariant-loop decreases-loop
-loop-holds c = (omega arith, put-none _ _)
+loop-holds c = (omega arith, put_none _ _)
 
 same_length : tie.Need-same-length invariant-loop decreases-loop
-same_length c = put-length c.before.before.loop.invariant.1
+same_length c = put_length c.before.before.loop.invariant.1
 
 returns : tie.Need-returns invariant-loop decreases-loop
 returns c = put_rest _ c.before.before.loop.i c.if1.true c.before.before.loop.invariant.1
 
 mul-row : tie.Need-overflow-mul-row invariant-loop decreases-loop
-mul-row c = omega (arith, put-length c.before.before.before.before.loop.invariant.1)
+mul-row c = omega (arith, put_length c.before.before.before.before.loop.invariant.1)
 
 add-next : tie.Need-overflow-add-next invariant-loop decreases-loop
-add-next c = omega (arith, put-length c.before.before.before.before.loop.invariant.1)
+add-next c = omega (arith, put_length c.before.before.before.before.loop.invariant.1)
 
 loop-again : tie.Need-loop-preserved invariant-loop decreases-loop
 loop-again c =
     let test = c.before.before in
-    (omega arith, put-held largest32 _ _ test.before.loop-test.true test.if1.false c.held_word.ensures test.before.before.loop.invariant.1)
+    (omega arith, put_held largest32 _ _ test.before.loop-test.true test.if1.false c.held_word.ensures test.before.before.loop.invariant.1)
 
 same-length-2 : tie.Need-same-length-2 invariant-loop decreases-loop
-same-length-2 c = put-length c.before.loop.invariant.1
+same-length-2 c = put_length c.before.loop.invariant.1
 
 returns-2 : tie.Need-returns-2 invariant-loop decreases-loop
-returns-2 c = put-all-held largest32 _ _ c.loop-test.false c.before.loop.invariant.1
+returns-2 c = put_all_held largest32 _ _ c.loop-test.false c.before.loop.invariant.1
 
 pub words-spec : {M : Type 1} → statement M
 words-spec =

@@ -5,7 +5,7 @@ use Prim.Native.Nat.{◌-◌, ◌<◌}
 use native.Mathlib.Omega.{arith}
 use borrow.Author.Rules.{rules}
 use Rattle.fibonacci.specs.Inner.Weights.{IsWeight}
-use Rattle.fibonacci.proofs.Laws.Taking.{Taking, taking-starts, taking-room, taking-takes, taking-skips, taking-ends}
+use Rattle.fibonacci.proofs.Laws.Taking.{Taking, taking_starts, taking_room, taking_takes, taking_skips, taking_ends}
 use Rattle.zeckendorf.proofs.zeckendorf.Statement.{statement}
 use Rattle.zeckendorf.proofs.zeckendorf.Tie as tie
 
@@ -16,7 +16,7 @@ abbrev decreases-loop : tie.decreases-loop
 decreases-loop n places₀ count₀ rest₀ at₀ places count rest at = at.place
 
 loop-holds : tie.Need-loop-init invariant-loop decreases-loop
-loop-holds c = (c.high-enough.ensures.0, taking-starts _ _ (omega arith) c.high-enough.ensures.1.0 c.high-enough.ensures.1.1)
+loop-holds c = (c.high-enough.ensures.0, taking_starts _ _ (omega arith) c.high-enough.ensures.1.0 c.high-enough.ensures.1.1)
 
 cast-places : tie.Need-overflow-cast-places invariant-loop decreases-loop
 cast-places c = omega (arith, c.before.before.before.before.before.loop.invariant.1.place)
@@ -25,7 +25,7 @@ cast-places c = omega (arith, c.before.before.before.before.before.loop.invarian
 room : (c : tie.After-struct-known3 invariant-loop decreases-loop) → c.before.before.before.before.before.loop.count < 46
 room c =
     let was = c.before.before.before.before.before.loop.invariant in
-    taking-room was.1 c.before.before.before.if1.true was.0.weight_is c.before.if2.true
+    taking_room was.1 c.before.before.before.if1.true was.0.weight_is c.before.if2.true
 
 array-write-places : tie.Need-array-write-places invariant-loop decreases-loop
 array-write-places c = room c
@@ -47,13 +47,13 @@ loop-again c =
     let place : c.lower.result.place ≡ c.before.before.before.before.before.loop.at.place - 1 = omega (arith, c.lower.ensures.1) in (
       c.lower.ensures.0,
       ⊎_elim
-          (λ w. rw (w.3, w.4, w.5, place) (taking-takes was.1 more weight w.0.taken))
-          (λ w. rw (w.1, w.2, w.3, place) (taking-skips was.1 more weight w.0.left))
+          (λ w. rw (w.3, w.4, w.5, place) (taking_takes was.1 more weight w.0.taken))
+          (λ w. rw (w.1, w.2, w.3, place) (taking_skips was.1 more weight w.0.left))
           c.before.if2.branch,
     )
 
 returns : tie.Need-returns invariant-loop decreases-loop
-returns c = let t = taking-ends c.before.before.loop.invariant.1 c.if1.false in (t.count-is, t.row_is)
+returns c = let t = taking_ends c.before.before.loop.invariant.1 c.if1.false in (t.count_is, t.row_is)
 
 pub zeckendorf-spec : {M : Type 1} → statement M
 zeckendorf-spec =

@@ -3,8 +3,8 @@ use mathlib.Core.Path.{sym, ◌∙◌}
 use native.Mathlib.Omega.{arith}
 use borrow.Author.Rules.{rules}
 use lib.Seq.{length-take-le}
-use Rattle.refusal.proofs.Laws.Rows.{wrote-more, wrote-length}
-use Rattle.program.proofs.Laws.Writing.{drawn-size}
+use Rattle.refusal.proofs.Laws.Rows.{wrote_more, wrote_length}
+use Rattle.program.proofs.Laws.Writing.{drawn_size}
 use Rattle.building.proofs.drawing.draw.Statement.{statement}
 use Rattle.building.proofs.drawing.draw.Tie as tie
 
@@ -21,16 +21,16 @@ slice-aggregate-front-2 : tie.Need-slice-aggregate-front-2
 slice-aggregate-front-2 c = sym (length-take-le _ _ c.before.before.before.before.before.before.before.before.requires.0.beside)
 
 array-share-prefix-beside-last : tie.Need-array-share-prefix-beside-last
-array-share-prefix-beside-last c = c.before.before.before.before.before.before.before.before.requires.0.besideLast
+array-share-prefix-beside-last c = c.before.before.before.before.before.before.before.before.requires.0.beside_last
 
 slice-aggregate-front-3 : tie.Need-slice-aggregate-front-3
-slice-aggregate-front-3 c = sym (length-take-le _ _ c.before.before.before.before.before.before.before.before.before.requires.0.besideLast)
+slice-aggregate-front-3 c = sym (length-take-le _ _ c.before.before.before.before.before.before.before.before.before.requires.0.beside_last)
 
 front-requires : tie.Need-front-requires
 front-requires c κs =
     let w = c.before.before.before.before.before.before.before.before.before.requires.0 in (
       length-take-le _ _ w.first ∙ sym (length-take-le _ _ w.beside),
-      omega (arith, c.before.before.before.before.before.before.before.before.before.requires.1, drawn-size c.before.before.before.before.before.before.before.before.before.args.forms),
+      omega (arith, c.before.before.before.before.before.before.before.before.before.requires.1, drawn_size c.before.before.before.before.before.before.before.before.before.args.forms),
     )
 
 array-share-prefix-last : tie.Need-array-share-prefix-last
@@ -40,21 +40,21 @@ slice-aggregate-ascend-back : tie.Need-slice-aggregate-ascend-back
 slice-aggregate-ascend-back c = sym (length-take-le _ _ c.before.before.before.before.before.before.before.before.before.before.before.before.before.before.requires.0.last)
 
 array-share-prefix-beside-last-2 : tie.Need-array-share-prefix-beside-last-2
-array-share-prefix-beside-last-2 c = c.before.before.before.before.before.before.before.before.before.before.before.before.before.before.requires.0.besideLast
+array-share-prefix-beside-last-2 c = c.before.before.before.before.before.before.before.before.before.before.before.before.before.before.requires.0.beside_last
 
 slice-aggregate-ascend-back-2 : tie.Need-slice-aggregate-ascend-back-2
-slice-aggregate-ascend-back-2 c = sym (length-take-le _ _ c.before.before.before.before.before.before.before.before.before.before.before.before.before.before.before.requires.0.besideLast)
+slice-aggregate-ascend-back-2 c = sym (length-take-le _ _ c.before.before.before.before.before.before.before.before.before.before.before.before.before.before.before.requires.0.beside_last)
 
 ascend-back-requires : tie.Need-ascend-back-requires
 ascend-back-requires c κs =
     let w = c.before.before.before.before.before.before.before.before.before.before.before.before.before.before.before.requires.0 in
     let v = c.before.before.before.before.before.front.ensures in (
-      length-take-le _ _ w.last ∙ sym (length-take-le _ _ w.besideLast),
-      omega (arith, c.before.before.before.before.before.before.before.before.before.before.before.before.before.before.before.requires.1, drawn-size c.before.before.before.before.before.before.before.before.before.before.before.before.before.before.before.args.forms, v.next-is, wrote-length v),
+      length-take-le _ _ w.last ∙ sym (length-take-le _ _ w.beside_last),
+      omega (arith, c.before.before.before.before.before.before.before.before.before.before.before.before.before.before.before.requires.1, drawn_size c.before.before.before.before.before.before.before.before.before.before.before.before.before.before.before.args.forms, v.next_is, wrote_length v),
     )
 
 returns : tie.Need-returns
-returns c = wrote-more c.before.before.before.before.before.before.before.before.front.ensures c.before.before.ascend-back.ensures
+returns c = wrote_more c.before.before.before.before.before.before.before.before.front.ensures c.before.before.ascend-back.ensures
 
 pub draw-spec : {M : Type 1} → statement M
 draw-spec =

@@ -6,16 +6,16 @@ use borrow.Author.Rules.{rules}
 use lib.ListN.{length, drop}
 use lib.Seq.{drop-length}
 use Rattle.refusal.specs.Rows.{Wrote}
-use Rattle.refusal.proofs.Laws.Rows.{wrote_none, wrote-room, wrote-next, wrote-length}
+use Rattle.refusal.proofs.Laws.Rows.{wrote_none, wrote_room, wrote_next, wrote_length}
 use Rattle.machine.specs.Machine.{inverted}
 use Rattle.named.specs.Generators.{ascend}
-use Rattle.program.specs.Inner.Writing.{ascendBackWords}
-use Rattle.program.proofs.Laws.Writing.{ascend-back-next, ascend-back-total}
+use Rattle.program.specs.Inner.Writing.{ascend_back_words}
+use Rattle.program.proofs.Laws.Writing.{ascend_back_next, ascend_back_total}
 use Rattle.building.proofs.writer.ascend_back.Statement.{statement}
 use Rattle.building.proofs.writer.ascend_back.Tie as tie
 
 abbrev invariant-loop : tie.invariant-loop
-invariant-loop buffer₀ at firsts seconds next₀ i₀ buffer next i = (i ≤ length firsts) × Wrote buffer₀ at (ascendBackWords (drop i firsts) (drop i seconds)) next buffer
+invariant-loop buffer₀ at firsts seconds next₀ i₀ buffer next i = (i ≤ length firsts) × Wrote buffer₀ at (ascend_back_words (drop i firsts) (drop i seconds)) next buffer
 
 abbrev decreases-loop : tie.decreases-loop
 decreases-loop buffer₀ at firsts seconds next₀ i₀ buffer next i = i
@@ -31,21 +31,21 @@ place-back-requires c κs =
     let l = c.before.before.before.before in
     let a = l.before.before.before.before in
     let e = a.requires.0 in
-    wrote-room _ _ _ l.loop.invariant.1
-    (ascend-back-next a.args.firsts.now a.args.seconds.now e l.loop.i c.before.before.before.loop-test.true l.loop.invariant.0)
-    (ascend-back-total a.args.firsts.now a.args.seconds.now e (l.loop.i - 1)) a.requires.1
+    wrote_room _ _ _ l.loop.invariant.1
+    (ascend_back_next a.args.firsts.now a.args.seconds.now e l.loop.i c.before.before.before.loop-test.true l.loop.invariant.0)
+    (ascend_back_total a.args.firsts.now a.args.seconds.now e (l.loop.i - 1)) a.requires.1
 
 loop-again : tie.Need-loop-preserved invariant-loop decreases-loop
 loop-again c =
     let l = c.before.before.before.before.before.before.before in
     let a = l.before.before.before.before in (
       omega arith,
-      wrote-next l.loop.invariant.1 c.before.before.place-back.ensures
-          (ascend-back-next a.args.firsts.now a.args.seconds.now a.requires.0 l.loop.i c.before.before.before.before.before.before.loop-test.true l.loop.invariant.0),
+      wrote_next l.loop.invariant.1 c.before.before.place-back.ensures
+          (ascend_back_next a.args.firsts.now a.args.seconds.now a.requires.0 l.loop.i c.before.before.before.before.before.before.loop-test.true l.loop.invariant.0),
     )
 
 same_length : tie.Need-same-length invariant-loop decreases-loop
-same_length c = wrote-length c.before.loop.invariant.1
+same_length c = wrote_length c.before.loop.invariant.1
 
 returns : tie.Need-returns invariant-loop decreases-loop
 returns c =

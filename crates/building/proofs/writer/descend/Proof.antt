@@ -6,15 +6,15 @@ use borrow.Author.Rules.{rules}
 use lib.ListN.{length, drop}
 use lib.Seq.{drop-length}
 use Rattle.refusal.specs.Rows.{Wrote}
-use Rattle.refusal.proofs.Laws.Rows.{wrote_none, wrote-room, wrote-next, wrote-length}
+use Rattle.refusal.proofs.Laws.Rows.{wrote_none, wrote_room, wrote_next, wrote_length}
 use Rattle.named.specs.Generators.{descend}
-use Rattle.program.specs.Inner.Writing.{descendWords}
-use Rattle.program.proofs.Laws.Writing.{descend-next, descend-total}
+use Rattle.program.specs.Inner.Writing.{descend_words}
+use Rattle.program.proofs.Laws.Writing.{descend_next, descend_total}
 use Rattle.building.proofs.writer.descend.Statement.{statement}
 use Rattle.building.proofs.writer.descend.Tie as tie
 
 abbrev invariant-loop : tie.invariant-loop
-invariant-loop buffer₀ at bits next₀ i₀ buffer next i = (i ≤ length bits) × Wrote buffer₀ at (descendWords (drop i bits)) next buffer
+invariant-loop buffer₀ at bits next₀ i₀ buffer next i = (i ≤ length bits) × Wrote buffer₀ at (descend_words (drop i bits)) next buffer
 
 abbrev decreases-loop : tie.decreases-loop
 decreases-loop buffer₀ at bits next₀ i₀ buffer next i = i
@@ -27,20 +27,20 @@ place-down-requires : tie.Need-place-down-requires invariant-loop decreases-loop
 place-down-requires c κs =
     let l = c.before.before.before in
     let a = l.before.before.before in
-    wrote-room _ _ _ l.loop.invariant.1 (descend-next a.args.bits.now l.loop.i c.before.before.loop-test.true l.loop.invariant.0)
-    (descend-total a.args.bits.now (l.loop.i - 1)) a.requires
+    wrote_room _ _ _ l.loop.invariant.1 (descend_next a.args.bits.now l.loop.i c.before.before.loop-test.true l.loop.invariant.0)
+    (descend_total a.args.bits.now (l.loop.i - 1)) a.requires
 
 loop-again : tie.Need-loop-preserved invariant-loop decreases-loop
 loop-again c =
     let l = c.before.before.before.before.before.before in
     let a = l.before.before.before in (
       omega arith,
-      wrote-next l.loop.invariant.1 c.before.before.place_down.ensures
-          (descend-next a.args.bits.now l.loop.i c.before.before.before.before.before.loop-test.true l.loop.invariant.0),
+      wrote_next l.loop.invariant.1 c.before.before.place_down.ensures
+          (descend_next a.args.bits.now l.loop.i c.before.before.before.before.before.loop-test.true l.loop.invariant.0),
     )
 
 same_length : tie.Need-same-length invariant-loop decreases-loop
-same_length c = wrote-length c.before.loop.invariant.1
+same_length c = wrote_length c.before.loop.invariant.1
 
 returns : tie.Need-returns invariant-loop decreases-loop
 returns c =

@@ -1,35 +1,35 @@
 -- `writer::place_down` meets its contract: the words of the place, one after another.
 use native.Mathlib.Omega.{arith}
 use borrow.Author.Rules.{rules}
-use Rattle.tape.specs.Words.{stepWord}
-use Rattle.refusal.proofs.Laws.Rows.{wrote-more, wrote-length}
-use Rattle.program.proofs.Laws.Writing.{down-words, down-length}
+use Rattle.tape.specs.Words.{step_word}
+use Rattle.refusal.proofs.Laws.Rows.{wrote_more, wrote_length}
+use Rattle.program.proofs.Laws.Writing.{down_words_lem, down_length}
 use Rattle.building.proofs.writer.place_down.Statement.{statement}
 use Rattle.building.proofs.writer.place_down.Tie as tie
 
 put-if-requires : tie.Need-put-if-requires
-unfolding stepWord
-put-if-requires c κs = omega (arith, c.before.before.requires, down-length c.before.before.args.bit)
+unfolding step_word
+put-if-requires c κs = omega (arith, c.before.before.requires, down_length c.before.before.args.bit)
 
 put-requires : tie.Need-put-requires
-unfolding stepWord
+unfolding step_word
 put-requires c κs =
     let a = c.before.before.before.before.before.before in
     let w = c.before.before.before.put_if.ensures in
-    omega (arith, a.requires, down-length a.args.bit, w.next-is, wrote-length w)
+    omega (arith, a.requires, down_length a.args.bit, w.next_is, wrote_length w)
 
 put-requires-2 : tie.Need-put-requires-2
-unfolding stepWord
+unfolding step_word
 put-requires-2 c κs =
     let a = c.before.before.before.before.before.before.before.before.before.before in
     let w = c.before.before.before.before.before.before.before.put_if.ensures in
     let v = c.before.before.before.put.ensures in
-    omega (arith, a.requires, down-length a.args.bit, w.next-is, wrote-length w, v.next-is, wrote-length v)
+    omega (arith, a.requires, down_length a.args.bit, w.next_is, wrote_length w, v.next_is, wrote_length v)
 
 returns : tie.Need-returns
-unfolding stepWord
+unfolding step_word
 returns c =
-    rw (down-words _) (wrote-more c.before.before.before.before.before.before.before.before.before.before.put_if.ensures (wrote-more c.before.before.before.before.before.before.put.ensures c.before.before.put2.ensures))
+    rw (down_words_lem _) (wrote_more c.before.before.before.before.before.before.before.before.before.before.put_if.ensures (wrote_more c.before.before.before.before.before.before.put.ensures c.before.before.put2.ensures))
 
 pub place-down-spec : {M : Type 1} → statement M
 place-down-spec =

@@ -1,16 +1,16 @@
--- `payloads::multiplication_in` meets its contract: each return is a case of `actionIn` by the test of the two registers.
+-- `payloads::multiplication_in` meets its contract: each return is a case of `action_in` by the test of the two registers.
 use mathlib.Core.Path.{sym, ◌∙◌}
 use borrow.Author.Rules.{rules}
 use borrow.Author.Tests.{not-true, not-false}
-use Rattle.tape.proofs.Laws.Payloads.{action-distinct, action-bad}
+use Rattle.tape.proofs.Laws.Payloads.{action_distinct, action_bad}
 use Rattle.decoding.proofs.payloads.multiplication_in.Statement.{statement}
 use Rattle.decoding.proofs.payloads.multiplication_in.Tie as tie
 
 returns : tie.Need-returns
-returns c = sym (action-bad _ _ (sym c.before.are-distinct.ensures ∙ not-true _ c.if1.true))
+returns c = sym (action_bad _ _ (sym c.before.are-distinct.ensures ∙ not-true _ c.if1.true))
 
 returns-2 : tie.Need-returns-2
-returns-2 c = sym (action-distinct _ _ (sym c.before.are-distinct.ensures ∙ not-false _ c.if1.false))
+returns-2 c = sym (action_distinct _ _ (sym c.before.are-distinct.ensures ∙ not-false _ c.if1.false))
 
 pub multiplication-in-spec : {M : Type 1} → statement M
 multiplication-in-spec = tie.close (tie.spec (λ c κs. search rules) returns returns-2)

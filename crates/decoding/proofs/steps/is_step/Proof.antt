@@ -5,22 +5,22 @@ use Prim.Native.Nat.{◌-◌}
 use lib.Dec.{ltb}
 use borrow.Author.Rules.{rules}
 use borrow.Author.Tests.{ltb-true, ltb-false, eq-eqb, ne_eqb}
-use Rattle.refusal.proofs.Laws.Tests.{by-test}
+use Rattle.refusal.proofs.Laws.Tests.{by_test}
 use Rattle.tape.specs.Words.{kind_of, decoded}
-use Rattle.tape.specs.Layout.{sortOf}
-use Rattle.tape.proofs.Laws.Shapes.{Shape, step-shape, shape-sort}
+use Rattle.tape.specs.Layout.{sort_of}
+use Rattle.tape.proofs.Laws.Shapes.{Shape, step_shape, shape_sort}
 use Rattle.decoding.proofs.steps.is_step.Statement.{statement}
 use Rattle.decoding.proofs.steps.is_step.Tie as tie
 
 returns : tie.Need-returns
 returns c =
     let word = c.before.args.word in
-    sym (ne_eqb (sortOf (decoded word)) 5 (λ e. omega (arith, c.if1.true, (step-shape word e).pair)))
+    sym (ne_eqb (sort_of (decoded word)) 5 (λ e. omega (arith, c.if1.true, (step_shape word e).pair)))
 
 returns-2 : tie.Need-returns-2
 returns-2 c =
     let word = c.before.before.before.args.word in
-    sym (ne_eqb (sortOf (decoded word)) 5 (λ e. omega (arith, c.if2.true, (step-shape word e).first)))
+    sym (ne_eqb (sort_of (decoded word)) 5 (λ e. omega (arith, c.if2.true, (step_shape word e).first)))
 
 returns-3 : tie.Need-returns-3
 returns-3 c =
@@ -28,15 +28,15 @@ returns-3 c =
     let kinds = c.before.kinds-of.result in
     let are = c.before.kinds-of.ensures in
     let past = kind_of word - 5 in
-    by-test (ltb past kinds)
+    by_test (ltb past kinds)
     (λ t.
     let shape : Shape word = record {
       pair = c.before.before.if1.false;
       first = c.if2.false;
       taken = omega (arith, are, ltb-true past kinds t, c.if2.false);
     } in
-    t ∙ sym (eq-eqb (sortOf (decoded word)) 5 (shape-sort word shape)))
-    (λ t. t ∙ sym (ne_eqb (sortOf (decoded word)) 5 (λ e. omega (arith, are, ltb-false past kinds t, (step-shape word e).taken, c.if2.false))))
+    t ∙ sym (eq-eqb (sort_of (decoded word)) 5 (shape_sort word shape)))
+    (λ t. t ∙ sym (ne_eqb (sort_of (decoded word)) 5 (λ e. omega (arith, are, ltb-false past kinds t, (step_shape word e).taken, c.if2.false))))
 
 pub is-step-spec : {M : Type 1} → statement M
 is-step-spec = tie.close (tie.spec returns (λ c κs. search rules) returns-2 returns-3)

@@ -6,15 +6,15 @@ use native.Mathlib.Omega.{arith}
 use borrow.Author.Rules.{rules}
 use lib.ListN.{length, drop, length-set}
 use Rattle.text.specs.Rows.{Put}
-use Rattle.text.proofs.Laws.Puts.{RestToPut, all_left, nothing_left, left-next, put_one, put-length}
-use Rattle.encoding.specs.Encoding.{tapeOf}
-use Rattle.encoding.proofs.Laws.Tapes.{tape-next, tape-end}
+use Rattle.text.proofs.Laws.Puts.{RestToPut, all_left, nothing_left, left_next, put_one, put_length}
+use Rattle.encoding.specs.Encoding.{tape_of}
+use Rattle.encoding.proofs.Laws.Tapes.{tape_next, tape_end}
 use Rattle.encoding.proofs.words.words.Statement.{statement}
 use Rattle.encoding.proofs.words.words.Tie as tie
 
 abbrev invariant-loop : tie.invariant-loop
 invariant-loop bytes buffer₀ count i₀ buffer i =
-    (i ≤ length bytes / 4) × (length buffer ≡ length buffer₀) × RestToPut buffer₀ 0 (tapeOf bytes) i buffer (tapeOf (drop (4 * i) bytes))
+    (i ≤ length bytes / 4) × (length buffer ≡ length buffer₀) × RestToPut buffer₀ 0 (tape_of bytes) i buffer (tape_of (drop (4 * i) bytes))
 
 abbrev decreases-loop : tie.decreases-loop
 decreases-loop bytes buffer₀ count i₀ buffer i = length bytes / 4 - i
@@ -53,12 +53,12 @@ mul-buffer c = omega arith
 coming : (c : tie.After-word-from-bytes invariant-loop decreases-loop)
     → let l = c.before.before.before.before.before.before in
     let a = l.before.before.before.args in
-    RestToPut a.buffer.now 0 (tapeOf a.bytes.now) l.loop.i l.loop.buffer (c.word-from-bytes.result ∷ tapeOf (drop (4 * (l.loop.i + 1)) a.bytes.now))
+    RestToPut a.buffer.now 0 (tape_of a.bytes.now) l.loop.i l.loop.buffer (c.word-from-bytes.result ∷ tape_of (drop (4 * (l.loop.i + 1)) a.bytes.now))
 coming c =
     let l = c.before.before.before.before.before.before in
     let bytes = l.before.before.before.args.bytes.now in
     let next : 4 * l.loop.i + 4 ≡ 4 * (l.loop.i + 1) = omega arith in
-    rw (c.word-from-bytes.ensures, ← next, ← tape-next bytes (4 * l.loop.i) (omega arith)) l.loop.invariant.2
+    rw (c.word-from-bytes.ensures, ← next, ← tape_next bytes (4 * l.loop.i) (omega arith)) l.loop.invariant.2
 
 -- there is room for it
 room : (c : tie.After-word-from-bytes invariant-loop decreases-loop) → let l = c.before.before.before.before.before.before in l.loop.i < length l.loop.buffer
@@ -80,17 +80,17 @@ loop-again c =
     let l = c.before.before.before.before.before.before in (
       omega arith,
       simp length-set l.loop.invariant.1,
-      left-next (c.word-from-bytes.result ∷ []) _ (coming c) (put_one _ _ _ (room c)),
+      left_next (c.word-from-bytes.result ∷ []) _ (coming c) (put_one _ _ _ (room c)),
     )
 
 done : (c : tie.After-loop invariant-loop decreases-loop) → let a = c.before.before.before.before.args in
-    Put a.buffer.now 0 (tapeOf a.bytes.now) c.before.loop.i c.before.loop.buffer
+    Put a.buffer.now 0 (tape_of a.bytes.now) c.before.loop.i c.before.loop.buffer
 done c =
     let bytes = c.before.before.before.before.args.bytes.now in
-    nothing_left (rw (tape-end bytes (4 * c.before.loop.i) (omega arith)) at c.before.loop.invariant.2)
+    nothing_left (rw (tape_end bytes (4 * c.before.loop.i) (omega arith)) at c.before.loop.invariant.2)
 
 same_length : tie.Need-same-length invariant-loop decreases-loop
-same_length c = put-length (done c)
+same_length c = put_length (done c)
 
 returns : tie.Need-returns invariant-loop decreases-loop
 returns c = done c

@@ -3,7 +3,7 @@ use mathlib.Core.Path.{◌≡◌, sym}
 use mathlib.Core.Bool.{true, false, true≢false}
 use mir.Syntax.{w64}
 use mir.Val.{to_z, of_z}
-use Rattle.machine.proofs.Laws.Ranges.{half-range}
+use Rattle.machine.proofs.Laws.Ranges.{half_range}
 use Rattle.machine.proofs.Laws.Sums.{from_bits}
 use Rattle.exponent_steps.proofs.whole.are_near.Statement.{statement}
 use Rattle.exponent_steps.proofs.whole.are_near.Tie as tie
@@ -25,7 +25,7 @@ returns-5 c near =
     let second = third.before in
     let first = second.before in
     let s = first.before in
-    half-range s.args.x s.args.y (rw (X s) at first.if1.false) (rw (X s) at second.if2.false) (rw (Y s) at third.if3.false) (rw (Y s) at c.if4.false)
+    half_range s.args.x s.args.y (rw (X s) at first.if1.false) (rw (X s) at second.if2.false) (rw (Y s) at third.if3.false) (rw (Y s) at c.if4.false)
 
 pub are-near-spec : {M : Type 1} → statement M
 are-near-spec = tie.close (tie.spec (λ c. far) (λ c. far) (λ c. far) (λ c. far) returns-5)

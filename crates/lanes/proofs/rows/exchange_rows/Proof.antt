@@ -4,8 +4,8 @@ use Prim.Native.Nat.{◌-◌, ◌≤◌, ◌<◌}
 use native.Mathlib.Omega.{arith}
 use borrow.Author.Rules.{rules}
 use lib.ListN.{length-set}
-use Rattle.lanes.specs.Inner.Lanes.{maxLanes, Exchanged}
-use Rattle.lanes.proofs.Laws.Rows.{changed-none, changed-next}
+use Rattle.lanes.specs.Inner.Lanes.{max_lanes, Exchanged}
+use Rattle.lanes.proofs.Laws.Rows.{changed_none, changed_next}
 use Rattle.lanes.proofs.rows.exchange_rows.Statement.{statement}
 use Rattle.lanes.proofs.rows.exchange_rows.Tie as tie
 
@@ -16,7 +16,7 @@ abbrev decreases-loop : tie.decreases-loop
 decreases-loop rows₀ t s count j₀ rows j = count - j
 
 loop-holds : tie.Need-loop-init invariant-loop decreases-loop
-loop-holds c = (omega arith, changed-none _ _ _ _ _)
+loop-holds c = (omega arith, changed_none _ _ _ _ _)
 
 mul_at : tie.Need-overflow-mul-at invariant-loop decreases-loop
 mul_at c = omega arith
@@ -35,9 +35,9 @@ loop-again c =
     let at = c.before.before.before in
     let done = at.loop.invariant.1 in
     let given = at.before in
-    let inside : at.loop.j < maxLanes = omega (arith, given.requires.0.few) in (
+    let inside : at.loop.j < max_lanes = omega (arith, given.requires.0.few) in (
       omega arith,
-      changed-next _ _ _ _ _ _ _ _ _ inside given.requires.0.eight given.requires.1 given.requires.2 done
+      changed_next _ _ _ _ _ _ _ _ _ inside given.requires.0.eight given.requires.1 given.requires.2 done
           (done.ahead _ _ (omega arith) inside) (done.ahead _ _ (omega arith) inside),
     )
 

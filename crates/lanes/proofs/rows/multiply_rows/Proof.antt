@@ -4,9 +4,9 @@ use Prim.Native.Nat.{ℕ, ◌-◌, ◌≤◌, ◌<◌}
 use native.Mathlib.Omega.{arith}
 use borrow.Author.Rules.{rules}
 use lib.ListN.{length-set}
-use Rattle.montgomery.specs.Inner.Forms.{formTimes}
-use Rattle.lanes.specs.Inner.Lanes.{maxLanes, entry, Multiplied}
-use Rattle.lanes.proofs.Laws.Rows.{changed-none, changed-next}
+use Rattle.montgomery.specs.Inner.Forms.{form_times}
+use Rattle.lanes.specs.Inner.Lanes.{max_lanes, entry, Multiplied}
+use Rattle.lanes.proofs.Laws.Rows.{changed_none, changed_next}
 use Rattle.lanes.proofs.rows.multiply_rows.Statement.{statement}
 use Rattle.lanes.proofs.rows.multiply_rows.Tie as tie
 
@@ -17,7 +17,7 @@ abbrev decreases-loop : tie.decreases-loop
 decreases-loop rows₀ t a b count m j₀ rows j = count - j
 
 loop-holds : tie.Need-loop-init invariant-loop decreases-loop
-loop-holds c = (omega arith, changed-none _ _ _ _ _)
+loop-holds c = (omega arith, changed_none _ _ _ _ _)
 
 mul_at : tie.Need-overflow-mul-at invariant-loop decreases-loop
 mul_at c = omega arith
@@ -69,12 +69,12 @@ loop-again c =
     let at = c.before.before.before.before.before.before.before in
     let done = at.loop.invariant.1 in
     let given = at.before.before in
-    let inside : at.loop.j < maxLanes = omega (arith, given.requires.0.few) in
+    let inside : at.loop.j < max_lanes = omega (arith, given.requires.0.few) in
     let same : (i : ℕ) → entry at.loop.rows i at.loop.j ≡ entry given.args.rows.now i at.loop.j = λ i. done.ahead i at.loop.j (omega arith) inside in (
       omega arith,
-      changed-next _ _ _ _ _ _ _ _ _ inside given.requires.0.eight (omega (arith, given.requires.1)) (omega (arith, given.requires.1)) done
-          (c.before.before.before.multiply.ensures ∙ ap₂ (formTimes given.args.m) (same _) (same _))
-          (c.multiply2.ensures ∙ ap₂ (formTimes given.args.m) (same _) (same _)),
+      changed_next _ _ _ _ _ _ _ _ _ inside given.requires.0.eight (omega (arith, given.requires.1)) (omega (arith, given.requires.1)) done
+          (c.before.before.before.multiply.ensures ∙ ap₂ (form_times given.args.m) (same _) (same _))
+          (c.multiply2.ensures ∙ ap₂ (form_times given.args.m) (same _) (same _)),
     )
 
 same_length : tie.Need-same-length invariant-loop decreases-loop

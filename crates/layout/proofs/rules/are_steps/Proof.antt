@@ -4,13 +4,13 @@ use Prim.Native.Nat.{◌-◌}
 use borrow.Author.Rules.{rules}
 use borrow.Author.Tests.{not-true, not-false}
 use lib.ListN.{length, drop}
-use Rattle.tape.specs.Layout.{allSteps}
-use Rattle.tape.proofs.Laws.Rows.{steps-stop, steps_on, steps-end}
+use Rattle.tape.specs.Layout.{all_steps}
+use Rattle.tape.proofs.Laws.Rows.{steps_stop, steps_on, steps_end}
 use Rattle.layout.proofs.rules.are_steps.Statement.{statement}
 use Rattle.layout.proofs.rules.are_steps.Tie as tie
 
 abbrev invariant-loop : tie.invariant-loop
-invariant-loop words i₀ i = allSteps (drop i words) ≡ allSteps words
+invariant-loop words i₀ i = all_steps (drop i words) ≡ all_steps words
 
 abbrev decreases-loop : tie.decreases-loop
 decreases-loop words i₀ i = length words - i
@@ -21,7 +21,7 @@ loop-holds c = refl
 returns : tie.Need-returns invariant-loop decreases-loop
 returns c =
     let in-loop = c.before.before.before in
-    sym (sym in-loop.before.loop.invariant ∙ steps-stop _ _ in-loop.loop-test.true (sym c.before.is-step.ensures ∙ not-true _ c.if1.true))
+    sym (sym in-loop.before.loop.invariant ∙ steps_stop _ _ in-loop.loop-test.true (sym c.before.is-step.ensures ∙ not-true _ c.if1.true))
 
 loop-again : tie.Need-loop-preserved invariant-loop decreases-loop
 loop-again c =
@@ -29,7 +29,7 @@ loop-again c =
     sym (steps_on _ _ in-loop.loop-test.true (sym c.before.is-step.ensures ∙ not-false _ c.if1.false)) ∙ in-loop.before.loop.invariant
 
 returns-2 : tie.Need-returns-2 invariant-loop decreases-loop
-returns-2 c = sym (sym c.before.loop.invariant ∙ steps-end _ _ c.loop-test.false)
+returns-2 c = sym (sym c.before.loop.invariant ∙ steps_end _ _ c.loop-test.false)
 
 pub are-steps-spec : {M : Type 1} → statement M
 are-steps-spec =

@@ -1,14 +1,14 @@
 -- `rules::means_at` meets its contract: past the tape the definition reads 0, which means nothing.
 use mathlib.Core.Path.{sym}
 use borrow.Author.Rules.{rules}
-use Rattle.tape.proofs.Laws.Rows.{means-past}
+use Rattle.tape.proofs.Laws.Rows.{means_past}
 use Rattle.layout.proofs.rules.means_at.Statement.{statement}
 use Rattle.layout.proofs.rules.means_at.Tie as tie
 
 returns : tie.Need-returns
 returns c =
     let args = c.before.before.args in
-    sym (means-past args.tape.now args.i c.if1.true)
+    sym (means_past args.tape.now args.i c.if1.true)
 
 pub means-at-spec : {M : Type 1} → statement M
 means-at-spec =

@@ -5,33 +5,33 @@ use native.Mathlib.Omega.{arith}
 use borrow.Author.Rules.{rules}
 use lib.ListN.{length, drop, drop_of_length-le}
 use Rattle.text.specs.declared.Parsed.{Parsed}
-use Rattle.text.specs.Reading.{numberFrom, inBase}
-use Rattle.text.proofs.Laws.Digits.{behind, number-end, number-drop, number-most, base-some, base-none}
+use Rattle.text.specs.Reading.{number_from, in_base}
+use Rattle.text.proofs.Laws.Digits.{behind, number_end, number_drop, number_most, base_some, base_none}
 use Rattle.parsing.proofs.numbers.in_base.Statement.{statement}
 use Rattle.parsing.proofs.numbers.in_base.Tie as tie
 
 abbrev invariant-loop : tie.invariant-loop
-invariant-loop text most base n₀ i₀ n i = (i ≤ length text) × (n ≤ most) × (inBase base most text ≡ numberFrom base most n (drop i text))
+invariant-loop text most base n₀ i₀ n i = (i ≤ length text) × (n ≤ most) × (in_base base most text ≡ number_from base most n (drop i text))
 
 abbrev decreases-loop : tie.decreases-loop
 decreases-loop text most base n₀ i₀ n i = length text - i
 
 returns : tie.Need-returns invariant-loop decreases-loop
-returns c = sym (base-none _ _ _ c.if1.true)
+returns c = sym (base_none _ _ _ c.if1.true)
 
 loop-holds : tie.Need-loop-init invariant-loop decreases-loop
-loop-holds c = (omega arith, omega arith, base-some _ _ _ (omega arith))
+loop-holds c = (omega arith, omega arith, base_some _ _ _ (omega arith))
 
 -- the digit at i: what reading it gave decides what the text comes to
 step : (c : tie.After-with-digit invariant-loop decreases-loop)
     → let l = c.before.before.before in
     let a = l.before.before.before.args in
-    inBase a.base a.most a.text.now ≡ behind a.base a.most c.with-digit.result (drop (l.loop.i + 1) a.text.now)
+    in_base a.base a.most a.text.now ≡ behind a.base a.most c.with-digit.result (drop (l.loop.i + 1) a.text.now)
 step c =
     let l = c.before.before.before in
     let a = l.before.before.before.args in
     l.loop.invariant.2
-    ∙ number-drop a.base a.most l.before.before.before.requires.0 l.loop.n a.text.now l.loop.i (omega arith)
+    ∙ number_drop a.base a.most l.before.before.before.requires.0 l.loop.n a.text.now l.loop.i (omega arith)
     ∙ ap (λ (p : Parsed). behind a.base a.most p (drop (l.loop.i + 1) a.text.now)) (sym c.with-digit.ensures)
 
 returns-2 : tie.Need-returns-2 invariant-loop decreases-loop
@@ -41,13 +41,13 @@ loop-again : tie.Need-loop-preserved invariant-loop decreases-loop
 loop-again c =
     let digit = c.before.before.before in
     let read = c.before.read.given.1 in
-    (omega arith, number-most _ _ _ _ _ (sym digit.with-digit.ensures ∙ read), rw read at (step digit))
+    (omega arith, number_most _ _ _ _ _ (sym digit.with-digit.ensures ∙ read), rw read at (step digit))
 
 returns-3 : tie.Need-returns-3 invariant-loop decreases-loop
 returns-3 c =
     let l = c.before in
     let text = l.before.before.before.args.text.now in
-    sym (rw (drop_of_length-le text {i = l.loop.i} (omega arith)) at l.loop.invariant.2 ∙ number-end _ _ _ l.loop.invariant.1)
+    sym (rw (drop_of_length-le text {i = l.loop.i} (omega arith)) at l.loop.invariant.2 ∙ number_end _ _ _ l.loop.invariant.1)
 
 pub in-base-spec : {M : Type 1} → statement M
 in-base-spec =

@@ -4,7 +4,7 @@ use Prim.Native.Nat.{◌+◌, ◌-◌}
 use native.Mathlib.Omega.{arith}
 use borrow.Author.Rules.{rules}
 use lib.ListN.{length}
-use Rattle.text.proofs.Laws.Words.{left, left-none, left-zero, left-more}
+use Rattle.text.proofs.Laws.Words.{left, left_none, left_zero, left_more}
 use Rattle.parsing.proofs.words.word_end.Statement.{statement}
 use Rattle.parsing.proofs.words.word_end.Tie as tie
 
@@ -20,17 +20,17 @@ loop-holds c = refl
 returns : tie.Need-returns invariant-loop decreases-loop
 returns c =
     let l = c.before.before.before in
-    omega (arith, l.loop.invariant, left-zero l.before.args.arguments.now l.loop.i (search rules) c.if1.true)
+    omega (arith, l.loop.invariant, left_zero l.before.args.arguments.now l.loop.i (search rules) c.if1.true)
 
 loop-again : tie.Need-loop-preserved invariant-loop decreases-loop
 loop-again c =
     let l = c.before.before.before in
-    omega (arith, l.loop.invariant, left-more l.before.args.arguments.now l.loop.i (search rules) c.if1.false)
+    omega (arith, l.loop.invariant, left_more l.before.args.arguments.now l.loop.i (search rules) c.if1.false)
 
 returns-2 : tie.Need-returns-2 invariant-loop decreases-loop
 returns-2 c =
     let l = c.before in
-    omega (arith, l.loop.invariant, left-none l.before.args.arguments.now l.loop.i (search rules))
+    omega (arith, l.loop.invariant, left_none l.before.args.arguments.now l.loop.i (search rules))
 
 pub word-end-spec : {M : Type 1} → statement M
 word-end-spec =

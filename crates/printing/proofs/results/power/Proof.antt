@@ -2,11 +2,11 @@
 use mathlib.Core.Path.{refl}
 use native.Mathlib.Omega.{arith}
 use lib.ListN.{length-append}
-use Rattle.text.specs.Text.{numberLine}
-use Rattle.text.proofs.Laws.Puts.{puts-join}
+use Rattle.text.specs.Text.{number_line}
+use Rattle.text.proofs.Laws.Puts.{puts_join}
 use Rattle.machine.specs.Machine.{reg}
-use Rattle.sequencer.specs.Records.{recordOf}
-use Rattle.tool.specs.Texts.{recordLine}
+use Rattle.sequencer.specs.Records.{record_of}
+use Rattle.tool.specs.Texts.{record_line}
 use borrow.Author.Rules.{rules}
 use Rattle.printing.proofs.results.power.Statement.{statement}
 use Rattle.printing.proofs.results.power.Tie as tie
@@ -15,11 +15,11 @@ returns : tie.Need-returns
 returns c =
     let rest = c.before.before in
     let first = rest.before.before.before.before in
-    let s = recordOf first.before.before.before.before.before.args.state in
+    let s = record_of first.before.before.before.before.before.args.state in
     record {
       status = refl;
-      text = puts-join first.number-line.ensures.0 rest.put_record.ensures.0;
-      short = omega (arith, first.number-line.ensures.1, rest.put_record.ensures.1, length-append (numberLine (reg s.registers 1)) (recordLine s));
+      text = puts_join first.number-line.ensures.0 rest.put_record.ensures.0;
+      short = omega (arith, first.number-line.ensures.1, rest.put_record.ensures.1, length-append (number_line (reg s.registers 1)) (record_line s));
     }
 
 pub power-spec : {M : Type 1} → statement M

@@ -2,9 +2,9 @@
 use mathlib.Core.Path.{refl}
 use native.Mathlib.Omega.{arith}
 use lib.ListN.{length-append}
-use Rattle.text.specs.Text.{numbersLine}
-use Rattle.text.proofs.Laws.Puts.{puts-join}
-use Rattle.sequencer.specs.Previews.{shownOf}
+use Rattle.text.specs.Text.{numbers_line}
+use Rattle.text.proofs.Laws.Puts.{puts_join}
+use Rattle.sequencer.specs.Previews.{shown_of}
 use borrow.Author.Rules.{rules}
 use Rattle.printing.proofs.results.preview.Statement.{statement}
 use Rattle.printing.proofs.results.preview.Tie as tie
@@ -13,11 +13,11 @@ returns : tie.Need-returns
 returns c =
     let second = c.before.before in
     let first = second.before.before.before.before.before in
-    let w = shownOf first.before.before.before.before.before.before.args.shown in
+    let w = shown_of first.before.before.before.before.before.before.args.shown in
     record {
       status = refl;
-      text = puts-join first.numbers-line.ensures.0 second.numbers-line2.ensures.0;
-      short = omega (arith, first.numbers-line.ensures.1, second.numbers-line2.ensures.1, length-append (numbersLine w.registers) (numbersLine w.counts));
+      text = puts_join first.numbers_line_lem.ensures.0 second.numbers-line2.ensures.0;
+      short = omega (arith, first.numbers_line_lem.ensures.1, second.numbers-line2.ensures.1, length-append (numbers_line w.registers) (numbers_line w.counts));
     }
 
 pub preview-spec : {M : Type 1} → statement M

@@ -1,5 +1,5 @@
 -- `results::put_row` meets its contract: a line of four words, each of at most 21 bytes; a field's number comes back from its bits.
-use Rattle.tool.proofs.Laws.Parts.{four-put, four-short}
+use Rattle.tool.proofs.Laws.Parts.{four_put, four_short}
 use Rattle.machine.proofs.Laws.Sums.{from_bits}
 use borrow.Author.Rules.{rules}
 use Rattle.printing.proofs.results.put_row.Statement.{statement}
@@ -17,8 +17,8 @@ returns c =
     let d-put = rw (from_bits x.d told.1.0.1) at second.put-exponent2.ensures in
     let e-put = rw (from_bits x.e told.1.1.0.1) at third.put-exponent3.ensures in
     let f-put = rw (from_bits x.f told.1.1.1.0.1) at fourth.put-exponent4.ensures in (
-      four-put x.c x.d x.e x.f c-put.0 d-put.0 e-put.0 f-put.0,
-      four-short x.c x.d x.e x.f c-put.1 d-put.1 e-put.1 f-put.1,
+      four_put x.c x.d x.e x.f c-put.0 d-put.0 e-put.0 f-put.0,
+      four_short x.c x.d x.e x.f c-put.1 d-put.1 e-put.1 f-put.1,
     )
 
 pub put-row-spec : {M : Type 1} → statement M

@@ -1,9 +1,9 @@
 -- `results::rows` meets its contract: a line for each row, one after another, each short.
 use mathlib.Core.Path.{refl}
-use Rattle.machine.specs.Exponents.{exponentsOf}
-use Rattle.text.proofs.Laws.Puts.{puts-join}
-use Rattle.tool.specs.Texts.{exponentsLine}
-use Rattle.tool.proofs.Laws.Parts.{lines-short}
+use Rattle.machine.specs.Exponents.{exponents_of}
+use Rattle.text.proofs.Laws.Puts.{puts_join}
+use Rattle.tool.specs.Texts.{exponents_line}
+use Rattle.tool.proofs.Laws.Parts.{lines_short}
 use borrow.Author.Rules.{rules}
 use Rattle.printing.proofs.results.rows.Statement.{statement}
 use Rattle.printing.proofs.results.rows.Tie as tie
@@ -15,18 +15,18 @@ returns c =
     let second = third.before.before.before.before in
     let first = second.before.before.before.before in
     let x = first.before.before.before.args.table in
-    let c-line = exponentsLine (exponentsOf x.c) in
-    let d-line = exponentsLine (exponentsOf x.d) in
-    let e-line = exponentsLine (exponentsOf x.e) in
-    let f-line = exponentsLine (exponentsOf x.f) in
+    let c-line = exponents_line (exponents_of x.c) in
+    let d-line = exponents_line (exponents_of x.d) in
+    let e-line = exponents_line (exponents_of x.e) in
+    let f-line = exponents_line (exponents_of x.f) in
     let c-put = first.put-row.ensures in
     let d-put = second.put-row2.ensures in
     let e-put = third.put-row3.ensures in
     let f-put = fourth.put-row4.ensures in
     record {
       status = refl;
-      text = puts-join (puts-join (puts-join c-put.0 d-put.0) e-put.0) f-put.0;
-      short = lines-short c-line d-line e-line f-line c-put.1 d-put.1 e-put.1 f-put.1;
+      text = puts_join (puts_join (puts_join c-put.0 d-put.0) e-put.0) f-put.0;
+      short = lines_short c-line d-line e-line f-line c-put.1 d-put.1 e-put.1 f-put.1;
     }
 
 pub rows-spec : {M : Type 1} → statement M

@@ -6,20 +6,20 @@ use native.Mathlib.Omega.{arith}
 use lib.ListN.{length, drop, length-take, length-drop, length-replicate}
 use lib.Seq.{length-take-le}
 use borrow.Author.Rules.{rules}
-use Rattle.text.proofs.Laws.Puts.{put-inside}
+use Rattle.text.proofs.Laws.Puts.{put_inside}
 use Rattle.scripting.specs.declared.Printed.{Printed}
-use Rattle.scripting.specs.Script.{Done, maxLine, maxPrinted}
+use Rattle.scripting.specs.Script.{Done, max_line, max_printed}
 use Rattle.scripting.specs.States.{Did}
-use Rattle.scripting.proofs.Laws.Judging.{did-judged}
+use Rattle.scripting.proofs.Laws.Judging.{did_judged}
 use Rattle.script.proofs.whole_line.judge.Statement.{statement}
 use Rattle.script.proofs.whole_line.judge.Tie as tie
 
 -- what a command printed is in its row
 inside : {done : Done} {before row after : List ℕ} {r : Printed} → Did done before r row after → r.length ≤ length after
-inside did = put-inside did.printed (omega arith)
+inside did = put_inside did.printed (omega arith)
 
 -- a part of a line is no longer than the line may be
-short : (line : List ℕ) (n : ℕ) → length line ≤ maxLine → length (drop n line) ≤ maxLine
+short : (line : List ℕ) (n : ℕ) → length line ≤ max_line → length (drop n line) ≤ max_line
 short line n h = omega (arith, length-drop n line)
 
 slice-aggregate-command : tie.Need-slice-aggregate-command
@@ -40,7 +40,7 @@ returns : tie.Need-returns
 returns c =
     let s = c.before.before.before.before.before.before.before.before.before.before.before.before.before.before.before.before in
     let past = s.args.at + 3 in
-    did-judged _ (drop past s.args.line.now) c.before.before.before.before.before.before.before.before.before.command.ensures (length-replicate {A = ℕ} maxPrinted 0) (short s.args.line.now past s.requires.1.1) refl c.before.before.put-judged.ensures
+    did_judged _ (drop past s.args.line.now) c.before.before.before.before.before.before.before.before.before.command.ensures (length-replicate {A = ℕ} max_printed 0) (short s.args.line.now past s.requires.1.1) refl c.before.before.put-judged.ensures
 
 pub judge-spec : {M : Type 1} → statement M
 judge-spec =

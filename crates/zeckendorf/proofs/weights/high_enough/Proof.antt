@@ -3,7 +3,7 @@
 use native.Mathlib.Omega.{arith}
 use borrow.Author.Rules.{rules}
 use lib.Count.{leading_le}
-use Rattle.fibonacci.proofs.Laws.Weights.{place-for, weighs-at}
+use Rattle.fibonacci.proofs.Laws.Weights.{place_for_lem, weighs_at}
 use Rattle.zeckendorf.proofs.weights.high_enough.Statement.{statement}
 use Rattle.zeckendorf.proofs.weights.high_enough.Tie as tie
 
@@ -12,7 +12,7 @@ sub-place c = leading_le 64 _
 
 returns : tie.Need-returns
 returns c =
-    (weighs-at (omega arith) c.before.fibonacci-or-zero.ensures c.fibonacci-or-zero2.ensures, (omega arith, place-for _ (omega arith)))
+    (weighs_at (omega arith) c.before.fibonacci-or-zero.ensures c.fibonacci-or-zero2.ensures, (omega arith, place_for_lem _ (omega arith)))
 
 pub high-enough-spec : {M : Type 1} → statement M
 high-enough-spec =
