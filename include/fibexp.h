@@ -3,10 +3,10 @@
  * target/staticlib/libcapi.a, which `rt staticlib capi` writes; the archive is for x86-64 Linux, and the C library is
  * all that it needs.
  *
- * Each service but fibexp_hofstadter, fibexp_height and fibexp_is_solution, which refuse nothing, answers the number of
- * the first refusal that applies, or FIBEXP_OK. It writes through its pointers on FIBEXP_OK only; fibexp_listing alone
- * writes the line of a refused tape too. Refusals are listed in the order in which they are tested. fibexp_reply and
- * fibexp_reads are the command-line tool over these services.
+ * Each service but fibexp_hofstadter and fibexp_height, which refuse nothing, answers the number of the first refusal
+ * that applies, or FIBEXP_OK. It writes through its pointers on FIBEXP_OK only; fibexp_listing alone writes the line of
+ * a refused tape too. Refusals are listed in the order in which they are tested. fibexp_reply and fibexp_reads are the
+ * command-line tool over these services.
  *
  * The caller keeps to what a C declaration cannot say. No pointer is null, not even that of a row of 0 elements, and
  * each is aligned for what it points to. A row is a pointer and a count of elements, and has that many. What a function
@@ -23,16 +23,15 @@ extern "C" {
 #endif
 
 /* The version, as the verb `version` of the tool prints it. */
-#define FIBEXP_VERSION "3.1.0"
+#define FIBEXP_VERSION "3.0.0"
 
 /* The refusals. */
 enum fibexp_refusal {
     FIBEXP_OK = 0,
     FIBEXP_MODULUS = 1,   /* p isn't a prime from 3 to 268435455 */
-    FIBEXP_ORDER = 2,     /* r is below 2, or (except in fibexp_inverse and fibexp_solution) doesn't divide p - 1; in
-                             fibexp_solution also above FIBEXP_LAST_ORDER */
+    FIBEXP_ORDER = 2,     /* r is below 2, or (except in fibexp_inverse) doesn't divide p - 1 */
     FIBEXP_EXPONENT = 3,  /* k isn't from 1 to r - 1, or shares a factor above 1 with r */
-    FIBEXP_VARIANT = 4,   /* build: not 1 to 4; check: above 4; raise: also a tape made by hand */
+    FIBEXP_VARIANT = 4,   /* build: not 1 to 3; check: above 3; raise: also a tape made by hand */
     FIBEXP_ROOM = 5,      /* the row is shorter than the result */
     FIBEXP_LENGTH = 6,    /* a tape outside 5 to 512 words */
     FIBEXP_WORD = 7,      /* a word, its place or the end's count breaks the layout */
@@ -43,8 +42,7 @@ enum fibexp_refusal {
                              power is */
     FIBEXP_RANGE = 12,    /* an exponent outside -2^62 to 2^62, or a sum of places above 64 bits */
     FIBEXP_INDEX = 13,    /* an index above 93, or a list that isn't a Zeckendorf form of places 1 to 92 */
-    FIBEXP_COUNT = 14,    /* a row of more than 64 bases */
-    FIBEXP_RESIDUE = 15   /* s or t isn't below r */
+    FIBEXP_COUNT = 14     /* a row of more than 64 bases */
 };
 
 /* The variants of named programs; FIBEXP_FREE is that of a tape made by hand, which fibexp_build doesn't write. */
@@ -52,8 +50,7 @@ enum fibexp_variant {
     FIBEXP_FREE = 0,
     FIBEXP_BASIC = 1,
     FIBEXP_DUAL = 2,
-    FIBEXP_HYBRID = 3,
-    FIBEXP_MODULAR = 4
+    FIBEXP_HYBRID = 3
 };
 
 /* Sizes that are always enough; of bases, the most that fibexp_raise takes. */
@@ -62,7 +59,7 @@ enum fibexp_most {
     FIBEXP_MOST_PLACES = 46,       /* places of a 64-bit number */
     FIBEXP_MOST_WORDS = 512,       /* words of a tape */
     FIBEXP_MOST_TAPE_BYTES = 2048, /* bytes of a tape */
-    FIBEXP_MOST_LISTING = 6138     /* bytes of a listing */
+    FIBEXP_MOST_LISTING = 6137     /* bytes of a listing */
 };
 
 /* The Fibonacci number of an index. Writes *value. Refusal: INDEX. */
@@ -82,22 +79,6 @@ uint64_t fibexp_hofstadter(uint64_t n);
 
 /* The least positive number h with r < phi^h, for every r. */
 uint32_t fibexp_height(uint32_t r);
-
-/* The largest r that fibexp_solution takes; the least is 2. */
-#define FIBEXP_LAST_ORDER 268435454
-
-/*
- * A v with G(v) congruent to s and v congruent to t modulo r, at most F_(2h+2) - 2, where F are the Fibonacci numbers
- * and h is fibexp_height(r). There always is one; which one it is may change with the version, and fibexp_build uses
- * the same one for FIBEXP_MODULAR. Writes *v. Refusals: ORDER, RESIDUE.
- */
-uint32_t fibexp_solution(uint32_t r, uint32_t s, uint32_t t, uint64_t *v);
-
-/*
- * 1 where v is such a number for r, s and t, whoever proposes it, else 0; also 0 where fibexp_solution refuses r, s
- * and t.
- */
-uint32_t fibexp_is_solution(uint32_t r, uint32_t s, uint32_t t, uint64_t v);
 
 /* The inverse of k modulo r. Writes *inverse. Refusals: ORDER, EXPONENT. */
 uint32_t fibexp_inverse(uint32_t k, uint32_t r, uint32_t *inverse);

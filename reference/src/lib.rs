@@ -1,6 +1,6 @@
 //! An independent implementation of document 01, "The targeted exponentiation tape", and of requests
-//! T-01, T-02, T-04, T-05, T-06 and T-07 of document 02, written from these and from source document 002 alone.
-//! It serves as the other side of comparisons and benchmarks, so where there is a choice it takes another way
+//! T-01, T-02, T-04, T-05 and T-06 of document 02, written from these and from source document 002 alone. It
+//! serves as the other side of comparisons and benchmarks, so where there is a choice it takes another way
 //! than the text suggests:
 //!
 //! | subject | way taken here |
@@ -10,7 +10,6 @@
 //! | Hofstadter's G | equation (1) of the paper, one fixed-point product and an exact test |
 //! | primes | Miller–Rabin with three bases that decide every 32-bit number |
 //! | inverses | Kaliski's almost inverse (shifts and subtractions) for odd moduli, carried over to even ones |
-//! | solutions | both candidates as Figure 9 of the paper has them, in whole numbers of 128 bits |
 //! | orders | r / q for the prime divisors q of r; Pollard's rho finds those above 61 |
 //! | running | each register travels with its inverse, so that a division costs no inversion |
 //! | single steps | the step's own registers alone, and an inversion where it divides |
@@ -36,7 +35,6 @@ mod order;
 mod program;
 mod record;
 mod session;
-mod solution;
 mod tape;
 
 pub use fibonacci::{fibonacci, height, hofstadter, number, places, write_places};
@@ -46,5 +44,4 @@ pub use modular::{inverse, is_prime, power, product};
 pub use program::{build, check};
 pub use record::Record;
 pub use session::Session;
-pub use solution::{is_solution, solution};
 pub use tape::{decode, Meaning};

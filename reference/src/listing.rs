@@ -6,7 +6,7 @@ use crate::tape::{self, Program};
 
 /// Bytes of a step line at most: three digits, three letters, two registers, three blanks, an end.
 const STEP_LINE: usize = 12;
-/// Bytes of the first line at most: a name of seven, labels, three numbers of nine digits, a count.
+/// Bytes of the first line at most: a name of six, labels, three numbers of nine digits, a count.
 const FIRST_LINE: usize = 64;
 
 /// The listing of a tape, or the line that tells its refusal.
@@ -40,8 +40,7 @@ fn lines(program: &Program) -> Vec<u8> {
         tape::FREE => b"free",
         tape::BASIC => b"basic",
         tape::DUAL => b"dual",
-        tape::HYBRID => b"hybrid",
-        _ => b"modular",
+        _ => b"hybrid",
     };
     out.extend_from_slice(name);
     let count = program.steps.len() as u32;

@@ -1,9 +1,8 @@
-//! Document 01, "Machine and variants", and request T-07: the named programs, build and check.
+//! Document 01, "Machine and variants": the named programs, build and check.
 
 use crate::fibonacci::{height, Form, FIBONACCI};
 use crate::modular::{inverse, is_prime};
 use crate::refusal;
-use crate::solution::solve;
 use crate::tape::{self, Program};
 
 const SMALLEST_MODULUS: u32 = 3;
@@ -33,7 +32,7 @@ pub fn check(tape: &[u32]) -> Result<(), u32> {
 /// What an accepted tape says; the refusals are those of check.
 pub(crate) fn accept(tape: &[u32]) -> Result<Program<'_>, u32> {
     let program = tape::read(tape)?;
-    if program.variant > tape::MODULAR {
+    if program.variant > tape::HYBRID {
         return Err(refusal::VARIANT);
     }
     if program.variant == tape::FREE {
@@ -79,24 +78,23 @@ enum Plan {
         back_s: Form,
         back_t: Form,
     },
-    /// Figure 6, for hybrid and modular: the form of v, and that of K padded to ℓ'.
+    /// Figure 6: the form of v, and that of K padded to ℓ'.
     Hybrid { length: u32, v: Form, inverse: Form },
 }
 
 impl Plan {
-    /// None where the variant isn't 1 to 4.
+    /// None where the variant isn't 1 to 3.
     fn new(r: u32, k: u32, inverse: u32, variant: u32) -> Option<Plan> {
         let h = height(r);
         let (k, inverse) = (k as u64, inverse as u64);
-        let (low, high) = (FIBONACCI[h as usize], FIBONACCI[h as usize + 1]);
-        let residue = |factor: u64, weight: u64| factor * weight % r as u64;
         match variant {
             tape::BASIC => Some(Plan::Basic {
                 k: Form::of(k),
                 inverse: Form::of(inverse),
             }),
             tape::DUAL => {
-                let form = |factor, weight| Form::of(residue(factor, weight));
+                let (low, high) = (FIBONACCI[h as usize], FIBONACCI[h as usize + 1]);
+                let form = |factor: u64, weight: u64| Form::of(factor * weight % r as u64);
                 Some(Plan::Dual {
                     h,
                     s: form(k, low),
@@ -111,15 +109,6 @@ impl Plan {
                 let v = k * FIBONACCI[length as usize + 1];
                 Some(Plan::Hybrid {
                     length,
-                    v: Form::of(v),
-                    inverse: Form::of(inverse),
-                })
-            }
-            tape::MODULAR => {
-                // ℓ' is h, of either parity; v is the solution that the service gives.
-                let v = solve(r, residue(k, low) as u32, residue(k, high) as u32);
-                Some(Plan::Hybrid {
-                    length: h,
                     v: Form::of(v),
                     inverse: Form::of(inverse),
                 })

@@ -15,4 +15,3 @@ pub const RANGE: u32 = 12;
 pub const INDEX: u32 = 13;
 /// Document 02: crowd.
 pub const COUNT: u32 = 14;
-pub const RESIDUE: u32 = 15;

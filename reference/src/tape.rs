@@ -15,7 +15,6 @@ pub(crate) const FREE: u32 = 0;
 pub(crate) const BASIC: u32 = 1;
 pub(crate) const DUAL: u32 = 2;
 pub(crate) const HYBRID: u32 = 3;
-pub(crate) const MODULAR: u32 = 4;
 
 /// Words before the first step: kinds 1, 2, 3, 4.
 pub(crate) const HEAD_WORDS: usize = 4;
@@ -99,7 +98,7 @@ pub(crate) fn read(tape: &[u32]) -> Result<Program<'_>, u32> {
 /// What a word means by itself.
 #[derive(Clone, Copy, Debug, PartialEq, Eq)]
 pub enum Meaning {
-    /// The variant, any that four bits hold: check refuses those above 4, not the word.
+    /// The variant, any that four bits hold: check refuses those above 3, not the word.
     Heading(u32),
     Modulus(u32),
     Order(u32),

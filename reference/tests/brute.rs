@@ -161,21 +161,11 @@ fn inverses() {
     }
 }
 
-/// The most steps of each variant.
-fn bounds(h: u32) -> [(u32, u32); 4] {
-    [
-        (1, 9 * h + 2),
-        (2, 6 * h + 4),
-        (3, 8 * h + 5),
-        (4, 8 * h + 5),
-    ]
-}
-
-/// All that documents 01 and 02 say of a named program, for one base.
+/// All that document 01 says of a named program, for one base.
 fn named(p: u32, r: u32, k: u32, a: u32) {
     let h = height(r);
     let power = (0..k).fold(1u64, |x, _| x * a as u64 % p as u64) as u32;
-    for (variant, bound) in bounds(h) {
+    for (variant, bound) in [(1, 9 * h + 2), (2, 6 * h + 4), (3, 8 * h + 5)] {
         let tape = built(p, r, k, variant);
         let steps = tape.len() as u32 - 5;
         assert!(steps <= bound, "{p} {r} {k} {variant}");
@@ -256,7 +246,7 @@ fn named_programs_of_large_orders() {
             .unwrap();
         let h = height(r);
         let a = drawn_base(&mut noise, p, r);
-        for (variant, most) in bounds(h) {
+        for (variant, most) in [(1, 9 * h + 2), (2, 6 * h + 4), (3, 8 * h + 5)] {
             let tape = built(p, r, k, variant);
             let steps = tape.len() as u32 - 5;
             assert!(steps <= most && tape.len() <= 512);
@@ -312,7 +302,7 @@ fn every_base_by_its_order() {
     for p in small.chain([211, 241, 257, 359, 433, 487]) {
         let orders: Vec<u32> = (1..p).map(|a| order_of(a, p)).collect();
         for r in (2..p).filter(|r| (p - 1) % r == 0) {
-            let tape = built(p, r, r - 1, 1 + r % 4);
+            let tape = built(p, r, r - 1, 1 + r % 3);
             for (a, &order) in (1..p).zip(&orders) {
                 assert_eq!(load(&tape, a), loaded(a, order == r), "{a} for {r}, {p}");
             }
@@ -331,7 +321,7 @@ fn large_bases_by_their_order() {
     for p in [65_537, 268_435_399, 268_435_019, 232_792_561, 268_331_747] {
         let orders = divisors(p - 1).into_iter().filter(|&r| r > 1);
         for r in orders.take(40) {
-            let tape = built(p, r, r - 1, 1 + r % 4);
+            let tape = built(p, r, r - 1, 1 + r % 3);
             let drawn: Vec<u32> = (0..3)
                 .map(|_| power(1 + noise.below(p as u64 - 1) as u32, (p - 1) / r, p))
                 .collect();
@@ -392,7 +382,7 @@ fn raised(tape: &[u32], bases: &[u32]) -> Vec<u32> {
 
 #[test]
 fn a_row_of_the_worked_example() {
-    for variant in 1..=4 {
+    for variant in 1..=3 {
         let tape = built(359, 179, 76, variant);
         assert_eq!(raised(&tape, &[4, 16, 64]), [266, 33, 162]);
     }
@@ -405,7 +395,7 @@ fn rows_of_every_base() {
     for p in (3..=61).filter(|&p| common::is_prime(p)) {
         for r in (2..p).filter(|r| (p - 1) % r == 0) {
             for k in (1..r).filter(|&k| gcd(k, r) == 1) {
-                (1..=4).for_each(|variant| every_base(p, r, k, variant));
+                (1..=3).for_each(|variant| every_base(p, r, k, variant));
             }
         }
     }
@@ -436,7 +426,7 @@ fn rows_of_the_largest_prime() {
             let k = (1 + noise.below(r as u64 - 1) as u32..r)
                 .find(|&k| gcd(k, r) == 1)
                 .unwrap_or(1);
-            let tape = built(p, r, k, 1 + noise.below(4) as u32);
+            let tape = built(p, r, k, 1 + noise.below(3) as u32);
             let bases: Vec<u32> = (0..count).map(|_| drawn_base(&mut noise, p, r)).collect();
             let powers: Vec<u32> = bases.iter().map(|&a| power(a, k, p)).collect();
             assert_eq!(raised(&tape, &bases), powers, "{r} {k}");
@@ -508,7 +498,7 @@ fn exponents_agree(tape: &[u32], p: u32, a: u32) {
 /// Every position of named programs, against the plain machine and the traced exponents.
 #[test]
 fn named_programs_step_by_step() {
-    for variant in 1..=4 {
+    for variant in 1..=3 {
         let tape = built(359, 179, 76, variant);
         exponents_agree(&tape, 359, 4);
         let mut plain = [1, 4, 1, 1];
@@ -528,7 +518,7 @@ fn chain(noise: &mut Noise, start: Record, p: u32, r: u32) -> u32 {
     for _ in 0..8 {
         let k = (1 + noise.below(r as u64 - 1) as u32..r).find(|&k| gcd(k, r) == 1);
         let k = k.unwrap_or(1);
-        let tape = built(p, r, k, 1 + noise.below(4) as u32);
+        let tape = built(p, r, k, 1 + noise.below(3) as u32);
         let steps = tape.len() as u32 - 5;
         let forward = noise.below(2) == 0;
         let (from, to) = if forward { (0, steps) } else { (steps, 0) };
@@ -645,7 +635,7 @@ fn named_programs(p: u32) -> Vec<Vec<u32>> {
     let mut tapes = vec![];
     for r in (2..p).filter(|&r| (p - 1).is_multiple_of(r)) {
         for k in (1..r).filter(|&k| gcd(k, r) == 1) {
-            tapes.extend([1, 2, 3, 4].map(|variant| built(p, r, k, variant)));
+            tapes.extend([1, 2, 3].map(|variant| built(p, r, k, variant)));
         }
     }
     tapes
@@ -669,7 +659,7 @@ fn tables_of_named_programs() {
             assert_eq!(tables_agree(&tape), 0);
         }
     }
-    for variant in 1..=4 {
+    for variant in 1..=3 {
         for (p, r, k) in [(359, 179, 76), (65537, 65536, 12345)] {
             tables_agree(&built(p, r, k, variant));
         }
@@ -741,7 +731,7 @@ fn drawn_starts_in_every_register() {
         }
     }
     let p = 268435399;
-    for variant in 1..=4 {
+    for variant in 1..=3 {
         let tape = built(p, p - 1, 123456791, variant);
         products_agree(&tape, p, &[drawn_start(&mut noise, p)]);
     }
@@ -799,7 +789,7 @@ fn way_agrees(tape: &[u32], p: u32, from: usize, to: usize, start: [u32; 4]) {
 fn ways_out_and_back() {
     let mut noise = Noise(53);
     let mut tapes = vec![(3, CASE_A.to_vec())];
-    tapes.extend([1, 2, 3, 4].map(|variant| (359, built(359, 179, 76, variant))));
+    tapes.extend([1, 2, 3].map(|variant| (359, built(359, 179, 76, variant))));
     tapes.extend((0..30).map(|_| (31, drawn_program(&mut noise, 31, 30, false))));
     for (p, tape) in tapes {
         let count = steps_of(&tape).len();
@@ -807,7 +797,7 @@ fn ways_out_and_back() {
             way_agrees(&tape, p, from, to, drawn_start(&mut noise, p));
         }
     }
-    for variant in 1..=4 {
+    for variant in 1..=3 {
         let tape = built(65537, 65536, 12345, variant);
         let count = steps_of(&tape).len() as u64;
         for _ in 0..200 {

@@ -4,18 +4,17 @@ mod common;
 
 use common::divisors;
 use reference::drawing::calls;
+use reference::power;
 use reference::script::script;
-use reference::{is_solution, power};
 use std::collections::HashMap;
 use std::ops::RangeInclusive;
 
 /// The refusals that documents 01 and 02 list for the services behind the verbs.
-const REFUSALS: [(&str, &[u32]); 16] = [
+const REFUSALS: [(&str, &[u32]); 15] = [
     ("fibonacci", &[13]),
     ("places", &[5]),
     ("number", &[12, 13]),
     ("inverse", &[2, 3]),
-    ("solution", &[2, 15]),
     ("build", &[1, 2, 3, 4, 5]),
     ("check", &[6, 7, 4, 1, 2, 3, 8]),
     ("load", &[6, 7, 4, 1, 2, 3, 8, 9, 11]),
@@ -160,60 +159,6 @@ fn every_refusal_often() {
     assert!(begins("fibexp: \"") >= 5 * OFTEN);
     // Listings that don't fit their room.
     assert!(begins("0 5\n") >= OFTEN);
-}
-
-/// Solutions are asked of r at both ends of its range and past them, and of residues at both ends and past them. Each
-/// answer is one.
-#[test]
-fn solutions_at_both_ends() {
-    let told = told(&calls::script());
-    let is_solution_call = |line: &&Told| line.verb() == "solution" && line.number().is_some();
-    let calls: Vec<(Vec<u32>, u32)> = told
-        .iter()
-        .filter(is_solution_call)
-        .map(|line| (numbers(&line.line), line.number().unwrap()))
-        .collect();
-    let count = |number: u32, is_it: &dyn Fn(u32, u32, u32) -> bool| {
-        let those = calls
-            .iter()
-            .filter(|(asked, given)| *given == number && is_it(asked[0], asked[1], asked[2]));
-        those.count()
-    };
-    for r in [2, 3, 268_435_453, 268_435_454] {
-        assert!(count(0, &|order, _, _| order == r) >= SOME, "{r}");
-        assert_eq!(count(2, &|order, _, _| order == r), 0, "{r}");
-    }
-    for r in [0, 1, 268_435_455, 268_435_456, u32::MAX] {
-        assert!(count(2, &|order, _, _| order == r) >= SOME, "{r}");
-        assert_eq!(count(0, &|order, _, _| order == r), 0, "{r}");
-    }
-    for past in [0, 1] {
-        assert!(count(15, &|r, s, t| s == r + past && t < r) >= SOME);
-        assert!(count(15, &|r, s, t| s < r && t == r + past) >= SOME);
-    }
-    assert!(count(0, &|_, s, _| s == 0) >= OFTEN && count(0, &|_, _, t| t == 0) >= OFTEN);
-    assert!(count(0, &|r, s, _| s == r - 1) >= OFTEN && count(0, &|r, _, t| t == r - 1) >= OFTEN);
-    for line in told.iter().filter(|line| line.verb() == "solution") {
-        if line.number() == Some(0) {
-            let asked = numbers(&line.line);
-            let v = line.text.trim_end().parse().unwrap();
-            assert!(
-                is_solution(asked[0], asked[1], asked[2], v),
-                "{}",
-                line.line
-            );
-        }
-    }
-}
-
-/// Tapes of each variant are listed often.
-#[test]
-fn tapes_of_every_variant() {
-    let told = told(&calls::script());
-    for name in ["free ", "basic ", "dual ", "hybrid ", "modular "] {
-        let listings = told.iter().filter(|line| line.text.starts_with(name));
-        assert!(listings.count() >= OFTEN, "{name}");
-    }
 }
 
 /// Rows of bases are answered up to 64, and refused for their length above.

@@ -1,5 +1,5 @@
-//! Every figure of document 01, two of request T-02, one of request T-04, those of request T-05's previews, of
-//! request T-06's orders and of request T-07's solution, and every row of the paper's Figure 7.
+//! Every figure of document 01, two of request T-02, one of request T-04, those of request T-05's previews and
+//! of request T-06's orders, and every row of the paper's Figure 7.
 
 mod common;
 
@@ -70,29 +70,9 @@ fn bench_r_179() {
     assert_eq!(hofstadter(10944), 6764);
     assert_eq!(places(106, 46), Ok(vec![10, 6, 3, 1]));
     assert_eq!(places(76, 46), Ok(vec![9, 7]));
-    let steps = [1, 2, 3, 4].map(|variant| built(359, 179, 76, variant).len() - 5);
-    assert_eq!(steps, [83, 59, 76, 76]);
+    let steps = [1, 2, 3].map(|variant| built(359, 179, 76, variant).len() - 5);
+    assert_eq!(steps, [83, 59, 76]);
     assert_eq!(trace(&built(359, 179, 76, 3), 76), Ok([0, 76, -8055, 0]));
-}
-
-/// Request T-07 names one solution for r = 179, s = 141, t = 25; the two residues are those of k = 76. The number that the
-/// service gives is one too, whichever it is.
-#[test]
-fn a_solution_for_r_179() {
-    assert_eq!((height(179), fibonacci(24)), (11, Ok(46368)));
-    assert_eq!([11, 12].map(fibonacci), [Ok(89), Ok(144)]);
-    assert_eq!((76 * 89 % 179, 76 * 144 % 179), (141, 25));
-    assert_eq!((hofstadter(10944) % 179, 10944 % 179), (141, 25));
-    assert!(is_solution(179, 141, 25, 10944));
-    for v in [10944 - 179, 10944 + 179, 10943, 10945] {
-        assert!(!is_solution(179, 141, 25, v));
-    }
-    assert!(is_solution(179, 141, 25, solution(179, 141, 25).unwrap()));
-    assert!(!is_solution(179, 25, 141, 10944));
-    // It is the only one.
-    assert!((0..=46368)
-        .filter(|&v| is_solution(179, 141, 25, v))
-        .eq([10944]));
 }
 
 /// The tables at the ends of case A, whose eleven steps are soon done by hand, and of the hybrid program.

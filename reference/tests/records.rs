@@ -9,8 +9,8 @@ use reference::*;
 /// Tapes that are accepted, of none to 83 steps, each with its p.
 fn programs(noise: &mut Noise) -> Vec<(u32, Vec<u32>)> {
     let mut tapes = vec![(3, CASE_A.to_vec()), (7, free(7, &[]))];
-    tapes.extend([1, 2, 3, 4].map(|variant| (359, built(359, 179, 76, variant))));
-    tapes.extend([1, 2, 3, 4].map(|variant| (11, built(11, 5, 2, variant))));
+    tapes.extend([1, 2, 3].map(|variant| (359, built(359, 179, 76, variant))));
+    tapes.extend([1, 2, 3].map(|variant| (11, built(11, 5, 2, variant))));
     tapes.extend((1..30).map(|count| {
         let steps: Vec<u32> = (0..count).map(|_| random_step(noise)).collect();
         (31, free(31, &steps))
@@ -200,15 +200,15 @@ fn chains_with_turns() {
     let (p, r) = (11, 5);
     let mut noise = Noise(71);
     let tapes: Vec<Vec<u32>> = (1..5)
-        .flat_map(|k| [1, 2, 3, 4].map(|variant| built(p, r, k, variant)))
+        .flat_map(|k| [1, 2, 3].map(|variant| built(p, r, k, variant)))
         .collect();
     let (row, places) = (tapes.concat(), in_a_row(&tapes));
     for _ in 0..500 {
         let a = [1, 3, 4, 5, 9][noise.below(5) as usize];
         let (mut e, mut requests, mut expected) = (1, Vec::new(), Vec::new());
         for _ in 0..noise.below(15) {
-            let at = noise.below(16) as usize;
-            let (k, (begin, end)) = (at as u32 / 4 + 1, places[at]);
+            let at = noise.below(12) as usize;
+            let (k, (begin, end)) = (at as u32 / 3 + 1, places[at]);
             let steps = end - begin - 5;
             let (request, number) = match noise.below(5) {
                 0 => ([begin, end, noise.below(99) as u32, steps + 1], 10),
@@ -320,7 +320,7 @@ fn refused_sessions() {
     let cases = [
         (named[..4].to_vec(), good, 6),
         (with(4, 0), good, 7),
-        (with(0, 0x10000501), good, 4),
+        (with(0, 0x10000401), good, 4),
         (with(1, 0x20000009), good, 1),
         (with(2, 0x30000004), good, 2),
         (with(3, 0x40000000), good, 3),

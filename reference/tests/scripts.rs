@@ -236,11 +236,11 @@ fn rooms() {
         &format!("17\n16\n{case_a} 255\n0\n"),
     );
     prints(
-        "room 2\nbuild 3 2 1 1\nbuild 3 2 1 4\nbuild 3 2 1 5\nbuild 3 2 1 x\ncheck\n",
+        "room 2\nbuild 3 2 1 1\nbuild 3 2 1 4\nbuild 3 2 1 x\ncheck\n",
         &format!(
-            "2\n{short}255 255\n{short}255 255\n\
+            "2\n{short}255 255\n\
              fibexp: refused 4: the variant must be that of a named program\n255 255\n\
-             fibexp: \"x\": no variant; basic, dual, hybrid, modular or 1 to 4\n\
+             fibexp: \"x\": no variant; basic, dual, hybrid or 1 to 3\n\
              fibexp: refused 6: a tape has 5 to 512 words\n"
         ),
     );

@@ -58,7 +58,6 @@ fn on_numbers(verb: NumberVerb, act: Act) -> Act
         NumberVerb::Hofstadter => Act::Reply,
         NumberVerb::Inverse => Act::Reply,
         NumberVerb::Height => Act::Reply,
-        NumberVerb::Solution => Act::Reply,
         NumberVerb::Prime => Act::Reply,
         NumberVerb::MulMod => Act::Reply,
         NumberVerb::PowMod => Act::Reply,

@@ -1,10 +1,9 @@
 // The forms that a variant's program is drawn from, as rows of bits; apart from how their steps are written.
-ghost use Rattle.std.specs.Prelude.{◌≡◌, false, ◌*◌, ◌≤◌, length};
+ghost use Rattle.std.specs.Prelude.{◌≡◌, false, ◌*◌};
 ghost use Rattle.modular.specs.Residues.{remainder};
-ghost use Rattle.fibonacci.specs.Forms.{pad, zeckendorf};
-ghost use Rattle.fibonacci.specs.Services.{last_place};
+ghost use Rattle.fibonacci.specs.Forms.{zeckendorf};
 ghost use Rattle.named.specs.Generators.{lone, steps_from};
-ghost use Rattle.named.specs.Named.{dual_forms, hybrid_forms, modular_forms};
+ghost use Rattle.named.specs.Named.{dual_forms, hybrid_forms};
 ghost use Rattle.named.specs.Parameters.{bad_variant};
 ghost use Rattle.program.specs.Inner.Forms.{Invertible, BitsOf, rows_of, Few, RowsFromTable};
 
@@ -13,7 +12,6 @@ use golden::fibonacci_or_zero;
 use modular::product;
 use named::Figure;
 use program::FormRows;
-use solving::solution_or_zero;
 use zeckendorf::bit_string;
 
 // The forms of a named program, from r, k and the inverse of k.
@@ -25,8 +23,7 @@ pub(crate) fn forms(variant: u32, r: u32, k: u32, inverse: u32) -> FormRows
     match variant {
         1 => basic_forms(k, inverse),
         2 => dual_forms(r, k, inverse),
-        3 => hybrid_forms(r, k, inverse),
-        _ => modular_forms(r, k, inverse),
+        _ => hybrid_forms(r, k, inverse),
     }
 }
 
@@ -103,46 +100,26 @@ fn residue(x: u32, weight: u32, r: u32) -> BitString
     bit_string(product(x, weight, r) as u64)
 }
 
-// Variant 3: v = k × F_(ℓ'+1), not reduced; ℓ' is h or h + 1, whichever is odd.
+// Variant 3: v = k × F_(ℓ'+1), not reduced, and the form of K padded to ℓ', which is h or h + 1, whichever is odd.
 fn hybrid_forms(r: u32, k: u32, inverse: u32) -> FormRows
     requires { Invertible r k inverse }
     ensures { result ≡ rows_of (hybrid_forms r k) }
 {
     let h = golden::height(r);
     let l = h + 1 - h % 2;
-    six_forms(k as u64 * fibonacci_or_zero(l + 1), inverse, l)
-}
-
-// Variant 4: a v with G(v) = k × F_h and v = k × F_(h+1) modulo r; ℓ' is h.
-fn modular_forms(r: u32, k: u32, inverse: u32) -> FormRows
-    requires { Invertible r k inverse }
-    ensures { result ≡ rows_of (modular_forms r k) }
-{
-    let h = golden::height(r);
-    let s = product(k, fibonacci_or_zero(h) as u32, r);
-    let t = product(k, fibonacci_or_zero(h + 1) as u32, r);
-    six_forms(solution_or_zero(r, s, t), inverse, h)
-}
-
-// Those of figure 6: the form of v, and the form of K padded to ℓ'.
-fn six_forms(v: u64, inverse: u32, l: u32) -> FormRows
-    requires inverse_len_bound { length (zeckendorf inverse) ≤ l }
-    requires l_le_last_place { l ≤ last_place }
-    ensures { result ≡ rows_of (lone Figure.Six (zeckendorf v) (pad l (zeckendorf inverse))) }
-{
-    let vs = bit_string(v);
+    let v = bit_string(k as u64 * fibonacci_or_zero(l + 1));
     let inverses = bit_string(inverse as u64);
-    let first = vs.bits;
+    let first = v.bits;
     let last = inverses.bits;
     let n = l as usize;
-    let count = vs.count + inverses.count;
+    let count = v.count + inverses.count;
     FormRows {
         figure: Figure::Six,
         first,
         beside: [0u8; 92],
         last,
         beside_last: [0u8; 92],
-        first_length: vs.length,
+        first_length: v.length,
         last_length: n,
         count,
     }

@@ -1,14 +1,13 @@
 // The C interface: each service under a plain name, for C and Rust to link, and the command-line tool. include/fibexp.h declares these
-// functions. Each service but `fibexp_hofstadter`, `fibexp_height` and `fibexp_is_solution`, which refuse nothing, answers the refusal's
-// number, 0 on success, and writes through its references only then; `fibexp_listing` writes the line of a refused tape too.
-// `fibexp_reply` and `fibexp_reads` are the tool.
+// functions. Each service but `fibexp_hofstadter` and `fibexp_height`, which refuse nothing, answers the refusal's number, 0 on success,
+// and writes through its references only then; `fibexp_listing` writes the line of a refused tape too. `fibexp_reply` and `fibexp_reads`
+// are the tool.
 ghost use Rattle.std.specs.Prelude.{◌≡◌, ℕ, ◌≤◌, ◌^◌, ◌<◌, length, take, drop};
 ghost use Rattle.refusal.specs.Outcomes.{answered, number_outcome_of, refusal_number, after};
 ghost use Rattle.modular.specs.Inverses.{inverse_outcome};
 ghost use Rattle.fibonacci.specs.Hofstadter.{G};
 ghost use Rattle.fibonacci.specs.Height.{height};
 ghost use Rattle.fibonacci.specs.Services.{fibonacci_outcome, places_outcome, places_buffer, number_outcome, bit};
-ghost use Rattle.fibonacci.specs.Solutions.{Solves, is_solution, solution_outcome};
 ghost use Rattle.tables.specs.Tables.{list_outcome};
 ghost use Rattle.program.specs.Services.{room_outcome, build_outcome, build_buffer, check_outcome};
 ghost use Rattle.sequencer.specs.Records.{row_outcome, record_in};
@@ -70,24 +69,6 @@ pub extern "C" fn fibexp_height(r: u32) -> u32
     ensures { result ≡ height r }
 {
     golden::height(r)
-}
-
-// The open service, a solution of the modular Hofstadter G problem: 2, 15. Which one it is stays open; on success it is one.
-#[unsafe(no_mangle)]
-pub extern "C" fn fibexp_solution(r: u32, s: u32, t: u32, v: &mut u64) -> u32
-    ensures value { result ≡ refusal_number (solution_outcome r s t) }
-    ensures v_after { v.new ≡ after (solution_outcome r s t) v.old }
-    ensures solves { result ≡ 0 → Solves r s t v.new }
-{
-    store_u64(solving::solution(r, s, t), v)
-}
-
-// The small test, for whoever proposes v: 1 where v is a solution, else 0.
-#[unsafe(no_mangle)]
-pub extern "C" fn fibexp_is_solution(r: u32, s: u32, t: u32, v: u64) -> u32
-    ensures { result ≡ bit (is_solution r s t v) }
-{
-    bit(solving::is_solution(r, s, t, v))
 }
 
 // The inverse of k modulo r: 2, 3.

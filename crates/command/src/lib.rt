@@ -130,7 +130,7 @@ fn version(text: &mut [u8]) -> Reply
 {
     Reply {
         status: ANSWERED,
-        length: put(text, 0, b"fibexp 3.1.0\n"),
+        length: put(text, 0, b"fibexp 3.0.0\n"),
     }
 }
 

@@ -9,9 +9,6 @@ pub mod Places
 pub mod Height
 pub mod Ranges
 pub mod Lengths
-pub mod Candidates
-pub mod Solutions
-pub mod Solving
 pub mod Taking
 pub mod BitStrings
 pub mod Summing

@@ -1,8 +1,7 @@
--- REQUIREMENTS 2, in its order, and the modular Hofstadter G problem.
+-- REQUIREMENTS 2, in its order.
 pub mod Fibonacci
 pub mod Forms
 pub mod Hofstadter
 pub mod Height
 pub mod Services
-pub mod Solutions
 pub mod Inner

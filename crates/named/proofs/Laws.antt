@@ -12,7 +12,6 @@ pub mod Forms
 pub mod Basic
 pub mod Dual
 pub mod Hybrid
-pub mod Modular
 pub mod Table
 pub mod Figures
 pub mod Names

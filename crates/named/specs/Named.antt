@@ -5,7 +5,6 @@ use Rattle.modular.specs.Inverses.{inverse}
 use Rattle.fibonacci.specs.Fibonacci.{fib}
 use Rattle.fibonacci.specs.Forms.{pad, zeckendorf}
 use Rattle.fibonacci.specs.Height.{height, odd_height}
-use Rattle.fibonacci.specs.Solutions.{solution}
 use Rattle.tape.specs.declared.Step.{Step}
 use Rattle.tape.specs.Layout.{Program, program_words}
 use Rattle.named.specs.declared.Figure.TheVariants.{Two, Four, Six}
@@ -36,13 +35,6 @@ dual_forms r k =
 unfoldable pub hybrid_forms : ℕ → ℕ → Forms
 hybrid_forms r k = lone Six (zeckendorf (k * fib (suc (odd_height r)))) (pad (odd_height r) (zeckendorf (inverse r k)))
 
--- modular: v by the open answer, so that G(v) is k × F_h and v is k × F_(h+1), modulo r; the form of K padded to h
-abbrev pub modular_v : ℕ → ℕ → ℕ
-modular_v r k = solution r (k * fib (height r) % r) (k * fib (suc (height r)) % r)
-
-unfoldable pub modular_forms : ℕ → ℕ → Forms
-modular_forms r k = lone Six (zeckendorf (modular_v r k)) (pad (height r) (zeckendorf (inverse r k)))
-
 -- ---- the table of variants
 
 -- a variant's number, its name, and the forms of the programs that it allows for r and k, of which build draws the first
@@ -57,7 +49,6 @@ variants =
     record { number = 1; name = ascii "basic"; forms = λ (r k : ℕ). basic_forms r k ∷ [] }
     ∷ record { number = 2; name = ascii "dual"; forms = λ (r k : ℕ). dual_forms r k ∷ [] }
     ∷ record { number = 3; name = ascii "hybrid"; forms = λ (r k : ℕ). hybrid_forms r k ∷ [] }
-    ∷ record { number = 4; name = ascii "modular"; forms = λ (r k : ℕ). modular_forms r k ∷ [] }
     ∷ []
 
 abbrev pub last_variant : ℕ

@@ -9,10 +9,10 @@ pub enum Figure {
 }
 
 // The variants of named programs go up to this.
-pub const LAST_VARIANT: u32 = 4;
+pub const LAST_VARIANT: u32 = 3;
 
 // The variants' names by their numbers, a zero byte after each.
-pub const VARIANT_NAMES: [u8; 31] = *b"free\0basic\0dual\0hybrid\0modular\0";
+pub const VARIANT_NAMES: [u8; 23] = *b"free\0basic\0dual\0hybrid\0";
 
 // The bytes of the longest of them.
-pub const LONGEST_NAME: usize = 7;
+pub const LONGEST_NAME: usize = 6;

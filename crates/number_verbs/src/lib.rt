@@ -31,11 +31,6 @@ pub fn on_numbers(verb: NumberVerb, own: u32, values: &[u64], text: &mut [u8]) -
             modular::inverse(small(values, 0), small(values, 1)),
         ),
         NumberVerb::Height => number(text, golden::height(small(values, 0)) as u64),
-        NumberVerb::Solution => answer(
-            text,
-            own,
-            solving::solution(small(values, 0), small(values, 1), small(values, 2)),
-        ),
         NumberVerb::Prime => number(text, bit(modular::is_prime(small(values, 0)))),
         NumberVerb::MulMod => {
             number(

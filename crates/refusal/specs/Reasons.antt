@@ -19,16 +19,15 @@ reasons =
     ∷ "an exponent leaves -2^62 to 2^62"
     ∷ "not the places of a Zeckendorf form, from 92 down to 1"
     ∷ "a row has at most 64 bases"
-    ∷ "s and t must be from 0 to r-1"
     ∷ []
 
--- Where a service gives a refusal for a cause of its own: the inverse and the open service 2, build and raise 4, bytes that aren't whole words 6,
+-- Where a service gives a refusal for a cause of its own: the inverse service 2, build and raise 4, bytes that aren't whole words 6,
 -- run and step 9, cut 10, list to number 12, a Fibonacci number 13.
 unfoldable pub own_reasons : List String
 own_reasons =
     ""
     ∷ ""
-    ∷ "r must be at least 2, for solution at most 268435454"
+    ∷ "r must be at least 2"
     ∷ ""
     ∷ "the variant must be that of a named program"
     ∷ ""
@@ -40,6 +39,5 @@ own_reasons =
     ∷ ""
     ∷ "the sum of the places exceeds 64 bits"
     ∷ "the index must be at most 93"
-    ∷ ""
     ∷ ""
     ∷ []

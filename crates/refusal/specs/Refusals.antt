@@ -1,7 +1,7 @@
 -- REQUIREMENTS 7.1, the table of refusals, and those of document 02: the number of each.
 use Rattle.std.specs.Prelude.{ℕ}
 use Rattle.refusal.specs.declared.Refusal.{Refusal}
-use Rattle.refusal.specs.declared.Refusal.TheVariants.{Modulus, Order, Exponent, Variant, Room, Length, Word, Mismatch, Register, Position, Base, Range, Index, Count, Residue}
+use Rattle.refusal.specs.declared.Refusal.TheVariants.{Modulus, Order, Exponent, Variant, Room, Length, Word, Mismatch, Register, Position, Base, Range, Index, Count}
 
 abbrev pub number_of : Refusal → ℕ
 number_of Modulus = 1
@@ -18,4 +18,3 @@ number_of Base = 11
 number_of Range = 12
 number_of Index = 13
 number_of Count = 14
-number_of Residue = 15

@@ -22,7 +22,6 @@ pub enum Refusal {
     Index,
     // document 02: crowd
     Count,
-    Residue,
 }
 
 // What a service answers whose result is one number.
@@ -51,14 +50,13 @@ pub fn number(refusal: Refusal) -> u32
         Refusal::Range => 12,
         Refusal::Index => 13,
         Refusal::Count => 14,
-        Refusal::Residue => 15,
     }
 }
 
 // What each refusal is given for, by its number, a zero byte after each.
-pub const REASONS: [u8; 594] =
-    *b"\0p must be a prime from 3 to 268435455\0r must be at least 2 and divide p-1\0k must be from 1 to r-1 and share no factor with r\0the tape's variant is none of those known\0the buffer is shorter than the result\0a tape has 5 to 512 words\0a word, its place or the end's count breaks the layout\0the steps aren't those built for the tape's p, r, k and variant\0the base must be from 1 to p-1\0a position is outside 0 to the step count\0the base's order isn't r\0an exponent leaves -2^62 to 2^62\0not the places of a Zeckendorf form, from 92 down to 1\0a row has at most 64 bases\0s and t must be from 0 to r-1\0";
+pub const REASONS: [u8; 564] =
+    *b"\0p must be a prime from 3 to 268435455\0r must be at least 2 and divide p-1\0k must be from 1 to r-1 and share no factor with r\0the tape's variant is none of those known\0the buffer is shorter than the result\0a tape has 5 to 512 words\0a word, its place or the end's count breaks the layout\0the steps aren't those built for the tape's p, r, k and variant\0the base must be from 1 to p-1\0a position is outside 0 to the step count\0the base's order isn't r\0an exponent leaves -2^62 to 2^62\0not the places of a Zeckendorf form, from 92 down to 1\0a row has at most 64 bases\0";
 
 // The same where a service gives a refusal for a cause of its own.
-pub const OWN_REASONS: [u8; 327] =
-    *b"\0\0r must be at least 2, for solution at most 268435454\0\0the variant must be that of a named program\0\0standard input isn't whole words of 4 bytes\0\0\0each register must be from 1 to p-1\0first and last must be positions up to the step count, first at most last\0\0the sum of the places exceeds 64 bits\0the index must be at most 93\0\0\0";
+pub const OWN_REASONS: [u8; 294] =
+    *b"\0\0r must be at least 2\0\0the variant must be that of a named program\0\0standard input isn't whole words of 4 bytes\0\0\0each register must be from 1 to p-1\0first and last must be positions up to the step count, first at most last\0\0the sum of the places exceeds 64 bits\0the index must be at most 93\0\0";

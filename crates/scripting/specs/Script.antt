@@ -13,7 +13,7 @@ use Rattle.listing.specs.Listing.{listing_answer, listing_buffer}
 use Rattle.tool.specs.declared.TapeVerb.{TapeVerb}
 use Rattle.tool.specs.declared.TapeVerb.TheVariants.{Check, Listing, Load, Run, SingleStep, Preview, Power, Raise, Trace, Table, Cut, Play}
 use Rattle.tool.specs.declared.NumberVerb.{NumberVerb}
-use Rattle.tool.specs.declared.NumberVerb.TheVariants.{Decode, Fibonacci, Places, NumberOf, Hofstadter, Inverse, Height, Solution, Prime, MulMod, PowMod}
+use Rattle.tool.specs.declared.NumberVerb.TheVariants.{Decode, Fibonacci, Places, NumberOf, Hofstadter, Inverse, Height, Prime, MulMod, PowMod}
 use Rattle.tool.specs.declared.ScriptVerb.{ScriptVerb}
 use Rattle.tool.specs.declared.ScriptVerb.TheVariants.{Tape, Append, Change, Drop, Behind, Room}
 use Rattle.tool.specs.declared.Verb.{Verb}
@@ -134,7 +134,6 @@ is_places NumberOf = false
 is_places Hofstadter = false
 is_places Inverse = false
 is_places Height = false
-is_places Solution = false
 is_places Prime = false
 is_places MulMod = false
 is_places PowMod = false

@@ -8,7 +8,6 @@ use Rattle.modular.specs.Inverses.{inverse_outcome}
 use Rattle.fibonacci.specs.Hofstadter.{G}
 use Rattle.fibonacci.specs.Height.{height}
 use Rattle.fibonacci.specs.Services.{fibonacci_outcome, places_of, number_outcome, bit}
-use Rattle.fibonacci.specs.Solutions.{solution_outcome}
 use Rattle.tape.specs.Words.{decoded}
 use Rattle.tape.specs.Layout.{max_words, steps_of}
 use Rattle.encoding.specs.Encoding.{bytes_of, tape_in, word_bytes}
@@ -25,7 +24,7 @@ use Rattle.listing.specs.Listing.{lines_for}
 use Rattle.tool.specs.declared.TapeVerb.{TapeVerb}
 use Rattle.tool.specs.declared.TapeVerb.TheVariants.{Check, Listing, Load, Run, SingleStep, Preview, Power, Raise, Trace, Table, Cut, Play}
 use Rattle.tool.specs.declared.NumberVerb.{NumberVerb}
-use Rattle.tool.specs.declared.NumberVerb.TheVariants.{Decode, Fibonacci, Places, NumberOf, Hofstadter, Inverse, Height, Solution, Prime, MulMod, PowMod}
+use Rattle.tool.specs.declared.NumberVerb.TheVariants.{Decode, Fibonacci, Places, NumberOf, Hofstadter, Inverse, Height, Prime, MulMod, PowMod}
 use Rattle.tool.specs.declared.Verb.{Verb}
 use Rattle.tool.specs.declared.Verb.TheVariants.{Unknown, Build, Script, Help, Version, OnTape, OnNumbers, InScript}
 use Rattle.tool.specs.declared.Row.{Row}
@@ -88,7 +87,6 @@ number_reply NumberOf own v = printed own (number_outcome v) number_line
 number_reply Hofstadter own v = answers (number_line (G (at v 0)))
 number_reply Inverse own v = printed own (inverse_outcome (at v 0) (at v 1)) number_line
 number_reply Height own v = answers (number_line (height (at v 0)))
-number_reply Solution own v = printed own (solution_outcome (at v 0) (at v 1) (at v 2)) number_line
 number_reply Prime own v = answers (number_line (bit (is_prime (at v 0))))
 number_reply MulMod own v = answers (number_line (remainder (at v 0 * at v 1) (at v 2)))
 number_reply PowMod own v = answers (number_line (remainder (at v 0 ^ at v 1) (at v 2)))

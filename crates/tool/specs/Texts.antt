@@ -57,7 +57,7 @@ meaning (End count) = line (ascii "end" ∷ decimal count ∷ [])
 meaning Bad = line (ascii "none" ∷ [])
 
 abbrev pub version_line : List ℕ
-version_line = ascii "fibexp 3.1.0" ++ newline ∷ []
+version_line = ascii "fibexp 3.0.0" ++ newline ∷ []
 
 -- ---- refusals
 
@@ -137,7 +137,6 @@ usage =
     ∷ ascii "  hofstadter N           G(N)"
     ∷ ascii "  inverse K R            the inverse of K modulo R"
     ∷ ascii "  height R               the least h above 0 with R below phi^h"
-    ∷ ascii "  solution R S T         a v with G(v) = S and v = T modulo R"
     ∷ ascii "  prime N                1 where N is a prime, else 0"
     ∷ ascii "  mulmod A B M           A times B modulo M"
     ∷ ascii "  powmod A K M           A to the K modulo M"

@@ -9,7 +9,7 @@ use Rattle.named.specs.Named.{variant_names}
 use Rattle.program.specs.Same.{same_words}
 use Rattle.tool.specs.declared.TapeVerb.TheVariants.{Check, Listing, Load, Run, SingleStep, Preview, Power, Raise, Trace, Table, Cut, Play}
 use Rattle.tool.specs.declared.NumberVerb.{NumberVerb}
-use Rattle.tool.specs.declared.NumberVerb.TheVariants.{Decode, Fibonacci, Places, NumberOf, Hofstadter, Inverse, Height, Solution, Prime, MulMod, PowMod}
+use Rattle.tool.specs.declared.NumberVerb.TheVariants.{Decode, Fibonacci, Places, NumberOf, Hofstadter, Inverse, Height, Prime, MulMod, PowMod}
 use Rattle.tool.specs.declared.ScriptVerb.{ScriptVerb}
 use Rattle.tool.specs.declared.ScriptVerb.TheVariants.{Tape, Append, Change, Drop, Behind, Room}
 use Rattle.tool.specs.declared.Verb.{Verb}
@@ -77,7 +77,6 @@ entries =
     ∷ entry "hofstadter" (OnNumbers Hofstadter) 1 1 largest64 0
     ∷ entry "inverse" (OnNumbers Inverse) 2 2 largest32 2
     ∷ entry "height" (OnNumbers Height) 1 1 largest32 0
-    ∷ entry "solution" (OnNumbers Solution) 3 3 largest32 2
     ∷ entry "prime" (OnNumbers Prime) 1 1 largest32 0
     ∷ entry "mulmod" (OnNumbers MulMod) 3 3 largest32 0
     ∷ entry "powmod" (OnNumbers PowMod) 3 3 largest32 0
@@ -161,7 +160,6 @@ limit_on NumberOf = largest8
 limit_on Hofstadter = largest64
 limit_on Inverse = largest32
 limit_on Height = largest32
-limit_on Solution = largest32
 limit_on Prime = largest32
 limit_on MulMod = largest32
 limit_on PowMod = largest32

@@ -27,7 +27,6 @@ pub enum NumberVerb {
     Hofstadter,
     Inverse,
     Height,
-    Solution,
     Prime,
     MulMod,
     PowMod,
@@ -117,8 +116,8 @@ pub const LARGEST_32: u64 = 4294967295;
 pub const LARGEST_64: u64 = 18446744073709551615;
 
 // The verbs' names, a zero byte after each.
-pub const NAMES: [u8; 234] =
-    *b"build\0script\0help\0--help\0-h\0version\0--version\0check\0list\0load\0run\0step\0preview\0power\0raise\0trace\0table\0cut\0play\0decode\0fibonacci\0places\0number\0hofstadter\0inverse\0height\0solution\0prime\0mulmod\0powmod\0tape\0append\0change\0drop\0behind\0room\0";
+pub const NAMES: [u8; 225] =
+    *b"build\0script\0help\0--help\0-h\0version\0--version\0check\0list\0load\0run\0step\0preview\0power\0raise\0trace\0table\0cut\0play\0decode\0fibonacci\0places\0number\0hofstadter\0inverse\0height\0prime\0mulmod\0powmod\0tape\0append\0change\0drop\0behind\0room\0";
 
 pub const NO_ROW: Row = Row {
     verb: Verb::Unknown,
@@ -274,7 +273,7 @@ pub const TAPE_TABLE: [Row; TAPE_ROWS] = [
 ];
 
 // On numbers alone.
-pub const NUMBER_ROWS: usize = 11;
+pub const NUMBER_ROWS: usize = 10;
 
 pub const NUMBER_TABLE: [Row; NUMBER_ROWS] = [
     Row {
@@ -325,13 +324,6 @@ pub const NUMBER_TABLE: [Row; NUMBER_ROWS] = [
         most: 1,
         largest: LARGEST_32,
         own: 0,
-    },
-    Row {
-        verb: Verb::OnNumbers(NumberVerb::Solution),
-        least: 3,
-        most: 3,
-        largest: LARGEST_32,
-        own: 2,
     },
     Row {
         verb: Verb::OnNumbers(NumberVerb::Prime),
@@ -405,7 +397,7 @@ pub const SCRIPT_TABLE: [Row; SCRIPT_ROWS] = [
 ];
 
 // What is said of a word that is no variant.
-pub const NO_VARIANT: [u8; 52] = *b": no variant; basic, dual, hybrid, modular or 1 to 4";
+pub const NO_VARIANT: [u8; 43] = *b": no variant; basic, dual, hybrid or 1 to 3";
 
-pub const USAGE: [u8; 1812] =
-    *b"usage: fibexp VERB PARAMETER..\n  build P R K VARIANT    write a tape; VARIANT is basic, dual, hybrid, modular or 1 to 4\n  script                 commands from standard input, one on a line\non the tape from standard input; a RECORD is C D E F POSITION, the registers and the position:\n  check                  0 where the tape is accepted\n  list                   the tape's listing\n  load BASE              the record to start from\n  run RECORD TO          the record at position TO\n  step RECORD BACKWARD   the record one step on, or one step back where BACKWARD isn't 0\n  preview RECORD TO      the registers at position TO, then the mul, div and swp steps on the way\n  power BASE             load and run: register 1 (a named program's power), the record\n  raise BASE..           each of up to 64 bases to the power k, by a named program\n  trace POSITION         the four whole exponents\n  table POSITION         the exponent of each start value in each register, a line for each register\n  cut FIRST LAST         the words of the steps FIRST + 1 to LAST\n  play RECORD REQUEST..  a list of runs, each BEGIN END TURN TO: the record at its end, each run's number\non numbers:\n  decode WORD            what a tape's word means\n  fibonacci I            the Fibonacci number of index I\n  places N               the places of the Zeckendorf form of N, highest first\n  number PLACE..         the number of these places\n  hofstadter N           G(N)\n  inverse K R            the inverse of K modulo R\n  height R               the least h above 0 with R below phi^h\n  solution R S T         a v with G(v) = S and v = T modulo R\n  prime N                1 where N is a prime, else 0\n  mulmod A B M           A times B modulo M\n  powmod A K M           A to the K modulo M\n  help, version          this text; the version\n";
+pub const USAGE: [u8; 1741] =
+    *b"usage: fibexp VERB PARAMETER..\n  build P R K VARIANT    write a tape; VARIANT is basic, dual, hybrid or 1 to 3\n  script                 commands from standard input, one on a line\non the tape from standard input; a RECORD is C D E F POSITION, the registers and the position:\n  check                  0 where the tape is accepted\n  list                   the tape's listing\n  load BASE              the record to start from\n  run RECORD TO          the record at position TO\n  step RECORD BACKWARD   the record one step on, or one step back where BACKWARD isn't 0\n  preview RECORD TO      the registers at position TO, then the mul, div and swp steps on the way\n  power BASE             load and run: register 1 (a named program's power), the record\n  raise BASE..           each of up to 64 bases to the power k, by a named program\n  trace POSITION         the four whole exponents\n  table POSITION         the exponent of each start value in each register, a line for each register\n  cut FIRST LAST         the words of the steps FIRST + 1 to LAST\n  play RECORD REQUEST..  a list of runs, each BEGIN END TURN TO: the record at its end, each run's number\non numbers:\n  decode WORD            what a tape's word means\n  fibonacci I            the Fibonacci number of index I\n  places N               the places of the Zeckendorf form of N, highest first\n  number PLACE..         the number of these places\n  hofstadter N           G(N)\n  inverse K R            the inverse of K modulo R\n  height R               the least h above 0 with R below phi^h\n  prime N                1 where N is a prime, else 0\n  mulmod A B M           A times B modulo M\n  powmod A K M           A to the K modulo M\n  help, version          this text; the version\n";

@@ -1,6 +1,5 @@
 //! The functions of include/fibexp.h. Each service answers the refusal's number, 0 where the call isn't
-//! refused; `hofstadter` answers G(n), `height` h, and `is_solution` 1 for a solution and else 0. `reply`
-//! answers the status of the tool's reply.
+//! refused; `hofstadter` answers G(n) and `height` h. `reply` answers the status of the tool's reply.
 
 mod c {
     extern "C" {
@@ -10,8 +9,6 @@ mod c {
         pub fn fibexp_hofstadter(n: u64) -> u64;
         pub fn fibexp_height(r: u32) -> u32;
         pub fn fibexp_inverse(k: u32, r: u32, inverse: *mut u32) -> u32;
-        pub fn fibexp_solution(r: u32, s: u32, t: u32, v: *mut u64) -> u32;
-        pub fn fibexp_is_solution(r: u32, s: u32, t: u32, v: u64) -> u32;
         pub fn fibexp_build(
             p: u32,
             r: u32,
@@ -91,14 +88,6 @@ pub fn height(r: u32) -> u32 {
 
 pub fn inverse(k: u32, r: u32, inverse: &mut u32) -> u32 {
     unsafe { c::fibexp_inverse(k, r, inverse) }
-}
-
-pub fn solution(r: u32, s: u32, t: u32, v: &mut u64) -> u32 {
-    unsafe { c::fibexp_solution(r, s, t, v) }
-}
-
-pub fn is_solution(r: u32, s: u32, t: u32, v: u64) -> u32 {
-    unsafe { c::fibexp_is_solution(r, s, t, v) }
 }
 
 pub fn build(p: u32, r: u32, k: u32, variant: u32, row: &mut [u32], count: &mut u32) -> u32 {

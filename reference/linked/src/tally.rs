@@ -8,8 +8,6 @@ pub enum Service {
     Hofstadter,
     Height,
     Inverse,
-    Solution,
-    IsSolution,
     Build,
     Check,
     Load,
@@ -24,15 +22,13 @@ pub enum Service {
     Reply,
 }
 
-const SERVICES: [Service; 20] = [
+const SERVICES: [Service; 18] = [
     Service::Fibonacci,
     Service::Places,
     Service::Number,
     Service::Hofstadter,
     Service::Height,
     Service::Inverse,
-    Service::Solution,
-    Service::IsSolution,
     Service::Build,
     Service::Check,
     Service::Load,
@@ -48,7 +44,7 @@ const SERVICES: [Service; 20] = [
 ];
 
 /// 0 and the refusals of documents 01 and 02.
-const NUMBERS: usize = 16;
+const NUMBERS: usize = 15;
 
 impl Service {
     fn name(self) -> &'static str {
@@ -59,8 +55,6 @@ impl Service {
             Service::Hofstadter => "hofstadter",
             Service::Height => "height",
             Service::Inverse => "inverse",
-            Service::Solution => "solution",
-            Service::IsSolution => "is solution",
             Service::Build => "build",
             Service::Check => "check",
             Service::Load => "load",
@@ -76,8 +70,7 @@ impl Service {
         }
     }
 
-    /// The refusals that documents 01 and 02 list for the service; of the test for solutions its 1, which says yes;
-    /// of the tool's reply its other statuses.
+    /// The refusals that documents 01 and 02 list for the service; of the tool's reply its other statuses.
     fn refusals(self) -> &'static [usize] {
         match self {
             Service::Fibonacci => &[13],
@@ -85,8 +78,6 @@ impl Service {
             Service::Number => &[13, 12],
             Service::Hofstadter | Service::Height => &[],
             Service::Inverse => &[2, 3],
-            Service::Solution => &[2, 15],
-            Service::IsSolution => &[1],
             Service::Build => &[1, 2, 3, 4, 5],
             Service::Check => &[6, 7, 4, 1, 2, 3, 8],
             Service::Load => &[6, 7, 4, 1, 2, 3, 8, 9, 11],
@@ -113,12 +104,12 @@ impl Tally {
     }
 
     pub fn print(&self) {
-        print!("{:11} {:>9} {:>9}", "service", "calls", "answered");
+        print!("{:10} {:>9} {:>9}", "service", "calls", "answered");
         (1..NUMBERS).for_each(|number| print!(" {number:>7}"));
         println!();
         for (service, counts) in SERVICES.iter().zip(&self.0) {
             let calls: u64 = counts.iter().sum();
-            print!("{:11} {calls:>9} {:>9}", service.name(), counts[0]);
+            print!("{:10} {calls:>9} {:>9}", service.name(), counts[0]);
             for &count in &counts[1..] {
                 match count {
                     0 => print!(" {:>7}", ""),

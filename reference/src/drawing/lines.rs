@@ -66,7 +66,7 @@ impl Lines {
     /// A build, its variant by name or number; the tape at hand where it isn't refused.
     pub fn build(&mut self, parameters: Parameters) {
         let Parameters { p, r, k, variant } = parameters;
-        let names = ["free", "basic", "dual", "hybrid", "modular"];
+        let names = ["free", "basic", "dual", "hybrid"];
         match names.get(variant as usize) {
             Some(name) if self.noise.once_in(2) => {
                 self.line(format!("build {p} {r} {k} {name}").as_bytes());

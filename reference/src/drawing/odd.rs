@@ -4,7 +4,7 @@ use crate::drawing::lines::Lines;
 use crate::drawing::noise::Noise;
 
 /// Verbs, each with a count of parameters that it takes.
-const VERBS: [(&str, usize); 30] = [
+const VERBS: [(&str, usize); 29] = [
     ("build", 4),
     ("check", 0),
     ("list", 0),
@@ -25,7 +25,6 @@ const VERBS: [(&str, usize); 30] = [
     ("hofstadter", 1),
     ("inverse", 2),
     ("height", 1),
-    ("solution", 3),
     ("prime", 1),
     ("mulmod", 3),
     ("powmod", 3),

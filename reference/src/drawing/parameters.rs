@@ -89,7 +89,7 @@ impl Fields {
             p: field.p,
             r,
             k: exponent(noise, r),
-            variant: noise.between(1, 4),
+            variant: noise.between(1, 3),
         }
     }
 
@@ -192,8 +192,8 @@ pub fn faulty_exponent(noise: &mut Noise, r: u32) -> u32 {
 fn faulty_variant(noise: &mut Noise) -> u32 {
     match noise.below(4) {
         0 => 0,
-        1 => 5,
-        2 => noise.between(6, 260),
+        1 => 4,
+        2 => noise.between(5, 260),
         _ => noise.word(),
     }
 }

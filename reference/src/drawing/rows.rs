@@ -87,7 +87,7 @@ fn stood(noise: &mut Noise, p: u32, r: u32) -> Vec<u32> {
     }
     // Each is odd and none is 0 modulo 5 or 179, so none shares a factor with the order.
     let k = noise.pick(&[1, 3, 77, 101]) % r;
-    let variant = noise.between(1, 4);
+    let variant = noise.between(1, 3);
     let mut tape = named(Parameters { p, r, k, variant });
     if noise.once_in(8) {
         let at = 4 + noise.index(tape.len() - 5);

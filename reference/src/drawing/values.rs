@@ -40,7 +40,7 @@ pub fn order(noise: &mut Noise) -> u32 {
 }
 
 /// A Lucas number from L_1 to L_45, less 1, or more by 1.
-pub(super) fn near_lucas(noise: &mut Noise) -> u32 {
+fn near_lucas(noise: &mut Noise) -> u32 {
     let (mut lucas, mut after) = (1u32, 3u32);
     for _ in 0..noise.below(45) {
         (lucas, after) = (after, lucas.wrapping_add(after));

@@ -67,7 +67,6 @@ fn on_numbers(call: &Call) -> Answer {
         Verb::Hofstadter => Ok(line_of(&[services::hofstadter(numbers[0])])),
         Verb::Inverse => services::inverse(n[0], n[1]).map(|value| line_of(&[value])),
         Verb::Height => Ok(line_of(&[services::height(n[0])])),
-        Verb::Solution => services::solution(n[0], n[1], n[2]).map(|v| line_of(&[v])),
         Verb::Prime => Ok(line_of(&[services::is_prime(n[0]) as u32])),
         Verb::Mulmod => Ok(line_of(&[services::product(n[0], n[1], n[2])])),
         Verb::Powmod => Ok(line_of(&[services::power(n[0], n[1], n[2])])),

@@ -14,7 +14,7 @@ const MOST_QUOTED: usize = 64;
 /// The place of the variant among the parameters of `build`.
 const VARIANT_PARAMETER: usize = 3;
 /// The variants' names, each at its number.
-const VARIANTS: [&str; 5] = ["free", "basic", "dual", "hybrid", "modular"];
+const VARIANTS: [&str; 4] = ["free", "basic", "dual", "hybrid"];
 
 /// The call that the words of a command line make with these verbs, or the complaint's text.
 pub(crate) fn understand(words: &[&[u8]], verbs: &[&Entry]) -> Result<Call, Vec<u8>> {
@@ -75,10 +75,7 @@ fn parameter(entry: &Entry, at: usize, word: &[u8]) -> Result<u64, Vec<u8>> {
 fn unread(is_variant: bool, largest: u64, word: &[u8]) -> Vec<u8> {
     let about = quoted(word);
     if is_variant {
-        return complaint(&[
-            &about,
-            b": no variant; basic, dual, hybrid, modular or 1 to 4",
-        ]);
+        return complaint(&[&about, b": no variant; basic, dual, hybrid or 1 to 3"]);
     }
     let wanted = format!(": not a whole number from 0 to {largest}");
     complaint(&[&about, wanted.as_bytes()])

@@ -6,11 +6,11 @@ use crate::refusal;
 /// Each complaint and each refusal begins with the tool's name.
 pub(super) const NAME: &str = "fibexp: ";
 
-pub(super) const VERSION: &str = "fibexp 3.1.0\n";
+pub(super) const VERSION: &str = "fibexp 3.0.0\n";
 
 pub(super) const USAGE: &str = "\
 usage: fibexp VERB PARAMETER..
-  build P R K VARIANT    write a tape; VARIANT is basic, dual, hybrid, modular or 1 to 4
+  build P R K VARIANT    write a tape; VARIANT is basic, dual, hybrid or 1 to 3
   script                 commands from standard input, one on a line
 on the tape from standard input; a RECORD is C D E F POSITION, the registers and the position:
   check                  0 where the tape is accepted
@@ -33,7 +33,6 @@ on numbers:
   hofstadter N           G(N)
   inverse K R            the inverse of K modulo R
   height R               the least h above 0 with R below phi^h
-  solution R S T         a v with G(v) = S and v = T modulo R
   prime N                1 where N is a prime, else 0
   mulmod A B M           A times B modulo M
   powmod A K M           A to the K modulo M
@@ -46,9 +45,7 @@ pub(super) const NO_WHOLE_WORDS: &str = "standard input isn't whole words of 4 b
 /// Why a verb refuses: the verbs whose reason differs come first.
 pub(super) fn reason(verb: Verb, number: u32) -> &'static str {
     match (number, verb) {
-        (refusal::ORDER, Verb::Inverse | Verb::Solution) => {
-            "r must be at least 2, for solution at most 268435454"
-        }
+        (refusal::ORDER, Verb::Inverse) => "r must be at least 2",
         (refusal::VARIANT, Verb::Build | Verb::Raise) => {
             "the variant must be that of a named program"
         }
@@ -79,7 +76,6 @@ fn common_reason(number: u32) -> &'static str {
         refusal::BASE => "the base's order isn't r",
         refusal::RANGE => "an exponent leaves -2^62 to 2^62",
         refusal::INDEX => "not the places of a Zeckendorf form, from 92 down to 1",
-        refusal::COUNT => "a row has at most 64 bases",
-        _ => "s and t must be from 0 to r-1",
+        _ => "a row has at most 64 bases",
     }
 }

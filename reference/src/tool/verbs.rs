@@ -22,7 +22,6 @@ pub(crate) enum Verb {
     Hofstadter,
     Inverse,
     Height,
-    Solution,
     Prime,
     Mulmod,
     Powmod,
@@ -72,7 +71,7 @@ const fn exactly(name: &'static str, verb: Verb, count: usize) -> Entry {
 }
 
 /// What a command line may begin with.
-pub(crate) const VERBS: [Entry; 30] = [
+pub(crate) const VERBS: [Entry; 29] = [
     exactly("build", Verb::Build, 4),
     exactly("check", Verb::Check, 0),
     exactly("list", Verb::List, 0),
@@ -93,7 +92,6 @@ pub(crate) const VERBS: [Entry; 30] = [
     takes("hofstadter", Verb::Hofstadter, 1, 1, u64::MAX),
     exactly("inverse", Verb::Inverse, 2),
     exactly("height", Verb::Height, 1),
-    exactly("solution", Verb::Solution, 3),
     exactly("prime", Verb::Prime, 1),
     exactly("mulmod", Verb::Mulmod, 3),
     exactly("powmod", Verb::Powmod, 3),

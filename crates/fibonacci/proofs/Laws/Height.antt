@@ -101,14 +101,10 @@ zeckendorf_height r k l =
     let s : First (reaches r) 1 (height r) = height_least r in
     zeckendorf_length (height r) k (omega (arith, reaches_fib r (height r) s.from s.passes))
 
--- the moduli of format 1, and numbers of 31 and of 32 bits
+-- the moduli of format 1, and every 32-bit number
 pub height_28 : (r : ℕ) → r < 2 ^ 28 → height r ≤ 41
 unfolding reaches lucas
 height_28 r h = height_le r {j = 41} (omega arith) (le-leb r 370248451 (omega arith))
-
-pub height_31 : (r : ℕ) → r < 2 ^ 31 → height r ≤ 45
-unfolding reaches lucas
-height_31 r h = height_le r {j = 45} (omega arith) (le-leb r 2537720636 (omega arith))
 
 pub height_32 : (r : ℕ) → r < 2 ^ 32 → height r ≤ 47
 unfolding reaches lucas

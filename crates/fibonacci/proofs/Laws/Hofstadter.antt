@@ -66,27 +66,18 @@ pair_gap_by {u} {v} d p q =
 pair_gap : {u v v' : ℕ} → Pair u v → Pair u v' → v + 2 ≤ v' → ⊥
 pair_gap {u} {v} {v'} p q h = pair_gap_by (v' - (v + 2)) p (pair_at_lem q refl (omega arith))
 
--- the value u at v and the value t at u sum to v, or one more
-pair_sum : {t u v : ℕ} → Pair u v → Pair t u → (v ≤ t + u) × (t + u ≤ suc v)
-pair_sum {t} {u} {v} p q = (low (dec_le v (t + u)), high (dec_le (t + u) (suc v)))
+-- the recursion: where u is the value at v and t the value at u, v + 1 - t is the value at v + 1
+pair_recursion : {t u v : ℕ} → Pair u v → Pair t u → Pair (suc v - t) (suc v)
+pair_recursion {t} {u} {v} p q = go (dec_lt v (t + u)) (dec_lt (t + u) v)
   where
-    low : Dec (v ≤ t + u) → v ≤ t + u
-    low (yes h) = h
-    low (no h) =
+    go : Dec (v < t + u) → Dec (t + u < v) → Pair (suc v - t) (suc v)
+    go (yes h) _ =
+        let k : ¬ (v + 2 ≤ t + u) = pair_gap p (pair_up q) in
+        pair_at_lem (pair_up q) (omega arith) (omega arith)
+    go (no h) (yes k) =
         let l : suc u ≤ u = pair_monotone (pair_up_one q) p (omega arith) in
         absurd (omega arith)
-
-    high : Dec (t + u ≤ suc v) → t + u ≤ suc v
-    high (yes h) = h
-    high (no h) = absurd (pair_gap p (pair_up q) (omega arith))
-
--- the recursion: v + 1 - t is the value at v + 1
-pair_recursion : {t u v : ℕ} → Pair u v → Pair t u → Pair (suc v - t) (suc v)
-pair_recursion {t} {u} {v} p q = go (dec_lt v (t + u)) (pair_sum p q)
-  where
-    go : Dec (v < t + u) → (v ≤ t + u) × (t + u ≤ suc v) → Pair (suc v - t) (suc v)
-    go (yes h) s = pair_at_lem (pair_up q) (omega arith) (omega arith)
-    go (no h) s = pair_at_lem (pair_up_one q) (omega arith) (omega arith)
+    go (no h) (no k) = pair_at_lem (pair_up_one q) (omega arith) (omega arith)
 
 pair_to : (d n : ℕ) → n ≤ d → Pair (hofstadter_to d n) n
 unfolding hofstadter_to
@@ -107,10 +98,6 @@ pair_g {u} {v} p = pair_unique (G-pair v) p
 
 pub G-le : (n : ℕ) → G n ≤ n
 G-le n = pair_le (G-pair n)
-
--- G(n) and G(G(n)) sum to n, or one more
-pub G-sum : (n : ℕ) → (n ≤ G (G n) + G n) × (G (G n) + G n ≤ suc n)
-G-sum n = pair_sum (G-pair n) (G-pair (G n))
 
 -- document 01's three equations
 pub G-zero : G 0 ≡ 0

@@ -1,5 +1,5 @@
--- What step counts and word widths stand on: r F_(h+2) is below F_(2h+2), by Cassini's identity with F_(2h+2) as a product, so for k
--- below r the form of k F_(ℓ'+1), the multiple of Lemma 1, has places up to 2h; and at most every other place of a form is set.
+-- What step counts and word widths stand on: for k below r the form of k F_(ℓ'+1), the multiple of Lemma 1, has places up
+-- to 2h, by Cassini's identity with F_(2h+1) and F_(2h+2) as products; and at most every other place of a form is set.
 use mathlib.Core.Path.{◌≡◌, refl, sym, ap, ◌∙◌}
 use mathlib.Core.Bool.{Bool, true, false, cond}
 use Prim.Native.Nat.{ℕ, suc, ◌+◌, ◌*◌, ◌≤◌, ◌<◌, ◌^◌}
@@ -8,40 +8,34 @@ use native.Mathlib.Omega.{arith}
 use lib.ListN.{length}
 use Rattle.fibonacci.specs.Fibonacci.{fib, lucas, odd}
 use Rattle.fibonacci.specs.Forms.{fibsum_from, zeckendorf, places}
+use Rattle.fibonacci.specs.Hofstadter.{G}
 use Rattle.fibonacci.specs.Height.{height, odd_height}
-use Rattle.fibonacci.proofs.Laws.Fibonacci.{fib_one, fib_next, fib_positive, fib_monotone, fib_sum, lucas_fib, lucas_positive, cassini_odd, cassini_even}
+use Rattle.fibonacci.proofs.Laws.Fibonacci.{fib_next, fib_positive, fib_grows, fib_monotone, fib_sum, lucas_fib, lucas_positive, cassini_odd, cassini_even}
 use Rattle.fibonacci.proofs.Laws.Hofstadter.{G-multiple}
-use Rattle.fibonacci.proofs.Laws.Forms.{sparse_count}
-use Rattle.fibonacci.proofs.Laws.Zeckendorf.{zeckendorf_form, zeckendorf_shift, zeckendorf_length, zeckendorf_count}
+use Rattle.fibonacci.proofs.Laws.Forms.{G-form, sparse_count}
+use Rattle.fibonacci.proofs.Laws.Zeckendorf.{zeckendorf_form, zeckendorf_sum, zeckendorf_length}
 use Rattle.fibonacci.proofs.Laws.Height.{odd_reaches, even_reaches, height_least, zeckendorf_height, height_28, odd_height_is, odd_height_odd, odd_height_reaches, odd_height_le}
-
--- ---- what F_(2h+2) is above
-
-span_odd : (h r : ℕ) → odd h ≡ true → r ≤ lucas h → r * fib (suc (suc h)) < fib (suc (suc (h + h)))
-span_odd h r o l =
-    rw (← add-suc, fib_sum h (suc h), fib_next)
-    (omega (arith, cassini_odd h o, mul-le-mul_right (fib (suc h) + fib h) l, ap (λ (x : ℕ). x * (fib (suc h) + fib h)) (lucas_fib h)))
-
-span_even : (h r : ℕ) → odd h ≡ false → 0 < h → r < lucas h → r * fib (suc (suc h)) < fib (suc (suc (h + h)))
-span_even h r o p l =
-    rw (← add-suc, fib_sum h (suc h), fib_next)
-    (omega (arith, cassini_even h o, mul-le-mul_right (fib (suc h) + fib h) l, ap (λ (x : ℕ). x * (fib (suc h) + fib h)) (lucas_fib h), fib_positive h, fib_monotone {m = 1} {n = h} p, fib_one))
-
--- r F_(h+2) is, with the h of r
-pub height_span : (r : ℕ) → r * fib (suc (suc (height r))) < fib (suc (suc (height r + height r)))
-height_span r = go (odd (height r)) refl
-  where
-    go : (t : Bool) → odd (height r) ≡ t → r * fib (suc (suc (height r))) < fib (suc (suc (height r + height r)))
-    go true o = span_odd (height r) r o (odd_reaches r (height r) o (height_least r).passes)
-    go false o =
-        span_even (height r) r o (height_least r).from (even_reaches r (height r) o (lucas_positive (height r)) (height_least r).passes)
 
 -- ---- the multiple of F_(ℓ'+1)
 
+multiple_odd : (h k : ℕ) → odd h ≡ true → k < lucas h → k * fib (suc h) < fib (suc (h + h))
+multiple_odd h k o l =
+    rw (fib_sum h h)
+    (omega (arith, cassini_odd h o, mul-le-mul_right (fib (suc h)) l, ap (λ (x : ℕ). x * fib (suc h)) (lucas_fib h), fib_positive h))
+
+multiple_even : (h k : ℕ) → odd h ≡ false → k + 1 < lucas h → k * fib (suc (suc h)) < fib (suc (suc (h + h)))
+multiple_even h k o l =
+    rw (← add-suc, fib_sum h (suc h), fib_next)
+    (omega (arith, cassini_even h o, mul-le-mul_right (fib (suc h) + fib h) l, ap (λ (x : ℕ). x * (fib (suc h) + fib h)) (lucas_fib h), fib_positive h))
+
 multiple_below : (r k : ℕ) → k < r → k * fib (suc (odd_height r)) < fib (suc (suc (height r + height r)))
-multiple_below r k l =
-    let m : k ≤ r = omega arith in
-    omega (arith, height_span r, mul-le-mul m (fib_monotone {m = suc (odd_height r)} {n = suc (suc (height r))} (omega (arith, odd_height_le r))))
+multiple_below r k l = rw (odd_height_is r) (go (odd (height r)) refl)
+  where
+    go : (t : Bool) → odd (height r) ≡ t → k * fib (suc (cond t (height r) (suc (height r)))) < fib (suc (suc (height r + height r)))
+    go true o =
+        omega (arith, multiple_odd (height r) k o (omega (arith, odd_reaches r (height r) o (height_least r).passes)), fib_grows (suc (height r + height r)))
+    go false o =
+        multiple_even (height r) k o (omega (arith, even_reaches r (height r) o (lucas_positive (height r)) (height_least r).passes))
 
 pub multiple_length : (r k : ℕ) → k < r → length (zeckendorf (k * fib (suc (odd_height r)))) ≤ height r + height r
 multiple_length r k l = zeckendorf_length (height r + height r) (k * fib (suc (odd_height r))) (multiple_below r k l)
@@ -58,7 +52,7 @@ pub multiple_shift : (r k : ℕ) → k < r → fibsum_from 0 (zeckendorf (k * fi
 multiple_shift r k l =
     let v : ℕ = k * fib (suc (odd_height r)) in
     let b : k ≤ lucas (odd_height r) = omega (arith, odd_reaches r (odd_height r) (odd_height_odd r) (odd_height_reaches r)) in
-    zeckendorf_shift v ∙ G-multiple (odd_height r) k (odd_height_odd r) b
+    sym (G-form (zeckendorf v)) ∙ ap G (zeckendorf_sum v) ∙ G-multiple (odd_height r) k (odd_height_odd r) b
 
 -- ---- how many places are set
 
@@ -66,4 +60,6 @@ pub ones_count : (r n : ℕ) → n < r → 2 * length (places (zeckendorf n)) �
 ones_count r n l = omega (arith, sparse_count 1 (zeckendorf n) (zeckendorf_form n).sparse, zeckendorf_height r n l)
 
 pub multiple_count : (r k : ℕ) → k < r → length (places (zeckendorf (k * fib (suc (odd_height r))))) ≤ height r
-multiple_count r k l = omega (arith, zeckendorf_count (height r + height r) (k * fib (suc (odd_height r))) (multiple_below r k l))
+multiple_count r k l =
+    let v : ℕ = k * fib (suc (odd_height r)) in
+    omega (arith, sparse_count 1 (zeckendorf v) (zeckendorf_form v).sparse, multiple_length r k l)

@@ -4,7 +4,7 @@
 use mathlib.Core.Path.{◌≡◌, refl, sym, ap, ◌∙◌}
 use mathlib.Core.Bool.{Bool, true, false}
 use mathlib.Core.List.{List, [], ◌∷◌}
-use Prim.Native.Nat.{ℕ, zero, suc, ◌+◌, ◌*◌, ◌-◌, ◌≤◌, ◌<◌, ◌^◌}
+use Prim.Native.Nat.{ℕ, zero, suc, ◌-◌, ◌≤◌, ◌<◌, ◌^◌}
 use native.Mathlib.Numerals.{one-add}
 use native.Mathlib.Omega.{arith}
 use native.Mathlib.Decide.{dec_lt}
@@ -123,10 +123,6 @@ pub zeckendorf_sum : (n : ℕ) → fibsum (zeckendorf n) ≡ n
 unfolding zeckendorf
 zeckendorf_sum n = greedy_sum n n (fib_exceeds n)
 
--- with each place moved down by one it sums to G(n)
-pub zeckendorf_shift : (n : ℕ) → fibsum_from 0 (zeckendorf n) ≡ G n
-zeckendorf_shift n = sym (G-form (zeckendorf n)) ∙ ap G (zeckendorf_sum n)
-
 -- whatever is a Zeckendorf form is that of its sum
 pub zeckendorf_only : (bs : List Bool) → Zeckendorf bs → bs ≡ zeckendorf (fibsum bs)
 zeckendorf_only bs z = zeckendorf_unique bs (zeckendorf (fibsum bs)) z (zeckendorf_form (fibsum bs)) (sym (zeckendorf_sum (fibsum bs)))
@@ -139,10 +135,7 @@ zeckendorf_by m n h =
 pub zeckendorf_length : (m n : ℕ) → n < fib (suc (suc m)) → length (zeckendorf n) ≤ m
 zeckendorf_length m n h = rw (zeckendorf_by m n h) (greedy_length m n)
 
--- of which at most every other one is set
-pub zeckendorf_count : (m n : ℕ) → n < fib (suc (suc m)) → 2 * length (places (zeckendorf n)) ≤ m + 1
-zeckendorf_count m n h = omega (arith, sparse_count 1 (zeckendorf n) (zeckendorf_form n).sparse, zeckendorf_length m n h)
-
 -- every 64-bit number's form has at most 46 places
 pub zeckendorf_count_64 : (n : ℕ) → n < 2 ^ 64 → length (places (zeckendorf n)) ≤ 46
-zeckendorf_count_64 n h = omega (arith, zeckendorf_count 92 n (fib_64 n h))
+zeckendorf_count_64 n h =
+    omega (arith, sparse_count 1 (zeckendorf n) (zeckendorf_form n).sparse, zeckendorf_length 92 n (fib_64 n h))

@@ -34,7 +34,7 @@ line_some w words = omega (arith, line_length w words)
 
 -- ---- refusals
 
-refused_most : (n : ℕ) → n ≤ 15 → length (refused_line n) ≤ 11
+refused_most : (n : ℕ) → n ≤ 14 → length (refused_line n) ≤ 11
 refused_most n h = omega (arith, line_length (ascii "refused") (decimal n ∷ []), decimal_length 1 n (omega arith))
 
 -- ---- the first line

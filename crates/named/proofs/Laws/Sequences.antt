@@ -1,20 +1,17 @@
 -- What the exponents of registers 0 and 1 go along: a sequence in which each term is the sum of the two before it. The multiples of
--- the Fibonacci numbers are one, and through any two integers another comes, whose terms below these grow as those numbers do; below
--- a number and its G they go down as the values of G do.
+-- the Fibonacci numbers are one, and through any two integers another comes, whose terms below these grow as those numbers do.
 use mathlib.Core.Path.{◌≡◌, refl, sym, ap, ap₂, ◌∙◌}
 use mathlib.Core.Bool.{Bool, true, false, cond}
 use mathlib.Core.List.{List, [], ◌∷◌}
-use Prim.Native.Nat.{ℕ, zero, suc, ◌+◌, ◌*◌, ◌≤◌, ◌<◌}
-use native.Mathlib.Nat.{add-zero, zero-add, mul-le-mul_left}
+use Prim.Native.Nat.{ℕ, zero, suc, ◌+◌, ◌*◌, ◌≤◌}
+use native.Mathlib.Nat.{add-zero, mul-le-mul_left}
 use native.Mathlib.Decide.{dec_le}
 use native.Mathlib.Omega.{arith}
-use lib.IntN.{ℤ, pos, negsuc, ◌+ℤ◌, ◌-ℤ◌, -ℤ-+ℤ_cancel}
+use lib.IntN.{ℤ, pos, ◌+ℤ◌, ◌-ℤ◌, -ℤ-+ℤ_cancel}
 use lib.ListN.{length}
 use Rattle.fibonacci.specs.Fibonacci.{fib}
 use Rattle.fibonacci.specs.Forms.{fibsum_from, pad, ones}
-use Rattle.fibonacci.specs.Hofstadter.{G}
-use Rattle.fibonacci.proofs.Laws.Fibonacci.{fib_zero, fib_one, fib_next, fib_positive, fib_monotone}
-use Rattle.fibonacci.proofs.Laws.Hofstadter.{G-le, G-sum}
+use Rattle.fibonacci.proofs.Laws.Fibonacci.{fib_zero, fib_one, fib_next, fib_monotone}
 use Rattle.machine.proofs.Laws.Integers.{over, under, same, over_less, under_less, Within, within_natural, within_less, within_more}
 use Rattle.named.specs.Generators.{lowest, higher}
 
@@ -159,41 +156,3 @@ reaching b c (suc n) j s t h ws wt =
     (reaching b c n (suc j) (t -ℤ s) s (omega (arith, ap (λ (i : ℕ). c * fib i) e))
     (within_more (omega (arith, ap (λ (x : ℕ). c * x) (fib_next j))) (within_less t s wt ws)) ws)
     (within_more (omega (arith, mul-le-mul_left c (fib_monotone {m = j} {n = suc (j + suc n)} (omega arith)))) wt)
-
--- ---- down from G(a) and a
-
--- less than e away from a
-record Near (e a : ℕ) (t : ℤ) : Type 0 where
-  above : over t < a + e + under t
-  below : a + under t < over t + e
-
-near_within : (b : ℕ) {e a : ℕ} (t : ℤ) → Near e a t → a + e ≤ b → Within b t
-near_within b (pos x) near h = record { high = omega (arith, near.above); low = omega arith }
-near_within b (negsuc x) near h = record { high = omega arith; low = omega (arith, near.below) }
-
--- Of s and t, which are near G(a) and a, the difference is near G(G(a)), since the three sum to a or one less.
-near_less : (d e a : ℕ) (s t : ℤ) → Near e (G a) s → Near d a t → Near (e + d) (G (G a)) (t -ℤ s)
-near_less d e a s t ns nt = record {
-  above = omega (arith, G-sum a, ns.below, nt.above, over_less t s, under_less t s);
-  below = omega (arith, G-sum a, ns.above, nt.below, over_less t s, under_less t s);
-}
-
--- So the terms below stay near the values of G, which don't grow, and those near by a Fibonacci number at most.
-reaching_near : (b n j a : ℕ) (s t : ℤ) → a + fib (suc (suc (j + n))) ≤ b → Near (fib (suc (suc j))) (G a) s → Near (fib (suc j)) a t → Reaching b n s t
-reaching_near b zero j a s t h ns nt =
-    reaching_now b s t
-    (near_within b s ns (omega (arith, G-le a, fib_monotone {m = suc (suc j)} {n = suc (suc (j + zero))} (omega arith))))
-    (near_within b t nt (omega (arith, fib_monotone {m = suc j} {n = suc (suc (j + zero))} (omega arith))))
-reaching_near b (suc n) j a s t h ns nt =
-    let next : suc (suc (j + suc n)) ≡ suc (suc (suc j + n)) = omega arith in
-    reaching_back b n s t
-    (reaching_near b n (suc j) (G a) (t -ℤ s) s (omega (arith, G-le a, ap fib next))
-    (rw (fib_next (suc j)) (near_less (fib (suc j)) (fib (suc (suc j))) a s t ns nt)) ns)
-    (near_within b t nt (omega (arith, fib_monotone {m = suc j} {n = suc (suc (j + suc n))} (omega arith))))
-
--- down from G(v) and v themselves
-pub reaching_pair : (b n v : ℕ) → v + fib (suc (suc n)) ≤ b → Reaching b n (pos (G v)) (pos v)
-reaching_pair b n v h =
-    reaching_near b n 0 v (pos (G v)) (pos v) (omega (arith, ap (λ (i : ℕ). fib (suc (suc i))) (zero-add n)))
-    (record { above = omega (arith, fib_positive 1); below = omega (arith, fib_positive 1) })
-    (record { above = omega (arith, fib_positive 0); below = omega (arith, fib_positive 0) })

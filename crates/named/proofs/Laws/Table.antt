@@ -13,7 +13,7 @@ use Rattle.modular.specs.Inverses.{bad_exponent}
 use Rattle.tape.specs.declared.Step.{Step}
 use Rattle.tape.specs.Words.{number_limit}
 use Rattle.named.specs.Generators.{Forms, generated}
-use Rattle.named.specs.Named.{Variant, basic_forms, dual_forms, hybrid_forms, modular_forms, variants, forms_in, forms_for, programs_for, named_steps}
+use Rattle.named.specs.Named.{Variant, basic_forms, dual_forms, hybrid_forms, variants, forms_in, forms_for, programs_for, named_steps}
 use Rattle.named.specs.Promises.{FormsFit, IsProgram}
 use Rattle.named.specs.Members.{Member}
 use Rattle.named.specs.Parameters.{bad_variant}
@@ -22,7 +22,6 @@ use Rattle.named.proofs.Laws.Parameters.{named_some, named_most}
 use Rattle.named.proofs.Laws.Basic.{basic_fits, basic_program}
 use Rattle.named.proofs.Laws.Dual.{dual_fits, dual_program}
 use Rattle.named.proofs.Laws.Hybrid.{hybrid_fits, hybrid_program}
-use Rattle.named.proofs.Laws.Modular.{modular_fits, modular_program}
 
 -- ---- the rows
 
@@ -47,10 +46,7 @@ promised forms fits program = record {
 all_promised : AllRows VariantPromises variants
 all_promised = (
   promised basic_forms basic_fits basic_program,
-  (
-    promised dual_forms dual_fits dual_program,
-    (promised hybrid_forms hybrid_fits hybrid_program, (promised modular_forms modular_fits modular_program, tt)),
-  ),
+  (promised dual_forms dual_fits dual_program, (promised hybrid_forms hybrid_fits hybrid_program, tt)),
 )
 
 -- ---- over any table

@@ -51,19 +51,15 @@ returns-7 c = rw (c.before.before.before.before.before.before.enum-told7.given.1
 
 returns-8 : tie.Need-returns-8
 unfolding number_reply
-returns-8 c = rw (c.before.before.before.before.before.before.before.before.enum-told8.given.1, first, second, third, ← c.before.before.before.before.before.before.small6.ensures, ← c.before.before.before.before.before.small7.ensures, ← c.before.before.before.before.small8.ensures, ← c.before.before.before.solution.ensures.0) c.before.before.answer3.ensures
+returns-8 c = rw (c.before.before.before.before.before.before.before.enum-told8.given.1, first, ← c.before.before.before.before.before.small6.ensures, ← c.before.before.before.before.is-prime.ensures, ← c.before.before.before.bit.ensures) c.before.before.number3.ensures
 
 returns-9 : tie.Need-returns-9
 unfolding number_reply
-returns-9 c = rw (c.before.before.before.before.before.before.before.enum-told9.given.1, first, ← c.before.before.before.before.before.small9.ensures, ← c.before.before.before.before.is-prime.ensures, ← c.before.before.before.bit.ensures) c.before.before.number3.ensures
+returns-9 c = rw (c.before.before.before.before.before.before.before.before.enum-told9.given.1, first, second, third, ← c.before.before.before.before.before.before.small7.ensures, ← c.before.before.before.before.before.small8.ensures, ← c.before.before.before.before.small9.ensures, ← c.before.before.before.product.ensures) c.before.before.number4.ensures
 
 returns-10 : tie.Need-returns-10
 unfolding number_reply
-returns-10 c = rw (c.before.before.before.before.before.before.before.before.enum-told10.given.1, first, second, third, ← c.before.before.before.before.before.before.small10.ensures, ← c.before.before.before.before.before.small11.ensures, ← c.before.before.before.before.small12.ensures, ← c.before.before.before.product.ensures) c.before.before.number4.ensures
-
-returns-11 : tie.Need-returns-11
-unfolding number_reply
-returns-11 c = rw (c.before.before.before.before.before.before.before.before.enum-told11.given.1, first, second, third, ← c.before.before.before.before.before.before.small13.ensures, ← c.before.before.before.before.before.small14.ensures, ← c.before.before.before.before.small15.ensures, ← c.before.before.before.power.ensures) c.before.before.number5.ensures
+returns-10 c = rw (c.before.before.before.before.before.before.before.before.enum-told10.given.1, first, second, third, ← c.before.before.before.before.before.before.small10.ensures, ← c.before.before.before.before.before.small11.ensures, ← c.before.before.before.before.small12.ensures, ← c.before.before.before.power.ensures) c.before.before.number5.ensures
 
 pub on-numbers-spec : {M : Type 1} → statement M
 on-numbers-spec =
@@ -95,12 +91,6 @@ on-numbers-spec =
     (λ c κs. search rules)
     (λ c κs. search rules)
     (λ c. search rules)
-    (λ c κs. search rules)
-    (λ c. search rules)
-    (λ c κs. search rules)
-    (λ c κs. search rules)
-    (λ c κs. search rules)
-    (λ c κs. search rules)
     (λ c κs. search rules)
     (λ c. search rules)
     (λ c κs. search rules)
@@ -140,6 +130,4 @@ on-numbers-spec =
     (λ c. search rules)
     returns-9
     (λ c. search rules)
-    returns-10
-    (λ c. search rules)
-    returns-11)
+    returns-10)

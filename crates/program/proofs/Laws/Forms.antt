@@ -15,21 +15,19 @@ use Rattle.fibonacci.specs.declared.BitString.{BitString}
 use Rattle.fibonacci.specs.Fibonacci.{fib, odd}
 use Rattle.fibonacci.specs.Forms.{pad, zeckendorf, ones}
 use Rattle.fibonacci.specs.Height.{height, odd_height}
-use Rattle.fibonacci.specs.Solutions.{solution_or_zero}
 use Rattle.fibonacci.specs.Services.{fibonacci_or_zero, bit, bit_row, places_of}
 use Rattle.fibonacci.proofs.Laws.Fibonacci.{fib_monotone, odd_one, odd_zero, fibonacci_below_94}
 use Rattle.fibonacci.proofs.Laws.Forms.{pad_length, ones_pad, ones_places}
 use Rattle.fibonacci.proofs.Laws.Zeckendorf.{zeckendorf_count_64}
 use Rattle.fibonacci.proofs.Laws.BitStrings.{take_bits}
-use Rattle.fibonacci.proofs.Laws.Height.{zeckendorf_height, height_28, odd_height_is}
+use Rattle.fibonacci.proofs.Laws.Height.{zeckendorf_height, height_28, height_le_odd, odd_height_is, odd_height_28}
 use Rattle.fibonacci.proofs.Laws.Lengths.{multiple_64}
-use Rattle.fibonacci.proofs.Laws.Solving.{solution_below}
 use Rattle.tape.specs.Words.{step_word}
 use Rattle.named.specs.declared.Figure.{Figure}
-use Rattle.named.specs.declared.Figure.TheVariants.{Two, Four, Six}
+use Rattle.named.specs.declared.Figure.TheVariants.{Two, Four}
 use Rattle.named.specs.Generators.{Forms, lone, generated, steps_from}
 use Rattle.named.specs.Promises.{FormsFit}
-use Rattle.named.specs.Named.{dual_form, dual_forms, hybrid_forms, modular_forms, forms_for}
+use Rattle.named.specs.Named.{basic_forms, dual_form, dual_forms, hybrid_forms, forms_in}
 use Rattle.named.proofs.Laws.Lengths.{generated_count}
 use Rattle.program.specs.declared.FormRows.{FormRows}
 use Rattle.program.specs.Inner.Forms.{Invertible, BitsOf, bits_of, rows_of, Whole, RowsFromTable}
@@ -62,7 +60,7 @@ pad_pad (suc m) zero bs h = absurd (omega arith)
 pad_pad (suc m) (suc n) [] h = ap (λ (l : List Bool). false ∷ l) (pad_pad m n [] (omega arith))
 pad_pad (suc m) (suc n) (b ∷ bs) h = ap (λ (l : List Bool). b ∷ l) (pad_pad m n bs (omega arith))
 
-pub padded : (n m : ℕ) {b : BitString} → m ≤ 92 → length (zeckendorf n) ≤ m → BitsOf n b → Holds (pad m (zeckendorf n)) b.bits m b.count
+padded : (n m : ℕ) {b : BitString} → m ≤ 92 → length (zeckendorf n) ≤ m → BitsOf n b → Holds (pad m (zeckendorf n)) b.bits m b.count
 padded n m high low b = record {
   bits_are = b.bits_are ∙ ap (map bit) (sym (pad_pad m 92 (zeckendorf n) high));
   size_is = sym (pad_length m (zeckendorf n) low);
@@ -157,38 +155,33 @@ module _ {r k K : ℕ} (b : Invertible r k K) where
   pub multiple_fits : {h f : ℕ} → h ≡ height r → f ≡ fibonacci_or_zero (h + 1 - h % 2 + 1) → k * f < 2 ^ 64
   multiple_fits e w = rw (multiple_is e w) (omega (arith, multiple_64 r k b.order exponent_below))
 
-  -- the form of K padded to l, for figure 6
-  pub inverse_fits : {h l : ℕ} → h ≡ height r → h ≤ l → length (zeckendorf K) ≤ l
-  inverse_fits e low = omega (arith, zeckendorf_height r K inverse_below)
-
-  pub hybrid_rows : {h f : ℕ} {rows : FormRows} → h ≡ height r → f ≡ fibonacci_or_zero (h + 1 - h % 2 + 1)
-      → rows ≡ rows_of (lone Six (zeckendorf (k * f)) (pad (h + 1 - h % 2) (zeckendorf K))) → rows ≡ rows_of (hybrid_forms r k)
-  unfolding hybrid_forms
-  hybrid_rows e w rows_are = rw (multiple_is e w, odd_height_lem r e, b.inverse_is) at rows_are
-
-  -- variant 4
-  residue_is : {f i j : ℕ} → i ≤ 93 → i ≡ j → f ≡ fibonacci_or_zero i → remainder (k * f) r ≡ k * fib j % r
-  residue_is low same w =
-      remainder_is (k * _) r (omega (arith, exponent_below)) ∙ ap (λ (n : ℕ). k * n % r) (fibonacci_below_94 w low ∙ ap fib same)
-
-  pub modular_rows : {h f g s t v : ℕ} {rows : FormRows} → h ≡ height r → f ≡ fibonacci_or_zero h → g ≡ fibonacci_or_zero (h + 1)
-      → s ≡ remainder (k * f) r → t ≡ remainder (k * g) r → v ≡ solution_or_zero r s t
-      → rows ≡ rows_of (lone Six (zeckendorf v) (pad h (zeckendorf K))) → rows ≡ rows_of (modular_forms r k)
-  unfolding modular_forms
-  modular_rows e low high s_is t_is v_is rows_are =
-      let small = height_small e in
-      let some : 0 < r = omega (arith, exponent_below) in
-      let es = s_is ∙ residue_is {j = height r} (omega arith) e low in
-      let et = t_is ∙ residue_is {j = suc (height r)} (omega arith) (omega arith) high in
-      let ev = v_is ∙ ap₂ (solution_or_zero r) es et ∙ solution_below r _ _ (omega (arith, b.order)) (mod-lt (k * fib (height r)) some) (mod-lt (k * fib (suc (height r))) some) in
-      rw (ev, e, b.inverse_is) at rows_are
+  pub hybrid_rows : {h f : ℕ} {v held : BitString} → h ≡ height r → f ≡ fibonacci_or_zero (h + 1 - h % 2 + 1) → Answers (k * f) v → BitsOf K held
+      → (Holds (zeckendorf (k * fib (suc (odd_height r)))) v.bits v.length v.count)
+      × (Holds (pad (odd_height r) (zeckendorf (inverse r k))) held.bits (h + 1 - h % 2) held.count)
+  hybrid_rows e w a held = (
+    rw (multiple_is e w) at (whole (k * _) a),
+    rw (odd_height_lem r e, ← b.inverse_is)
+        (padded K (odd_height r) (omega (arith, odd_height_28 r b.order)) (omega (arith, zeckendorf_height r K inverse_below, height_le_odd r)) held),
+  )
 
 -- ---- from the rows of a variant's forms to those that the table gives
 
-module _ {variant r k : ℕ} {rows : FormRows} where
-  pub given : (number : ℕ) (f : Forms) → forms_for number r k ≡ f ∷ [] → variant ≡ number → rows ≡ rows_of f → RowsFromTable variant r k rows
-  given number f picked here e =
-      record { forms = f; forms_are = ap (λ (n : ℕ). forms_for n r k) here ∙ picked; rows_are = e }
+module _ (variant r k : ℕ) {rows : FormRows} where
+  pub given_basic : {K : ℕ} → K ≡ inverse r k → variant ≡ 1 → rows ≡ rows_of (lone Two (zeckendorf k) (zeckendorf K)) → RowsFromTable variant r k rows
+  unfolding forms_in basic_forms
+  given_basic inverse_is is e = record {
+    forms = basic_forms r k;
+    forms_are = rw is refl;
+    rows_are = e ∙ ap (λ (n : ℕ). rows_of (lone Two (zeckendorf k) (zeckendorf n))) inverse_is;
+  }
+
+  pub given_dual : variant ≡ 2 → rows ≡ rows_of (dual_forms r k) → RowsFromTable variant r k rows
+  unfolding forms_in
+  given_dual is e = record { forms = dual_forms r k; forms_are = rw is refl; rows_are = e }
+
+  pub given_hybrid : variant ≡ 3 → rows ≡ rows_of (hybrid_forms r k) → RowsFromTable variant r k rows
+  unfolding forms_in
+  given_hybrid is e = record { forms = hybrid_forms r k; forms_are = rw is refl; rows_are = e }
 
 -- ---- how many steps they give
 

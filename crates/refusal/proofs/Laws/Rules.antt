@@ -6,7 +6,7 @@ use mathlib.Core.List.{List, [], ◌∷◌, ◌++◌}
 use Prim.Native.Nat.{ℕ, ◌≤◌}
 use native.Mathlib.Omega.{arith}
 use Rattle.refusal.specs.declared.Refusal.{Refusal}
-use Rattle.refusal.specs.declared.Refusal.TheVariants.{Modulus, Order, Exponent, Variant, Room, Length, Word, Mismatch, Register, Position, Base, Range, Index, Count, Residue}
+use Rattle.refusal.specs.declared.Refusal.TheVariants.{Modulus, Order, Exponent, Variant, Room, Length, Word, Mismatch, Register, Position, Base, Range, Index, Count}
 use Rattle.refusal.specs.Refusals.{number_of}
 use Rattle.refusal.specs.Outcomes.{Outcome, Rule, refused, answered, outcome, applies, refusal_number, and_then, after, ◌given_if◌}
 
@@ -79,7 +79,7 @@ refused_where ((e given_if false) ∷ rules) x = refused_where rules x
 
 -- ---- the number that comes back
 
-pub number_range : (e : Refusal) → (1 ≤ number_of e) × (number_of e ≤ 15)
+pub number_range : (e : Refusal) → (1 ≤ number_of e) × (number_of e ≤ 14)
 number_range Modulus = omega arith
 number_range Order = omega arith
 number_range Exponent = omega arith
@@ -94,9 +94,8 @@ number_range Base = omega arith
 number_range Range = omega arith
 number_range Index = omega arith
 number_range Count = omega arith
-number_range Residue = omega arith
 
-pub refused_range : {A : Type 0} (rules : List Rule) (x : A) {n : ℕ} → outcome rules x ≡ refused n → (1 ≤ n) × (n ≤ 15)
+pub refused_range : {A : Type 0} (rules : List Rule) (x : A) {n : ℕ} → outcome rules x ≡ refused n → (1 ≤ n) × (n ≤ 14)
 unfolding outcome
 refused_range [] x e = let z : ◌≡◌ {A = ℕ} 0 1 = cc in absurd (omega arith)
 refused_range ((r given_if true) ∷ rules) x {n} e = let same : number_of r ≡ n = cc in rw same at (number_range r)

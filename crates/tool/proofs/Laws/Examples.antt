@@ -18,7 +18,6 @@ use Rattle.fibonacci.specs.Forms.{pad, greedy, zeckendorf, places_from, weight, 
 use Rattle.fibonacci.specs.Height.{reaches, first_from, height}
 use Rattle.fibonacci.specs.Hofstadter.{hofstadter_to, G}
 use Rattle.fibonacci.specs.Services.{fibonacci_outcome, number_outcome}
-use Rattle.fibonacci.specs.Solutions.{solution_rules, solution_outcome}
 use Rattle.tape.specs.Words.{heading_in, action_in, swap_in, decoded, step_word, encoded}
 use Rattle.tape.specs.Layout.{is_length, is_header, is_free_or_named, all_steps, is_end, laid_out, part, program_words}
 use Rattle.encoding.specs.Encoding.{tape_of, bytes_of, no_tape, tape_in}
@@ -81,7 +80,7 @@ examples =
     replies ("build" ∷ "7" ∷ "3" ∷ "2" ∷ "free" ∷ []) (refuses 4 4)
     ∷ replies ("script" ∷ []) (complains script_line)
     ∷ replies ("help" ∷ []) (answers usage)
-    ∷ prints ("version" ∷ []) "fibexp 3.1.0\n"
+    ∷ prints ("version" ∷ []) "fibexp 3.0.0\n"
     ∷ tape_prints ("check" ∷ []) "0\n"
     ∷ tape_prints ("list" ∷ []) "free p=7 r=0 k=0 steps=1\n1 mul 0 1\n"
     ∷ tape_prints ("load" ∷ "3" ∷ []) "1 3 1 1 0\n"
@@ -102,13 +101,11 @@ examples =
     ∷ prints ("hofstadter" ∷ "10" ∷ []) "6\n"
     ∷ prints ("inverse" ∷ "2" ∷ "5" ∷ []) "3\n"
     ∷ prints ("height" ∷ "4" ∷ []) "3\n"
-    ∷ replies ("solution" ∷ "5" ∷ "7" ∷ "0" ∷ []) (refuses 2 15)
-    ∷ replies ("solution" ∷ "268435455" ∷ "0" ∷ "0" ∷ []) (refuses 2 2)
     ∷ prints ("prime" ∷ "7" ∷ []) "1\n"
     ∷ prints ("mulmod" ∷ "5" ∷ "6" ∷ "7" ∷ []) "2\n"
     ∷ prints ("powmod" ∷ "3" ∷ "4" ∷ "5" ∷ []) "1\n"
     ∷ []
 
 pub examples_hold : AllHold examples
-unfolding reply asked_by numbers_from parameter_in variant_in row_named index_in names rows entries built tape_reply number_reply digit_of all_digits value_from number_from in_base is_hexadecimal parse_number same_words on_tape decimal_within decimal whole line outcome tape_in no_tape tape_of bytes_of is_length is_header is_free_or_named all_steps is_end laid_out part program_words encoded step_word decoded heading_in action_in swap_in named_steps forms_in basic_forms drawn basic ascend inverted inverse_step is_one_of same_steps same_step check_rules build_outcome bad_modulus bad_order bad_variant is_prime greatest gcd bad_exponent inverse inverse_outcome remainder times bad_register bad_registers allowed is_order bad_base load_outcome base_rules record_rules goal_rules trace_rules run_outcome forward_outcome trace_outcome bad_cut cut_rules cut_outcome row_rules raise_rules raised on_row raise_outcome raised_bases table_rules table_outcome table_of table_stays neighbour past_end step_rules step_outcome preview_outcome way counts_of count_where is_mul is_div is_swp after_all numbers_all requests_of run do_all undo_all apply stays_in_range all_in_range in_range shift_all shift step_lines fib lucas pad greedy zeckendorf places_from weight are_places reaches first_from height hofstadter_to G fibonacci_outcome number_outcome solution_rules solution_outcome
-examples_hold = (refl, (refl, (refl, (refl, (refl, (refl, (refl, (refl, (refl, (refl, (refl, (refl, (refl, (refl, (refl, (refl, (refl, (refl, (refl, (refl, (refl, (refl, (refl, (refl, (refl, (refl, (refl, (refl, (refl, tt)))))))))))))))))))))))))))))
+unfolding reply asked_by numbers_from parameter_in variant_in row_named index_in names rows entries built tape_reply number_reply digit_of all_digits value_from number_from in_base is_hexadecimal parse_number same_words on_tape decimal_within decimal whole line outcome tape_in no_tape tape_of bytes_of is_length is_header is_free_or_named all_steps is_end laid_out part program_words encoded step_word decoded heading_in action_in swap_in named_steps forms_in basic_forms drawn basic ascend inverted inverse_step is_one_of same_steps same_step check_rules build_outcome bad_modulus bad_order bad_variant is_prime greatest gcd bad_exponent inverse inverse_outcome remainder times bad_register bad_registers allowed is_order bad_base load_outcome base_rules record_rules goal_rules trace_rules run_outcome forward_outcome trace_outcome bad_cut cut_rules cut_outcome row_rules raise_rules raised on_row raise_outcome raised_bases table_rules table_outcome table_of table_stays neighbour past_end step_rules step_outcome preview_outcome way counts_of count_where is_mul is_div is_swp after_all numbers_all requests_of run do_all undo_all apply stays_in_range all_in_range in_range shift_all shift step_lines fib lucas pad greedy zeckendorf places_from weight are_places reaches first_from height hofstadter_to G fibonacci_outcome number_outcome
+examples_hold = (refl, (refl, (refl, (refl, (refl, (refl, (refl, (refl, (refl, (refl, (refl, (refl, (refl, (refl, (refl, (refl, (refl, (refl, (refl, (refl, (refl, (refl, (refl, (refl, (refl, (refl, (refl, tt)))))))))))))))))))))))))))

@@ -16,7 +16,6 @@ use Rattle.tape.specs.declared.Decoded.{Decoded}
 use Rattle.tape.specs.declared.Decoded.TheVariants.{Heading, P, R, K, Action, End, Bad}
 use Rattle.modular.specs.Inverses.{inverse_outcome}
 use Rattle.fibonacci.specs.Services.{fibonacci_outcome, number_outcome}
-use Rattle.fibonacci.specs.Solutions.{solution_outcome}
 use Rattle.tape.specs.Words.{decoded}
 use Rattle.tape.specs.Layout.{max_words, steps_of, program_words}
 use Rattle.encoding.specs.Encoding.{bytes_of}
@@ -33,7 +32,7 @@ use Rattle.listing.specs.Listing.{first_line, step_lines, lines_for}
 use Rattle.tool.specs.declared.TapeVerb.{TapeVerb}
 use Rattle.tool.specs.declared.TapeVerb.TheVariants.{Check, Listing, Load, Run, SingleStep, Preview, Power, Raise, Trace, Table, Cut, Play}
 use Rattle.tool.specs.declared.NumberVerb.{NumberVerb}
-use Rattle.tool.specs.declared.NumberVerb.TheVariants.{Decode, Fibonacci, Places, NumberOf, Hofstadter, Inverse, Height, Solution, Prime, MulMod, PowMod}
+use Rattle.tool.specs.declared.NumberVerb.TheVariants.{Decode, Fibonacci, Places, NumberOf, Hofstadter, Inverse, Height, Prime, MulMod, PowMod}
 use Rattle.tool.specs.declared.Verb.{Verb}
 use Rattle.tool.specs.declared.Verb.TheVariants.{Unknown, Build, Script, Help, Version, OnTape, OnNumbers, InScript}
 use Rattle.tool.specs.declared.Row.{Row}
@@ -102,7 +101,6 @@ on_numbers_some NumberOf own v = some_printed own (number_outcome v) number_line
 on_numbers_some Hofstadter own v = some_line _
 on_numbers_some Inverse own v = some_printed own (inverse_outcome (at v 0) (at v 1)) number_line (λ n. some_line _)
 on_numbers_some Height own v = some_line _
-on_numbers_some Solution own v = some_printed own (solution_outcome (at v 0) (at v 1) (at v 2)) number_line (λ n. some_line _)
 on_numbers_some Prime own v = some_line _
 on_numbers_some MulMod own v = some_line _
 on_numbers_some PowMod own v = some_line _

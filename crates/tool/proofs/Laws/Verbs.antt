@@ -18,7 +18,7 @@ use Rattle.named.specs.Named.{variant_names}
 use Rattle.program.specs.Same.{same_words}
 use Rattle.program.proofs.Laws.Same.{same_itself, same_equal}
 use Rattle.tool.specs.declared.NumberVerb.{NumberVerb}
-use Rattle.tool.specs.declared.NumberVerb.TheVariants.{Decode, Fibonacci, Places, NumberOf, Hofstadter, Inverse, Height, Solution, Prime, MulMod, PowMod}
+use Rattle.tool.specs.declared.NumberVerb.TheVariants.{Decode, Fibonacci, Places, NumberOf, Hofstadter, Inverse, Height, Prime, MulMod, PowMod}
 use Rattle.tool.specs.declared.ScriptVerb.{ScriptVerb}
 use Rattle.tool.specs.declared.ScriptVerb.TheVariants.{Tape, Append, Change, Drop, Behind, Room}
 use Rattle.tool.specs.declared.Verb.{Verb}
@@ -152,7 +152,6 @@ limit_on_lem NumberOf = omega arith
 limit_on_lem Hofstadter = omega arith
 limit_on_lem Inverse = omega arith
 limit_on_lem Height = omega arith
-limit_on_lem Solution = omega arith
 limit_on_lem Prime = omega arith
 limit_on_lem MulMod = omega arith
 limit_on_lem PowMod = omega arith

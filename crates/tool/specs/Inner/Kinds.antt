@@ -12,7 +12,7 @@ abbrev pub tape_count : ℕ
 tape_count = 12
 
 abbrev pub number_count : ℕ
-number_count = 11
+number_count = 10
 
 abbrev pub script_count : ℕ
 script_count = 6

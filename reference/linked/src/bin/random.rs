@@ -7,9 +7,9 @@
 //! and outputs lie between canaries, drawn anew for each call, and a refused call leaves all of them.
 //! The first difference is printed with its input and ends the program with status 1.
 //!
-//! The calls come in rounds. A round draws two tapes and makes 34 calls: of each tape check, load, run,
+//! The calls come in rounds. A round draws two tapes and makes 30 calls: of each tape check, load, run,
 //! step, preview, raise, trace and table, of one also cut and the listing; two builds; two each of places,
-//! number, G, the inverse, solutions and the test for them; a Fibonacci number; a height. So the services that take or write tapes, where
+//! number, G and the inverse; a Fibonacci number; a height. So the services that take or write tapes, where
 //! most can go wrong, have more than half of the calls. One round in four also gives the tool more than
 //! fifty command lines of every verb, a fifth of them damaged, with a third tape on standard input. Of the
 //! tapes nine in sixteen are what build writes for drawn parameters, four are hand-made, two have a
@@ -19,10 +19,7 @@
 //! Of the bases to load eleven in sixteen have order r and two a smaller one. A row has 0 to 66 bases of
 //! order r, but half of the rows have one or two that are drawn to be bad: out of range, of smaller order, or
 //! without a^r = 1. Half of the builds have a fault in p, r, k, the variant or all of them. The primes are
-//! those at the ends and 6000 drawn ones of every size up to 2^28. Two in five of the solutions are asked with
-//! r, s or t out of range. In a quarter of the tests for them the number is drawn first, most often beside the
-//! largest that a solution may be, and s and t are the residues that it has; else it is the solution for drawn
-//! ones, or another number with these residues, or one beside it or beside the largest, or any.
+//! those at the ends and 6000 drawn ones of every size up to 2^28.
 
 use linked::lent::{inner, Canaries, Lent};
 use linked::proved;
@@ -32,7 +29,6 @@ use reference::drawing::bases;
 use reference::drawing::commands::commands;
 use reference::drawing::noise::Noise;
 use reference::drawing::parameters::{inverse_call, Fields, Parameters};
-use reference::drawing::solutions;
 use reference::drawing::tapes::{modulus_and_order, steps, tape, ROW_WORDS};
 use reference::drawing::values::{self as draw, MOST_PLACES};
 use reference::tool::{reads_tape, reply, Reply};
@@ -42,7 +38,7 @@ use std::hint::black_box;
 
 const SEED: u64 = 359_179;
 const CALLS: u64 = 10_000_000;
-const MOST_LISTING: usize = 6138;
+const MOST_LISTING: usize = 6137;
 const MOST_TEXT: usize = 8192;
 
 fn main() {
@@ -105,8 +101,6 @@ impl Comparison {
             self.number();
             self.hofstadter();
             self.inverse();
-            self.solution();
-            self.is_solution();
         }
         if self.noise.once_in(4) {
             let (tape, commands) = commands(fields, &mut self.noise);
@@ -181,24 +175,6 @@ impl Comparison {
         let answer = lent.settled(services::inverse(k, r));
         let call = || format!("inverse {k} modulo {r}");
         self.compare(Service::Inverse, call, (number, inverse), answer);
-    }
-
-    fn solution(&mut self) {
-        let [r, s, t] = solutions::call(&mut self.noise);
-        let lent = Lent::new(&mut self.noise, Noise::number);
-        let mut v = lent;
-        let number = proved::solution(r, s, t, &mut v.value);
-        let answer = lent.settled(services::solution(r, s, t));
-        let call = || format!("solution {r} {s} {t}");
-        self.compare(Service::Solution, call, (number, v), answer);
-    }
-
-    fn is_solution(&mut self) {
-        let ([r, s, t], v) = solutions::proposal(&mut self.noise);
-        let answer = proved::is_solution(r, s, t, v);
-        let expected = services::is_solution(r, s, t, v) as u32;
-        let call = || format!("is {v} a solution of {r} {s} {t}");
-        self.compare(Service::IsSolution, call, (answer, ()), (expected, ()));
     }
 
     // ---- services over tapes

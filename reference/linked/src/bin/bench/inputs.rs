@@ -36,7 +36,6 @@ pub const EVERY: &[Variant] = &[
     variant(1, "basic"),
     variant(2, "dual"),
     variant(3, "hybrid"),
-    variant(4, "modular"),
     variant(0, "free"),
 ];
 /// Those that build writes.
@@ -90,13 +89,10 @@ pub struct Inputs {
     pub registers: Vec<[u32; 4]>,
     pub numbers: Vec<u64>,
     pub lists: Vec<Vec<u8>>,
-    /// Two residues of r, s and t, and a solution for them.
-    pub residues: Vec<[u32; 2]>,
-    pub solutions: Vec<u64>,
-    /// The tapes by variant: hand-made ones, then those of variants 1 to 4 for each exponent.
-    tapes: [Vec<Vec<u32>>; 5],
+    /// The tapes by variant: hand-made ones, then those of variants 1, 2, 3 for each exponent.
+    tapes: [Vec<Vec<u32>>; 4],
     /// The same as bytes.
-    bytes: [Vec<Vec<u8>>; 5],
+    bytes: [Vec<Vec<u8>>; 4],
 }
 
 impl Size {
@@ -107,7 +103,7 @@ impl Size {
         let numbers = drawn(|| noise.number() % most + 1);
         let bases = many_proper(&mut noise, p, r, INPUTS);
         let registers = drawn(|| [0; 4].map(|_| noise.between(1, p - 1)));
-        let tapes = [0, 1, 2, 3, 4].map(|variant: u32| match variant {
+        let tapes = [0, 1, 2, 3].map(|variant: u32| match variant {
             0 => drawn(|| hand_made(&mut noise, p)),
             _ => {
                 let tape = |&k: &u32| named(Parameters { p, r, k, variant });
@@ -117,16 +113,12 @@ impl Size {
         tapes.iter().flatten().for_each(|tape| accepted(tape));
         let named = tapes[1..].iter().flatten();
         named.for_each(|tape| raised(tape, &bases));
-        let residues = drawn(|| [0; 2].map(|_| noise.below(r)));
         Inputs {
             p,
             r,
             lists: numbers.iter().map(|&n| places_of(n)).collect(),
-            bytes: tapes
-                .each_ref()
-                .map(|tapes| tapes.iter().map(|tape| bytes_of(tape)).collect()),
-            solutions: residues.iter().map(|&two| solved(r, two)).collect(),
-            residues,
+            bytes: [0, 1, 2, 3]
+                .map(|variant: usize| tapes[variant].iter().map(|tape| bytes_of(tape)).collect()),
             tapes,
             exponents,
             bases,
@@ -200,15 +192,6 @@ fn accepted(tape: &[u32]) {
 fn raised(tape: &[u32], bases: &[u32]) {
     assert_eq!(proved::raise(tape, &mut bases.to_vec()), 0);
     assert_eq!(services::raise(tape, &mut bases.to_vec()), Ok(()));
-}
-
-/// Neither side refuses these residues, and both take the number for a solution.
-fn solved(r: u32, [s, t]: [u32; 2]) -> u64 {
-    let mut v = 0;
-    assert_eq!(proved::solution(r, s, t, &mut v), 0);
-    assert_eq!(proved::is_solution(r, s, t, v), 1);
-    assert!(services::solution(r, s, t).is_ok() && services::is_solution(r, s, t, v));
-    v
 }
 
 fn places_of(n: u64) -> Vec<u8> {

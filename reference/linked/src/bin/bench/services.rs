@@ -8,7 +8,7 @@ use reference::drawing::tapes::steps;
 use reference::Record;
 use std::hint::black_box;
 
-const MOST_LISTING: usize = 6138;
+const MOST_LISTING: usize = 6137;
 /// A row has all bases, and these are as many as it may have.
 const BASES: usize = INPUTS;
 /// A call takes long with so many bases, so a batch has fewer.
@@ -78,8 +78,6 @@ pub static SERVICES: &[Service] = &[
     service("cut", NAMED, false, PROGRAM, cut),
     service("listing", NAMED, false, PROGRAM, listing),
     service("inverse", NONE, false, "inverse", inverse),
-    service("solution", NONE, false, "G", solution),
-    service("is_solution", NONE, false, "G", is_solution),
     service("places", NONE, false, "forms", places),
     service("number", NONE, false, "", number),
     service("G", NONE, false, "G", hofstadter),
@@ -326,37 +324,6 @@ fn inverse(inputs: &Inputs, _: u32) -> Pair<'_> {
         move |i| {
             let k = black_box(inputs.exponents[i]);
             let _ = black_box(services::inverse(k, black_box(r)));
-        },
-    )
-}
-
-fn solution(inputs: &Inputs, _: u32) -> Pair<'_> {
-    let r = inputs.r;
-    let mut v = 0;
-    Pair::new(
-        move |i| {
-            let [s, t] = black_box(inputs.residues[i]);
-            black_box(proved::solution(black_box(r), s, t, &mut v));
-            black_box(v);
-        },
-        move |i| {
-            let [s, t] = black_box(inputs.residues[i]);
-            let _ = black_box(services::solution(black_box(r), s, t));
-        },
-    )
-}
-
-/// Of the solutions, so that all is tested.
-fn is_solution(inputs: &Inputs, _: u32) -> Pair<'_> {
-    let r = inputs.r;
-    Pair::new(
-        move |i| {
-            let ([s, t], v) = black_box((inputs.residues[i], inputs.solutions[i]));
-            black_box(proved::is_solution(black_box(r), s, t, v));
-        },
-        move |i| {
-            let ([s, t], v) = black_box((inputs.residues[i], inputs.solutions[i]));
-            black_box(services::is_solution(black_box(r), s, t, v));
         },
     )
 }
