@@ -282,9 +282,9 @@ def turn(path, fun, where):
 
     def cite(b, place, but=None):
         for h in helpers:
-            if h != but and re.search(r"(?<![\w.'-])" + re.escape(h) + r"(?![\w'-])", b):
+            if h != but and re.search(r"(?<![\w.'-])" + re.escape(h) + r"(?![\w'-]| = )", b):
                 new = helper(h, place)
-                b = re.sub(r"(?<![\w.'-])" + re.escape(h) + r"(?![\w'-])", new, b)
+                b = re.sub(r"(?<![\w.'-])" + re.escape(h) + r"(?![\w'-]| = )", new, b)
         return b
 
     for decl, need, b in goals:

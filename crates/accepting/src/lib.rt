@@ -1,4 +1,6 @@
 // Check: a tape is accepted where it is laid out, its numbers are allowed and, for a named program, its steps are those that build writes.
+#![tactic(auto)]
+
 ghost use Rattle.std.specs.Prelude.{◌≡◌, true};
 ghost use Rattle.refusal.specs.Outcomes.{number_outcome_of, answered};
 ghost use Rattle.tape.specs.Layout.{header_of, header_outcome, header_outcome_of};

@@ -1,4 +1,6 @@
 // What a call comes to in a script: the verbs that only a script has, those that look at the room, and all others as in the tool.
+#![tactic(auto)]
+
 ghost use Rattle.std.specs.Prelude.{◌≡◌, cond};
 ghost use Rattle.scripting.specs.Script.{is_places, is_listing};
 ghost use Rattle.scripting.specs.Inner.Acts.{act_by, act_of, count_of};

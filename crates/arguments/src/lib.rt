@@ -1,4 +1,6 @@
 // A command line is read: its verb and its parameters; whether it reads a tape or a script, and whether it answers a tape.
+#![tactic(auto)]
+
 ghost use Rattle.std.specs.Prelude.{◌≡◌, ◌+◌, ◌<◌, get_or};
 ghost use Rattle.text.specs.Reading.{split_words};
 ghost use Rattle.tool.specs.Verbs.{index_in, no_row, row_named, variant_in, parameter_in};

@@ -1,5 +1,7 @@
 // Build in a script, which leaves its tape at hand: it prints the tape's words, or, in a room, the whole buffer that it got, so that what it left
 // of it is seen.
+#![tactic(auto)]
+
 ghost use Rattle.std.specs.Prelude.{◌≡◌, ◌++◌, length, take, drop};
 ghost use Rattle.refusal.specs.Outcomes.{number_outcome_of};
 ghost use Rattle.text.specs.Text.{number_line, numbers_line};

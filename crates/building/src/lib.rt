@@ -1,4 +1,6 @@
 // Build: the words of a named program, written into a lent buffer.
+#![tactic(auto)]
+
 mod drawing;
 mod forms;
 mod words;

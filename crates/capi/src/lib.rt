@@ -2,6 +2,8 @@
 // functions. Each service but `fibexp_hofstadter` and `fibexp_height`, which refuse nothing, answers the refusal's number, 0 on success,
 // and writes through its references only then; `fibexp_listing` writes the line of a refused tape too. `fibexp_reply` and `fibexp_reads`
 // are the tool.
+#![tactic(auto)]
+
 ghost use Rattle.std.specs.Prelude.{◌≡◌, ℕ, ◌≤◌, ◌^◌, ◌<◌, length, take, drop};
 ghost use Rattle.refusal.specs.Outcomes.{answered, number_outcome_of, refusal_number, after};
 ghost use Rattle.modular.specs.Inverses.{inverse_outcome};

@@ -1,4 +1,6 @@
 // Every case of the services, the tool and the scripts, a line of text each.
+#![tactic(auto)]
+
 fn main() {
     driver::run_script();
 }

@@ -1,4 +1,6 @@
 // What the steps of some words make of the start values' exponents: of one start value, a column; of all four, the table.
+#![tactic(auto)]
+
 ghost use Rattle.std.specs.Prelude.{◌≡◌, true, [], ◌∷◌};
 ghost use Rattle.tape.specs.Inner.Operations.{raw_steps};
 ghost use Rattle.matrices.specs.Matrices.{transposed};

@@ -1,4 +1,6 @@
 // The command-line tool: its reply to a command line.
+#![tactic(auto)]
+
 ghost use Rattle.std.specs.Prelude.{◌≡◌, take};
 ghost use Rattle.text.specs.Reading.{split_words};
 ghost use Rattle.tool.specs.Verbs.{largest32, max_parameters, limit_of};

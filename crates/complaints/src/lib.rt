@@ -1,4 +1,6 @@
 // What is said of a command line that isn't understood. Each function puts its line from the buffer's start.
+#![tactic(auto)]
+
 ghost use Rattle.text.specs.Rows.{Put};
 ghost use Rattle.tool.specs.Texts.{no_verb_line, from_text, count_text, wrong_count_line, unread_line, usage};
 

@@ -1,4 +1,6 @@
 // Whether registers and bases are allowed.
+#![tactic(auto)]
+
 ghost use Rattle.std.specs.Prelude.{◌≡◌, ◌≤◌};
 ghost use Rattle.refusal.specs.Outcomes.{outcome, number_outcome_of};
 ghost use Rattle.orders.specs.Orders.{is_order};

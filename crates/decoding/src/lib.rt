@@ -1,4 +1,6 @@
 // What the words of a tape mean.
+#![tactic(auto)]
+
 mod payloads;
 mod steps;
 

@@ -1,4 +1,6 @@
 // Whether a small number divides p. Four products of 16 bits tell it of one number, and a processor makes eight of those at once.
+#![tactic(auto)]
+
 mod table;
 
 ghost use Rattle.std.specs.Prelude.{◌≡◌, ◌<◌};

@@ -1,4 +1,6 @@
 // Scripts from standard input: read piece by piece, done line by line.
+#![tactic(auto)]
+
 ghost use Rattle.std.specs.Prelude.{◌≡◌, ◌≤◌, length, take};
 ghost use Rattle.scripting.specs.Script.{max_printed, line_done};
 ghost use Rattle.scripting.specs.States.{capacity_of, state_in, inside_of};

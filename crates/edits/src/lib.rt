@@ -1,4 +1,6 @@
 // The verbs that only a script has: they change the tape at hand, and the room.
+#![tactic(auto)]
+
 ghost use Rattle.std.specs.Prelude.{◌≡◌, [], ◌++◌, ◌+◌, ◌-◌, ◌≤◌, length, take, drop};
 ghost use Rattle.text.specs.Text.{number_line};
 ghost use Rattle.text.specs.Rows.{Put};

@@ -1,4 +1,6 @@
 // A tape as bytes: the one way from bytes to words and back.
+#![tactic(auto)]
+
 mod words;
 
 ghost use Rattle.std.specs.Prelude.{◌≡◌, [], ◌∷◌, ◌%◌};

@@ -1,4 +1,6 @@
 // Steps on whole exponents, within their range.
+#![tactic(auto)]
+
 mod whole;
 
 ghost use Rattle.std.specs.Prelude.{◌≡◌};

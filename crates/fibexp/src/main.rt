@@ -1,5 +1,7 @@
 // The command-line tool: gathers its arguments, reads a tape or a script from standard input where the verb takes one, and writes the
 // reply.
+#![tactic(auto)]
+
 ghost use Rattle.std.specs.Prelude.{◌≡◌, ◌≤◌, length, take};
 ghost use Rattle.text.specs.Reading.{split_words};
 ghost use Rattle.tool.specs.Replies.{reply};

@@ -1,4 +1,6 @@
 // Numbers of the golden ratio: Fibonacci numbers, Hofstadter's G and h.
+#![tactic(auto)]
+
 ghost use Rattle.std.specs.Prelude.{◌≡◌};
 ghost use Rattle.refusal.specs.Outcomes.{number_outcome_of};
 ghost use Rattle.fibonacci.specs.Hofstadter.{G};
@@ -68,7 +70,7 @@ const RANGES: [[u32; 2]; 47] = [
 ];
 
 // Two neighbouring Fibonacci numbers.
-#[derive(Drop)]
+#[derive(Clone, Copy)]
 struct Neighbours(u64, u64);
 
 // A Fibonacci number by its index.

@@ -1,4 +1,6 @@
 // Trace, table and cut: what a tape shows without a run.
+#![tactic(auto)]
+
 ghost use Rattle.std.specs.Prelude.{◌≡◌};
 ghost use Rattle.refusal.specs.Outcomes.{answered, refusal_number};
 ghost use Rattle.machine.specs.Exponents.{exponents_outcome_of};

@@ -1,4 +1,6 @@
 // A line of a script as bytes: whether it is copied, where it says what its reply is, the verdict on that, and a command line's arguments.
+#![tactic(auto)]
+
 ghost use Rattle.std.specs.Prelude.{◌≡◌, cond, [], ◌∷◌, ◌++◌, ◌+◌, ◌<◌, eqb, length, drop};
 ghost use Rattle.text.specs.Text.{blank, newline};
 ghost use Rattle.text.specs.Rows.{Put};

@@ -1,6 +1,8 @@
 // The registers of many bases, each base in a lane of its own, through the same steps. They stand in Montgomery's form in eight rows, the
 // registers 0 to 3 and then the inverse of each, with the lanes side by side. So a step is decoded once, and its products in one lane
 // don't wait for those in another.
+#![tactic(auto)]
+
 mod rows;
 
 ghost use Rattle.std.specs.Prelude.{◌≡◌, length};

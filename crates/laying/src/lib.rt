@@ -1,4 +1,6 @@
 // A tape laid out in a lent buffer: every word but the steps'.
+#![tactic(auto)]
+
 ghost use Rattle.std.specs.Prelude.{◌≡◌, length};
 ghost use Rattle.tape.specs.Layout.{word_count, numbers_fit, lay_begin, laid_buffer};
 

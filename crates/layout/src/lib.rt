@@ -1,4 +1,6 @@
 // A tape's header read, and its layout tested.
+#![tactic(auto)]
+
 mod rules;
 
 ghost use Rattle.std.specs.Prelude.{◌≡◌};

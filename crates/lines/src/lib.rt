@@ -1,4 +1,6 @@
 // Lines of numbers, put into a lent buffer.
+#![tactic(auto)]
+
 ghost use Rattle.std.specs.Prelude.{◌+◌, ◌*◌, ◌≤◌, length};
 ghost use Rattle.text.specs.Text.{decimal, number_line, numbers_line};
 ghost use Rattle.text.specs.Rows.{Put};

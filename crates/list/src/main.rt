@@ -1,4 +1,6 @@
 // The listing program: reads a tape as bytes from standard input and prints its listing.
+#![tactic(auto)]
+
 use encoding::MAX_BYTES;
 use lister::listing;
 use listing::MAX_WRITTEN;

@@ -1,4 +1,6 @@
 // The listing of a tape, written into a lent buffer.
+#![tactic(auto)]
+
 ghost use Rattle.std.specs.Prelude.{◌≡◌, length};
 ghost use Rattle.refusal.specs.Refusals.{number_of};
 ghost use Rattle.refusal.specs.Outcomes.{answered, refusal_number};

@@ -1,4 +1,6 @@
 // The lines of a listing. Each function writes from `at` on and answers the index past what it wrote.
+#![tactic(auto)]
+
 ghost use Rattle.std.specs.Prelude.{[], ◌∷◌, ◌++◌};
 ghost use Rattle.tape.specs.Steps.{Distinct, Sound};
 ghost use Rattle.tape.specs.Layout.{steps_in};

@@ -1,9 +1,11 @@
 // REQUIREMENTS 3: four registers, what a step makes of them modulo p, and of their whole exponents. The definitions
 // and laws of this layer, and the types that they name; it has no functions.
+#![tactic(auto)]
+
 use refusal::Refusal;
 
 // The registers 0 to 3 under the source's names.
-#[derive(Drop)]
+#[derive(Clone, Copy)]
 pub struct Registers {
     pub c: u32,
     pub d: u32,
@@ -12,7 +14,7 @@ pub struct Registers {
 }
 
 // The registers' whole exponents, unreduced, minus signs kept.
-#[derive(Drop)]
+#[derive(Clone, Copy)]
 pub struct Exponents {
     pub c: i64,
     pub d: i64,
@@ -21,14 +23,14 @@ pub struct Exponents {
 }
 
 // Four whole exponents, or a refusal.
-#[derive(Drop)]
+#[derive(Clone, Copy)]
 pub enum ExponentsAnswer {
     Answered(Exponents),
     Refused(Refusal),
 }
 
 // How many of some steps are mul, div and swp.
-#[derive(Drop)]
+#[derive(Clone, Copy)]
 pub struct Counts {
     pub mul: u32,
     pub div: u32,

@@ -1,4 +1,6 @@
 // What a tape's word means.
+#![tactic(auto)]
+
 ghost use Rattle.std.specs.Prelude.{[], ◌∷◌, ◌≤◌, length};
 ghost use Rattle.text.specs.Text.{decimal, line};
 ghost use Rattle.tool.specs.Texts.{step_meaning, meaning};

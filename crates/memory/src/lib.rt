@@ -1,5 +1,7 @@
 // Between the caller's memory and the services' values: an answer is stored and 0 comes back, a refusal stores nothing and its number
 // comes back.
+#![tactic(auto)]
+
 ghost use Rattle.std.specs.Prelude.{◌≡◌};
 ghost use Rattle.refusal.specs.Outcomes.{number_outcome_of, refusal_number, after};
 ghost use Rattle.fibonacci.specs.Services.{bit};

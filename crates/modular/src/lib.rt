@@ -1,4 +1,6 @@
 // Arithmetic modulo m on 32-bit numbers, for every m: products, primes and inverses.
+#![tactic(auto)]
+
 ghost use Rattle.std.specs.Prelude.{◌≡◌, ◌*◌};
 ghost use Rattle.refusal.specs.Outcomes.{number_outcome_of};
 ghost use Rattle.modular.specs.Residues.{remainder};

@@ -1,4 +1,6 @@
 // Products modulo an odd number without a division, by Montgomery's form: x stands as x × 2^32, and a reduction divides by 2^32.
+#![tactic(auto)]
+
 ghost use Rattle.std.specs.Prelude.{◌≡◌, ◌^◌};
 ghost use Rattle.modular.specs.Residues.{remainder};
 ghost use Rattle.montgomery.specs.Inner.Forms.{IsModulus, square_of, lift, reduction, form_times, enter, leave, form_inverse};
@@ -9,7 +11,7 @@ use modular::{inverse_or_zero, product};
 const WORD: u64 = 4294967296;
 
 // A modulus p; its inverse modulo 2^32, where it is odd; and a number from 1 to p that is 2^64 modulo p.
-#[derive(Drop)]
+#[derive(Clone, Copy)]
 pub struct Modulus {
     pub value: u32,
     pub inverse: u32,

@@ -1,7 +1,8 @@
 // The named programs: the definitions and laws of this layer, the figures that draw them, and the variants' names. It has no functions.
+#![tactic(auto)]
 
 // The figures of the paper that programs are drawn by: 2, 4 and 6.
-#[derive(Drop)]
+#[derive(Clone, Copy)]
 pub enum Figure {
     Two,
     Four,

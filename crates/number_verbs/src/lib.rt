@@ -1,4 +1,6 @@
 // The verbs on numbers alone, and build: what is replied to each. A parameter above what a verb can do with counts as the largest that it can.
+#![tactic(auto)]
+
 ghost use Rattle.std.specs.Prelude.{◌≡◌, [], ◌∷◌, take};
 ghost use Rattle.tool.specs.Verbs.{largest8, largest32, max_parameters, limit_on};
 ghost use Rattle.fibonacci.specs.Services.{bit};

@@ -1,4 +1,6 @@
 // The prime divisors of r, by which it is decided whether r is the order of a base.
+#![tactic(auto)]
+
 ghost use Rattle.std.specs.Prelude.{◌≡◌, ◌≤◌, length};
 ghost use Rattle.orders.specs.PrimeDivisors.{primes_of, prime_row};
 ghost use Rattle.orders.specs.Inner.Least.{LeastDivisor};
@@ -9,7 +11,7 @@ use modular::is_prime;
 pub const MAX_PRIMES: usize = 32;
 
 // The prime divisors of a number, the least first, and how many there are; zeros past them.
-#[derive(Drop)]
+#[derive(Clone, Copy)]
 pub struct PrimeDivisors {
     pub primes: [u32; MAX_PRIMES],
     pub count: usize,

@@ -1,4 +1,6 @@
 // What p, k and the variant of a named program may be: the tests of refusals 1, 3 and 4.
+#![tactic(auto)]
+
 ghost use Rattle.std.specs.Prelude.{◌≡◌};
 ghost use Rattle.named.specs.Parameters.{bad_modulus, good_inverse, bad_variant};
 

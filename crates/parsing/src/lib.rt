@@ -1,4 +1,6 @@
 // Numbers and words read from bytes.
+#![tactic(auto)]
+
 mod numbers;
 mod words;
 

@@ -1,4 +1,6 @@
 // Parts of a tape, and of a row of tapes.
+#![tactic(auto)]
+
 ghost use Rattle.std.specs.Prelude.{◌≡◌};
 ghost use Rattle.tape.specs.Layout.{step_index, step_words_of, part};
 

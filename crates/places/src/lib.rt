@@ -1,4 +1,6 @@
 // Lists of places both ways: the list of a number, and the number of a list.
+#![tactic(auto)]
+
 ghost use Rattle.std.specs.Prelude.{◌≡◌, ◌≤◌, ◌++◌, length, drop};
 ghost use Rattle.refusal.specs.Outcomes.{number_outcome_of};
 ghost use Rattle.fibonacci.specs.Services.{places_outcome, places_buffer, number_outcome};

@@ -1,4 +1,6 @@
 // The preview: what a run makes of the registers, on a copy, and the mul, div and swp steps on its way.
+#![tactic(auto)]
+
 ghost use Rattle.std.specs.Prelude.{◌≡◌, ◌≤◌, ◌<◌, length};
 ghost use Rattle.tape.specs.Layout.{max_steps, steps_in};
 ghost use Rattle.tape.specs.Inner.Operations.{raw_steps};

@@ -1,4 +1,6 @@
 // Replies into a lent buffer: what the services answer and refuse.
+#![tactic(auto)]
+
 mod results;
 
 ghost use Rattle.std.specs.Prelude.{[], ◌∷◌, ◌++◌};

@@ -1,4 +1,6 @@
 // Texts, numbers and words, put into a lent buffer as far as it has room.
+#![tactic(auto)]
+
 ghost use Rattle.std.specs.Prelude.{◌≡◌, [], ◌∷◌, ◌++◌, ◌%◌, nat_abs};
 ghost use Rattle.text.specs.Text.{decimal, whole};
 ghost use Rattle.text.specs.Rows.{Put};

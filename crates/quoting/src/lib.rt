@@ -1,4 +1,6 @@
 // Words in quotes, put into a lent buffer.
+#![tactic(auto)]
+
 ghost use Rattle.std.specs.Prelude.{◌≡◌, ◌<◌};
 ghost use Rattle.text.specs.Rows.{Put};
 ghost use Rattle.text.specs.Quoting.{hex_digit, is_plain, escaped, escapes, quoted};

@@ -1,4 +1,6 @@
 // Many bases in one pass through a named program.
+#![tactic(auto)]
+
 ghost use Rattle.std.specs.Prelude.{◌≡◌};
 ghost use Rattle.refusal.specs.Outcomes.{answered, number_outcome_of};
 ghost use Rattle.program.specs.Services.{accept_outcome};

@@ -1,9 +1,11 @@
 // REQUIREMENTS 7: the refusals, and the answer of a service whose result is one number.
+#![tactic(auto)]
+
 ghost use Rattle.std.specs.Prelude.{◌≡◌};
 ghost use Rattle.refusal.specs.Refusals.{number_of};
 
 // The refusals in the order of their numbers. A comment gives the requirement's word where it differs from the name.
-#[derive(Drop)]
+#[derive(Clone, Copy)]
 pub enum Refusal {
     Modulus,
     Order,
@@ -25,7 +27,7 @@ pub enum Refusal {
 }
 
 // What a service answers whose result is one number.
-#[derive(Drop)]
+#[derive(Clone, Copy)]
 pub enum NumberAnswer {
     Answered(u64),
     Refused(Refusal),

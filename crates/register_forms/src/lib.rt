@@ -1,5 +1,7 @@
 // Registers in Montgomery's form, in which a product takes no division, and the forms of their inverses, by which a division is a
 // product. They lie in a row because a register's number is then its place.
+#![tactic(auto)]
+
 ghost use Rattle.std.specs.Prelude.{◌≡◌, map};
 ghost use Rattle.montgomery.specs.Inner.Forms.{form_times, enter, leave, form_inverse};
 ghost use Rattle.machine.specs.Machine.{reg, values_of};

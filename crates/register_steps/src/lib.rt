@@ -1,4 +1,6 @@
 // Steps on registers modulo an odd prime p, which stand in Montgomery's form beside the forms of their inverses.
+#![tactic(auto)]
+
 mod row;
 
 ghost use Rattle.std.specs.Prelude.{◌≡◌, ◌<◌, length};

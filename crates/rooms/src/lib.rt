@@ -1,4 +1,6 @@
 // Places and list into a buffer of the script's room. The whole buffer is printed, so that what a call left of it is seen.
+#![tactic(auto)]
+
 ghost use Rattle.std.specs.Prelude.{◌≡◌, [], ◌∷◌, min, ◌≤◌, length, get_or, take};
 ghost use Rattle.text.specs.Rows.{Put};
 ghost use Rattle.tool.specs.Verbs.{max_room};

@@ -1,4 +1,6 @@
 // Load, run, a single step, and load and run in one.
+#![tactic(auto)]
+
 ghost use Rattle.std.specs.Prelude.{◌≡◌};
 ghost use Rattle.refusal.specs.Outcomes.{answered};
 ghost use Rattle.tape.specs.Layout.{steps_in};

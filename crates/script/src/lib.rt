@@ -1,4 +1,6 @@
 // A script: command lines one after another, with a row of tapes kept between them.
+#![tactic(auto)]
+
 mod commands;
 mod whole_line;
 

@@ -1,10 +1,11 @@
 // Scripts: command lines one after another, with a row of tapes kept between them. The definitions and the types that they name; the
 // functions over them are in the crates above.
+#![tactic(auto)]
 
 use tool::ScriptVerb;
 
 // Where the tape at hand begins in the row of tapes, where it ends, and the room that build, places and list get where `roomed` says so.
-#[derive(Drop)]
+#[derive(Clone, Copy)]
 pub struct Marks {
     pub begin: usize,
     pub end: usize,
@@ -13,7 +14,7 @@ pub struct Marks {
 }
 
 // The marks that a line left, and how many bytes of what it printed stand in their row.
-#[derive(Drop)]
+#[derive(Clone, Copy)]
 pub struct Printed {
     pub marks: Marks,
     pub length: usize,
@@ -21,7 +22,7 @@ pub struct Printed {
 
 // What a call comes to in a script: as the tool replies, an edit of the tape at hand, a build, or places or list in a room; with the
 // refusal that is the verb's own.
-#[derive(Drop)]
+#[derive(Clone, Copy)]
 pub enum Act {
     Reply,
     Edit(ScriptVerb),

@@ -1,31 +1,33 @@
 // REQUIREMENTS 8 and 16: load, run, trace, table, cut, rows of bases, sessions, the preview, and lists of runs. The definitions and laws of
 // this layer, demand 3 among them, and the types and the limit that they name; it has no functions.
+#![tactic(auto)]
+
 use machine::{Counts, Registers};
 use refusal::Refusal;
 
 // Document 02's register record: the four registers and the position.
-#[derive(Drop)]
+#[derive(Clone, Copy)]
 pub struct State {
     pub registers: Registers,
     pub position: u32,
 }
 
 // What load, run and step answer: the register record, or a refusal.
-#[derive(Drop)]
+#[derive(Clone, Copy)]
 pub enum StateAnswer {
     Answered(State),
     Refused(Refusal),
 }
 
 // What a preview shows: the registers at its goal, and the mul, div and swp steps on the way there.
-#[derive(Drop)]
+#[derive(Clone, Copy)]
 pub struct Preview {
     pub registers: Registers,
     pub counts: Counts,
 }
 
 // What preview answers: what it shows, or a refusal.
-#[derive(Drop)]
+#[derive(Clone, Copy)]
 pub enum PreviewAnswer {
     Answered(Preview),
     Refused(Refusal),

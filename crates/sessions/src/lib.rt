@@ -1,6 +1,8 @@
 // Sessions: a session carries the tape it was opened on, its registers and its position, goes one step either way, and is previewed. The
 // struct holds a reference, and the proofs of the functions over it are by hand, so these are few and thin: the work is done by functions
 // on the tape and the state.
+#![tactic(auto)]
+
 ghost use Rattle.std.specs.Prelude.{cond, [], ◌≡◌, eqb};
 ghost use Rattle.refusal.specs.Outcomes.{refusal_number, after};
 ghost use Rattle.sequencer.specs.Records.{record_of};
@@ -11,21 +13,21 @@ use machine::Registers;
 use sequencer::{PreviewAnswer, State, StateAnswer};
 
 // The tape that a session was opened on, and the register record.
-#[derive(Drop)]
+#[derive(Clone, Copy)]
 pub struct Session<'a> {
     pub tape: &'a [u32],
     pub state: State,
 }
 
 // A session with the number of what was asked of it: 0, or its refusal's.
-#[derive(Drop)]
+#[derive(Clone, Copy)]
 pub struct SessionAnswer<'a> {
     pub session: Session<'a>,
     pub number: u32,
 }
 
 // A session that was opened and went one step: both numbers, and the register record that it holds then.
-#[derive(Drop)]
+#[derive(Clone, Copy)]
 pub struct SteppedOnce {
     pub opened: u32,
     pub stepped: u32,
@@ -33,7 +35,7 @@ pub struct SteppedOnce {
 }
 
 // A session that was opened and previewed: opening's number, the preview, and the register record that the session holds then.
-#[derive(Drop)]
+#[derive(Clone, Copy)]
 pub struct PreviewedOnce {
     pub opened: u32,
     pub preview: PreviewAnswer,
@@ -114,7 +116,7 @@ pub fn preview_once(tape: &[u32], state: State, to: u32) -> PreviewedOnce
 }
 
 // A register record with the number of what was asked: 0, or its refusal's.
-#[derive(Drop)]
+#[derive(Clone, Copy)]
 struct Numbered {
     state: State,
     number: u32,

@@ -1,10 +1,12 @@
 // Document 02, T-02: the exponent of each start value in each register. The definitions and laws of this layer, and the types that they
 // name; it has no functions.
+#![tactic(auto)]
+
 use machine::Exponents;
 use refusal::Refusal;
 
 // A row for each register under the source's names. In a row, `c` to `f` are the exponents of what those registers started from.
-#[derive(Drop)]
+#[derive(Clone, Copy)]
 pub struct Table {
     pub c: Exponents,
     pub d: Exponents,
@@ -13,7 +15,7 @@ pub struct Table {
 }
 
 // What the table at a position comes to: its rows, or a refusal.
-#[derive(Drop)]
+#[derive(Clone, Copy)]
 pub enum TableAnswer {
     Answered(Table),
     Refused(Refusal),

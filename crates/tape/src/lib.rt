@@ -1,9 +1,11 @@
 // REQUIREMENTS 5: what a word means, and the layout of a tape. The definitions and laws of this layer, and the types and
 // limits that they name; it has no functions.
+#![tactic(auto)]
+
 use refusal::Refusal;
 
 // A step with its target and its source register.
-#[derive(Drop)]
+#[derive(Clone, Copy)]
 pub enum Step {
     Mul(u32, u32),
     Div(u32, u32),
@@ -11,7 +13,7 @@ pub enum Step {
 }
 
 // A step by an opcode, with its registers: 0 multiplies, 1 divides, 2 and above exchange.
-#[derive(Drop)]
+#[derive(Clone, Copy)]
 pub struct Operation {
     pub opcode: u32,
     pub target: u32,
@@ -19,7 +21,7 @@ pub struct Operation {
 }
 
 // What a word means: the heading with its variant, p, r, k, a step, the end with the count of steps, or nothing.
-#[derive(Drop)]
+#[derive(Clone, Copy)]
 pub enum Decoded {
     Heading(u32),
     P(u32),
@@ -31,7 +33,7 @@ pub enum Decoded {
 }
 
 // What a tape gives beside its steps: its variant, p, r, k and how many steps it has.
-#[derive(Drop)]
+#[derive(Clone, Copy)]
 pub struct Header {
     pub variant: u32,
     pub modulus: u32,
@@ -41,7 +43,7 @@ pub struct Header {
 }
 
 // The answer to reading a tape.
-#[derive(Drop)]
+#[derive(Clone, Copy)]
 pub enum HeaderAnswer {
     Answered(Header),
     Refused(Refusal),

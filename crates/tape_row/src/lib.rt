@@ -1,4 +1,6 @@
 // The row of tapes of a script: marks brought into it, and what is said where it is full.
+#![tactic(auto)]
+
 ghost use Rattle.std.specs.Prelude.{◌≡◌, min};
 ghost use Rattle.text.specs.Rows.{Put};
 ghost use Rattle.scripting.specs.Script.{full_line};

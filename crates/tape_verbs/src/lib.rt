@@ -1,4 +1,6 @@
 // The verbs on a tape: what is replied to each.
+#![tactic(auto)]
+
 mod values;
 
 ghost use Rattle.std.specs.Prelude.{◌+◌, ◌/◌, ◌≤◌, ◌≡◌, length, get_or, take};

@@ -1,7 +1,8 @@
 // Text as bytes: the definitions and laws of this layer, and the types and bytes that they name. It has no functions.
+#![tactic(auto)]
 
 // What reading a number gives.
-#[derive(Drop)]
+#[derive(Clone, Copy)]
 pub enum Parsed {
     Number(u64),
     NoNumber,

@@ -1,7 +1,8 @@
 // The command-line tool: its verbs and its texts. The functions over them are in the crates above.
+#![tactic(auto)]
 
 // A verb on a tape.
-#[derive(Drop)]
+#[derive(Clone, Copy)]
 pub enum TapeVerb {
     Check,
     Listing,
@@ -18,7 +19,7 @@ pub enum TapeVerb {
 }
 
 // A verb on numbers alone.
-#[derive(Drop)]
+#[derive(Clone, Copy)]
 pub enum NumberVerb {
     Decode,
     Fibonacci,
@@ -33,7 +34,7 @@ pub enum NumberVerb {
 }
 
 // A verb that only a script has.
-#[derive(Drop)]
+#[derive(Clone, Copy)]
 pub enum ScriptVerb {
     Tape,
     Append,
@@ -43,7 +44,7 @@ pub enum ScriptVerb {
     Room,
 }
 
-#[derive(Drop)]
+#[derive(Clone, Copy)]
 pub enum Verb {
     Unknown,
     Build,
@@ -57,7 +58,7 @@ pub enum Verb {
 
 // A verb, how many parameters it takes at least and at most, the largest number among them, and the refusal whose reason is its own, 0
 // where there is none.
-#[derive(Drop)]
+#[derive(Clone, Copy)]
 pub struct Row {
     pub verb: Verb,
     pub least: usize,
@@ -68,7 +69,7 @@ pub struct Row {
 
 // What a command line asks for. The words and the row of parameters stand beside it: a word that isn't read has an index among the
 // words, and the parameters are the first `count` of their row.
-#[derive(Drop)]
+#[derive(Clone, Copy)]
 pub enum Call {
     NoWord,
     NoVerb,
@@ -78,14 +79,14 @@ pub enum Call {
 }
 
 // A call with its parameters.
-#[derive(Drop)]
+#[derive(Clone, Copy)]
 pub struct CommandLine {
     pub call: Call,
     pub values: [u64; MAX_PARAMETERS],
 }
 
 // A reply whose text stands in a row: its status, 0 answered, 1 refused, 2 not understood, and how many bytes of the text stand there.
-#[derive(Drop)]
+#[derive(Clone, Copy)]
 pub struct Reply {
     pub status: u32,
     pub length: usize,

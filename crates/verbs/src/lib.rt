@@ -1,4 +1,6 @@
 // Questions about a verb.
+#![tactic(auto)]
+
 ghost use Rattle.std.specs.Prelude.{◌≡◌};
 ghost use Rattle.tool.specs.Verbs.{is_hidden, is_variant, takes_tape, takes_lines, gives_tape};
 

@@ -1,4 +1,6 @@
 // A command line's parameters at the widths that the services take: one that is too large counts as the largest number of its width.
+#![tactic(auto)]
+
 ghost use Rattle.std.specs.Prelude.{◌≡◌, min, get_or};
 ghost use Rattle.text.specs.Rows.{Put};
 ghost use Rattle.tool.specs.Verbs.{largest8, largest32, largest64};

@@ -1,4 +1,6 @@
 // Zeckendorf forms.
+#![tactic(auto)]
+
 mod weights;
 
 ghost use Rattle.std.specs.Prelude.{◌≡◌, length};
