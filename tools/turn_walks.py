@@ -89,7 +89,7 @@ class Function:
         elif head == "requires":
             new, clauses = head, self.own(0)
         else:
-            new = self.steps.get(norm(head))
+            new = self.steps.get(norm(head)) or self.steps.get(norm(re.sub("_lem$", "", head)))
             if new is None:
                 self.notes.append(f"step {head}")
                 new = head
@@ -101,6 +101,13 @@ class Function:
         elif clauses and len(rest) > 1 and rest[1].isdigit():
             rest = [rest[0], clauses[1 + int(rest[1])]] + rest[2:]
         return ".".join(["c", new] + rest)
+
+    def pair(self, m):
+        """A call's clauses as the tuple that they were."""
+        clauses = self.clauses(self.callee.get(m.group(1), ""), 1)
+        if len(clauses) < 2:
+            return m.group(0)
+        return "(" + ", ".join(m.group(0) + "." + n for n in clauses) + ")"
 
     def body(self, text):
         states = {"c"}
@@ -122,6 +129,9 @@ class Function:
             if s != "c":
                 text = re.sub(r"(?<![\w.'\x00-])" + re.escape(s) + r"(?![\w'-])", "\x00", text)
         text = text.replace("\x00", "c")
+        text = re.sub(r"not-(?:true|false) _ (c\.[^\s(){},]+)", r"\1", text)
+        text = re.sub(r"\((c\.[^\s(){},]+)\)", r"\1", text)
+        text = re.sub(r"(?<!at )(?<!at\n)(?<![\w.])c\.([^\s(){}.,]+)\.ensures(?![\w.-])", self.pair, text)
         return text.replace(" κs =", " =").replace("λ κs. ", "")
 
 
@@ -162,6 +172,22 @@ def as_record(text, clauses):
     if len(parts) != len(clauses):
         return None
     return before + "record {\n" + "".join(f"      {n} = {p};\n" for n, p in zip(clauses, parts)) + "    }"
+
+
+def open_end(text, clauses):
+    """The term that ends the text, which is a tuple, as a record by the names of the clauses."""
+    cut, depth = 0, 0
+    for m in re.finditer(r"[(\[{]|[)\]}]|(?<= )in(?=\s)|(?<= )=(?=\s)", text):
+        if m.group(0) in "([{":
+            depth += 1
+        elif m.group(0) in ")]}":
+            depth -= 1
+        elif depth == 0 and (m.group(0) == "in" or cut == 0):
+            cut = m.end()
+    term = text[cut:].strip()
+    if term.startswith(("rw ", "simp ", "search ", "elim ", "omega ", "grind ")):
+        return None
+    return text[:cut] + " let both = " + term + " in record { " + "; ".join(f"{n} = both.{i}" for i, n in enumerate(clauses)) + " }"
 
 
 def blocks(text):
@@ -307,7 +333,7 @@ def turn(path, fun, where):
                 callee = next((c for c in fun.callee.values() if new.startswith(c.split("::")[-1])), "")
             clauses = fun.clauses(callee, 0)
         if len(clauses) > 1:
-            it = as_record(eq, clauses)
+            it = as_record(eq, clauses) or open_end(eq, clauses)
             if it is None:
                 fun.notes.append(f"clauses of {new}")
             else:
