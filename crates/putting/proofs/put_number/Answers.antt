@@ -10,14 +10,8 @@ use lib.ListN.{length, take, drop, set, length-set, length-drop}
 use lib.Seq.{append_snoc, set_split, drop_at, take_all, length-take-le}
 use Rattle.text.specs.Text.{decimal}
 use Rattle.text.proofs.Laws.Decimal.{decimal_one, decimal_again}
-use Rattle.putting.proofs.put_number.Statement.{statement}
-use Rattle.putting.proofs.put_number.Tie as tie
-
-record Spelt (n : ℕ) (digits : List ℕ) (first rest : ℕ) : Type 0 where
-  long : length digits ≡ 20
-  inside : first < 20
-  small : rest < 10 ^ suc first
-  spells : decimal n ≡ decimal rest ++ drop (suc first) digits
+use Rattle.putting.proofs.put_number.Invariants.{Spelt}
+use Rattle.putting.proofs.put_number.Goals as goal
 
 -- a digit stored in front of those stored before
 in-front : (digits : List ℕ) (first x : ℕ) → first < length digits → drop first (set digits first x) ≡ x ∷ drop (suc first) digits
@@ -57,61 +51,32 @@ module _ {n first rest : ℕ} {digits : List ℕ} (s : Spelt n digits first rest
       ∙ ap (λ (l : List ℕ). l ++ drop (suc first) digits) (sym (decimal_one rest h))
       ∙ sym s.spells
 
-abbrev invariant-loop : tie.invariant-loop
-invariant-loop buffer at n digits₀ first₀ rest₀ digits first rest = Spelt n digits first rest
+pub loop-rest-init : goal.loop-rest-init
+loop-rest-init c = record { long = refl; inside = omega arith; small = omega (arith, c.ranges.n); spells = sym (append-nil _) }
 
-abbrev decreases-loop : tie.decreases-loop
-decreases-loop buffer at n digits₀ first₀ rest₀ digits first rest = first
+pub bounds-digits-first : goal.bounds-digits-first
+bounds-digits-first c = omega (arith, c.loop-rest.invariant.inside)
 
-loop-holds : tie.Need-loop-init invariant-loop decreases-loop
-loop-holds c = record { long = refl; inside = omega arith; small = omega (arith, c.before.ranges.n); spells = sym (append-nil _) }
+pub overflow_sub-first : goal.overflow_sub-first
+overflow_sub-first c = further _ _ c.loop-rest.invariant.small c.loop-rest-test.true
 
-array-write-digits : tie.Need-array-write-digits invariant-loop decreases-loop
-array-write-digits c = omega (arith, c.before.loop.invariant.inside)
+pub loop-rest-smaller : goal.loop-rest-smaller
+loop-rest-smaller c = omega (arith, further _ _ c.loop-rest.invariant.small c.loop-rest-test.true)
 
-sub-first : tie.Need-overflow-sub-first invariant-loop decreases-loop
-sub-first c = further _ _ c.before.loop.invariant.small c.loop-test.true
+pub loop-rest-preserved : goal.loop-rest-preserved
+loop-rest-preserved c = next-spelt c.loop-rest.invariant c.loop-rest-test.true
 
-loop-less : tie.Need-loop-smaller invariant-loop decreases-loop
-loop-less c = omega (arith, further _ _ c.before.loop.invariant.small c.loop-test.true)
+pub bounds-digits-first-2 : goal.bounds-digits-first-2
+bounds-digits-first-2 c = omega (arith, c.loop-rest.invariant.inside)
 
-loop-again : tie.Need-loop-preserved invariant-loop decreases-loop
-loop-again c = next-spelt c.before.loop.invariant c.loop-test.true
+pub slice_bounds-put-count : goal.slice_bounds-put-count
+slice_bounds-put-count c = omega (arith, c.loop-rest.invariant.inside)
 
-array-write-digits-2 : tie.Need-array-write-digits-2 invariant-loop decreases-loop
-array-write-digits-2 c = omega (arith, c.before.loop.invariant.inside)
+pub slice_bounds-put-start : goal.slice_bounds-put-start
+slice_bounds-put-start c = omega (arith, c.loop-rest.invariant.inside)
 
-sub-put : tie.Need-overflow-sub-put invariant-loop decreases-loop
-sub-put c = omega (arith, c.before.before.loop.invariant.inside)
+pub slice_bounds-put-end : goal.slice_bounds-put-end
+slice_bounds-put-end c = omega (arith, c.loop-rest.invariant.inside, stored-length c.loop-rest.invariant (code "0" + c.loop-rest.rest))
 
-part-put-start : tie.Need-slice-bounds-put-start invariant-loop decreases-loop
-part-put-start c = omega (arith, c.before.before.before.loop.invariant.inside)
-
-part-put-end : tie.Need-slice-bounds-put-end invariant-loop decreases-loop
-part-put-end c = omega (arith, c.before.before.before.loop.invariant.inside, stored-length c.before.before.before.loop.invariant (code "0" + c.before.before.before.loop.rest))
-
-returns : tie.Need-returns invariant-loop decreases-loop
-returns c = rw (all-spelt c.before.before.before.before.before.before.before.loop.invariant c.before.before.before.before.before.before.loop-test.false) at c.before.before.put.ensures
-
-pub put-number-spec : {M : Type 1} → statement M
-put-number-spec =
-    tie.close
-    (tie.spec
-    invariant-loop
-    decreases-loop
-    loop-holds
-    (λ c. search rules)
-    (λ c. search rules)
-    array-write-digits
-    sub-first
-    loop-less
-    loop-again
-    (λ c. search rules)
-    (λ c. search rules)
-    array-write-digits-2
-    sub-put
-    part-put-start
-    part-put-end
-    (λ c κs. search rules)
-    (λ c. search rules)
-    returns)
+pub returns : goal.returns
+returns c = rw (all-spelt c.loop-rest.invariant c.loop-rest-test.false) at c.put.ensures

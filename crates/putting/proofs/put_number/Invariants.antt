@@ -1,0 +1,25 @@
+-- `put_number` meets its contract: the digits behind `first` are the number's last ones, and those of `rest` stand in front of them.
+use mathlib.Core.Path.{◌≡◌, refl, sym, ap, ◌∙◌}
+use mathlib.Core.List.{List, ◌∷◌, ◌++◌, append-nil}
+use Prim.Native.Nat.{ℕ, zero, suc, ◌+◌, ◌-◌, ◌/◌, ◌%◌, ◌^◌, ◌≤◌, ◌<◌}
+use Prim.Native.Char.{code}
+use native.Mathlib.Nat.{pow-suc}
+use native.Mathlib.Omega.{arith}
+use borrow.Author.Rules.{rules}
+use lib.ListN.{length, take, drop, set, length-set, length-drop}
+use lib.Seq.{append_snoc, set_split, drop_at, take_all, length-take-le}
+use Rattle.text.specs.Text.{decimal}
+use Rattle.text.proofs.Laws.Decimal.{decimal_one, decimal_again}
+use Rattle.putting.proofs.put_number.Given as goal
+
+pub record Spelt (n : ℕ) (digits : List ℕ) (first rest : ℕ) : Type 0 where
+  pub long : length digits ≡ 20
+  pub inside : first < 20
+  pub small : rest < 10 ^ suc first
+  pub spells : decimal n ≡ decimal rest ++ drop (suc first) digits
+
+abbrev pub invariant-loop-rest : goal.invariant-loop-rest
+invariant-loop-rest l = Spelt l.n l.digits l.first l.rest
+
+abbrev pub decreases-loop-rest : goal.decreases-loop-rest
+decreases-loop-rest l = l.first
