@@ -5,8 +5,7 @@ use native.Mathlib.Omega.{arith}
 use borrow.Author.Rules.{rules}
 use Rattle.fibonacci.proofs.Laws.Hofstadter.{pair_g}
 use Rattle.fibonacci.proofs.Laws.Quotients.{quotient_is, quotient_less}
-use Rattle.golden.proofs.hofstadter.Statement.{statement}
-use Rattle.golden.proofs.hofstadter.Tie as tie
+use Rattle.golden.proofs.hofstadter.Goals as goal
 
 abbrev short : ℕ
 short = 2971215073
@@ -31,25 +30,12 @@ within n t h = omega arith
 beyond : (n t : ℕ) → (n - n / 2) / 5374978561 < t → suc n < t * lucas
 beyond n t h = omega arith
 
-returns : tie.Need-returns
-returns c =
-    let n = c.before.args.n in
+pub returns-then-part-half : goal.returns-then-part-half
+returns-then-part-half c =
+    let n = c.args.n in
     sym (pair_g (quotient_less short long lucas refl refl (omega arith) _ (part n % long) n (divided n) (omega arith) (omega arith) (within n _ (omega arith))))
 
-returns-2 : tie.Need-returns-2
-returns-2 c =
-    let n = c.before.args.n in
-    sym (pair_g (quotient_is short long lucas refl refl (omega arith) _ (part n % long) n (divided n) (omega arith) (beyond n _ c.if1.false)))
-
-pub hofstadter-spec : {M : Type 1} → statement M
-hofstadter-spec =
-    tie.close
-    (tie.spec
-    (λ c. search rules)
-    (λ c. search rules)
-    (λ c. search rules)
-    (λ c. search rules)
-    (λ c. search rules)
-    (λ c. search rules)
-    returns
-    returns-2)
+pub returns : goal.returns
+returns c =
+    let n = c.args.n in
+    sym (pair_g (quotient_is short long lucas refl refl (omega arith) _ (part n % long) n (divided n) (omega arith) (beyond n _ c.if-part-half.false)))

@@ -1,0 +1,8 @@
+-- `steps::operation_of` meets its contract: the digits are those of the definition.
+use borrow.Author.Rules.{rules}
+use Rattle.tape.specs.Inner.Operations.{raw_step}
+use Rattle.decoding.proofs.steps.operation_of.Goals as goal
+
+pub returns : goal.returns
+unfolding raw_step
+returns c = rw c.opcode_of.ensures
