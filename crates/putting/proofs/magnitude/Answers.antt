@@ -6,7 +6,6 @@ use lib.Signed.{mag}
 use mir.Syntax.{w64}
 use mir.Val.{to_z, of_z}
 use mir.ValLaws.{to_z-of_z}
-use borrow.Author.Rules.{rules}
 use Rattle.text.proofs.Laws.Wholes.{Below, Natural, below, natural}
 use Rattle.putting.proofs.magnitude.Goals as goal
 
@@ -21,7 +20,7 @@ pub overflow_sub-result : goal.overflow_sub-result
 overflow_sub-result c = rw (read c, (under c).complement) (record { sfits = c.ranges.n.sfits })
 
 difference : (c : goal.Then-n-lt0) → to_z w64 (of_z w64 (negsuc 0 -ℤ to_z w64 (of_z w64 c.args.n))) ≡ pos (mag c.args.n)
-difference c = to_z-of_z w64 _ (sub-result c) ∙ rw (read c) (under c).complement
+difference c = to_z-of_z w64 _ (overflow_sub-result c) ∙ rw (read c) (under c).complement
 
 pub overflow_cast-result : goal.overflow_cast-result
 overflow_cast-result c = rw (difference c) (tt, record { fits = omega (arith, c.ranges.n.sfits) })

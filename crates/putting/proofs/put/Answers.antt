@@ -1,10 +1,7 @@
 -- `put` meets its contract: with i bytes put, the text's first i are put; a full buffer takes no more of them.
-use Prim.Native.Nat.{◌-◌, ◌≤◌}
 use native.Mathlib.Omega.{arith}
 use borrow.Author.Rules.{rules}
-use lib.ListN.{length, take}
 use lib.Seq.{take_all}
-use Rattle.text.specs.Rows.{Put}
 use Rattle.text.proofs.Laws.Puts.{put_none, put_next, put_rest, put_length}
 use Rattle.putting.proofs.put.Goals as goal
 

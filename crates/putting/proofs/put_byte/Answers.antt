@@ -1,5 +1,4 @@
 -- `put_byte` meets its contract: a full buffer takes nothing, and any other one byte.
-use borrow.Author.Rules.{rules}
 use Rattle.text.proofs.Laws.Puts.{put_one, put_full}
 use Rattle.putting.proofs.put_byte.Goals as goal
 

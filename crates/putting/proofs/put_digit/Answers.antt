@@ -1,5 +1,4 @@
 -- `put_digit` meets its contract: below ten a number is one digit.
-use borrow.Author.Rules.{rules}
 use Rattle.text.proofs.Laws.Decimal.{last_digit}
 use Rattle.putting.proofs.put_digit.Goals as goal
 

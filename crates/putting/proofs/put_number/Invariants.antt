@@ -1,15 +1,9 @@
 -- `put_number` meets its contract: the digits behind `first` are the number's last ones, and those of `rest` stand in front of them.
-use mathlib.Core.Path.{◌≡◌, refl, sym, ap, ◌∙◌}
-use mathlib.Core.List.{List, ◌∷◌, ◌++◌, append-nil}
-use Prim.Native.Nat.{ℕ, zero, suc, ◌+◌, ◌-◌, ◌/◌, ◌%◌, ◌^◌, ◌≤◌, ◌<◌}
-use Prim.Native.Char.{code}
-use native.Mathlib.Nat.{pow-suc}
-use native.Mathlib.Omega.{arith}
-use borrow.Author.Rules.{rules}
-use lib.ListN.{length, take, drop, set, length-set, length-drop}
-use lib.Seq.{append_snoc, set_split, drop_at, take_all, length-take-le}
+use mathlib.Core.Path.{◌≡◌}
+use mathlib.Core.List.{List, ◌++◌}
+use Prim.Native.Nat.{ℕ, suc, ◌^◌, ◌<◌}
+use lib.ListN.{length, drop}
 use Rattle.text.specs.Text.{decimal}
-use Rattle.text.proofs.Laws.Decimal.{decimal_one, decimal_again}
 use Rattle.putting.proofs.put_number.Given as goal
 
 pub record Spelt (n : ℕ) (digits : List ℕ) (first rest : ℕ) : Type 0 where

@@ -1,5 +1,4 @@
 -- `put_number_then` meets its contract: the number, then the byte.
-use borrow.Author.Rules.{rules}
 use Rattle.text.proofs.Laws.Puts.{puts_join}
 use Rattle.putting.proofs.put_number_then.Goals as goal
 

@@ -1,5 +1,4 @@
 -- `put_then` meets its contract: the text, then the byte.
-use borrow.Author.Rules.{rules}
 use Rattle.text.proofs.Laws.Puts.{puts_join}
 use Rattle.putting.proofs.put_then.Goals as goal
 

@@ -3,7 +3,6 @@ use mathlib.Core.Path.{◌≡◌}
 use mir.Syntax.{w64}
 use mir.Val.{to_z, of_z}
 use mir.ValLaws.{to_z-of_z}
-use borrow.Author.Rules.{rules}
 use Rattle.text.proofs.Laws.Puts.{puts_join}
 use Rattle.text.proofs.Laws.Wholes.{below, natural}
 use Rattle.putting.proofs.put_whole.Goals as goal
