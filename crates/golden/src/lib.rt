@@ -127,6 +127,7 @@ pub fn fibonacci_or_zero(index: u32) -> u64
 
 // An even index's Fibonacci number and the next, from half the index. Of the arms the compiler makes tables in read-only memory, and it puts
 // the look-up in the caller's place, since they are few enough; a constant array it would write out on the stack at each use.
+#[tactic(auto, unfolding(fibonacci::specs::Services::fibonacci_or_zero, fibonacci::specs::Fibonacci::fib))]
 fn pair_at(half: u32) -> Neighbours
     ensures { PairAt half result.0 result.1 }
 {

@@ -1,7 +1,6 @@
 -- `fibonacci` meets its contract: each return is a case of the list of refusals.
 use mathlib.Core.Path.{sym, ap, ◌∙◌}
 use mathlib.Core.List.{[]}
-use borrow.Author.Rules.{rules}
 use borrow.Author.Tests.{lt-ltb, le-ltb}
 use Rattle.refusal.specs.declared.Refusal.TheVariants.{Index}
 use Rattle.refusal.specs.Outcomes.{answered, gives, passes, answers}

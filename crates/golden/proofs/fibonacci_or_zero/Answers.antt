@@ -1,7 +1,6 @@
 -- `fibonacci_or_zero` meets its contract: an index is twice its half, or one more.
 use mathlib.Core.Path.{ap, ◌∙◌}
 use native.Mathlib.Omega.{arith}
-use borrow.Author.Rules.{rules}
 use Rattle.fibonacci.specs.Services.{fibonacci_or_zero}
 use Rattle.golden.proofs.fibonacci_or_zero.Goals as goal
 

@@ -1,12 +1,11 @@
 -- `height` meets its contract: its list passes the test of `fibonacci` Laws/Ranges, which antt computes, and the loop goes past the ranges that
 -- end below r. Past the first 46 h is 47, since no number of 32 bits has a larger one.
 use mathlib.Core.Path.{refl}
-use Prim.Native.Nat.{◌-◌}
 use native.Mathlib.Omega.{arith}
 use borrow.Author.Rules.{rules}
 use Rattle.fibonacci.specs.Fibonacci.{lucas}
 use Rattle.fibonacci.proofs.Laws.Height.{height_32}
-use Rattle.fibonacci.proofs.Laws.Ranges.{last_of, is_range, are_ranges, Searching, searching_starts, searching_next, searching_ends}
+use Rattle.fibonacci.proofs.Laws.Ranges.{last_of, is_range, are_ranges, searching_starts, searching_next, searching_ends}
 use Rattle.golden.proofs.height.Goals as goal
 
 pub loop-row-init : goal.loop-row-init

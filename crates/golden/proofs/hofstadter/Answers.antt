@@ -2,7 +2,6 @@
 use mathlib.Core.Path.{◌≡◌, refl, sym}
 use Prim.Native.Nat.{ℕ, suc, ◌+◌, ◌*◌, ◌-◌, ◌/◌, ◌%◌, ◌≤◌, ◌<◌}
 use native.Mathlib.Omega.{arith}
-use borrow.Author.Rules.{rules}
 use Rattle.fibonacci.proofs.Laws.Hofstadter.{pair_g}
 use Rattle.fibonacci.proofs.Laws.Quotients.{quotient_is, quotient_less}
 use Rattle.golden.proofs.hofstadter.Goals as goal
