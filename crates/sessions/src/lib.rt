@@ -124,7 +124,7 @@ struct Numbered {
 
 // The record that a session holds after opening, and opening's number.
 fn state_opened(tape: &[u32], state: State) -> Numbered
-    ensures state_value { record_of result.state ≡ held_record (open_outcome tape.now (record_of state)) }
+    ensures held_value { record_of result.state ≡ held_record (open_outcome tape.now (record_of state)) }
     ensures number_value { result.number ≡ refusal_number (open_outcome tape.now (record_of state)) }
 {
     match running::run(tape, state, state.position) {
