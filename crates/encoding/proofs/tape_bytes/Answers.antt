@@ -1,0 +1,32 @@
+-- `tape_bytes` meets its contract: with i words put, the bytes of the first i stand in the buffer.
+use native.Mathlib.Omega.{arith}
+use lib.Seq.{take_all}
+use Rattle.text.proofs.Laws.Puts.{put_none, put_length}
+use Rattle.encoding.specs.Encoding.{bytes_of}
+use Rattle.encoding.proofs.Laws.Bytes.{bytes_next}
+use Rattle.encoding.proofs.tape_bytes.Goals as goal
+
+pub loop-i-init : goal.loop-i-init
+unfolding bytes_of
+loop-i-init c = (omega arith, put_none _ _)
+
+pub offset_bounds-words-i : goal.offset_bounds-words-i
+offset_bounds-words-i c = omega arith
+
+pub bounds-words-i : goal.bounds-words-i
+bounds-words-i c = omega arith
+
+pub overflow_add-i : goal.overflow_add-i
+overflow_add-i c = omega arith
+
+pub loop-i-smaller : goal.loop-i-smaller
+loop-i-smaller c = omega arith
+
+pub loop-i-preserved : goal.loop-i-preserved
+loop-i-preserved c = (omega arith, bytes_next _ c.loop-i.i (omega arith) c.loop-i.invariant.1 c.word_bytes-next.ensures)
+
+pub shape_of-buffer : goal.shape_of-buffer
+shape_of-buffer c = put_length c.loop-i.invariant.1
+
+pub returns : goal.returns
+returns c = rw (take_all c.loop-i.i c.args.words.now (omega arith)) at c.loop-i.invariant.1
