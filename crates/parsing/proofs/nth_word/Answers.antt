@@ -1,7 +1,6 @@
 -- `nth_word` meets its contract: from where the word begins to where it ends.
 use mathlib.Core.Path.{◌≡◌}
 use native.Mathlib.Omega.{arith}
-use borrow.Author.Rules.{rules}
 use Prim.Native.Nat.{◌-◌}
 use Rattle.text.proofs.Laws.Words.{left, end_inside, word_at}
 use Rattle.parsing.proofs.nth_word.Goals as goal

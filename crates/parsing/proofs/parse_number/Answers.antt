@@ -7,7 +7,6 @@ use lib.ListN.{length, drop, length-drop}
 use lib.Seq.{take_all}
 use Rattle.text.specs.Reading.{in_base, is_hexadecimal}
 use Rattle.text.proofs.Laws.Digits.{hexadecimal_long, number_hexadecimal, number_decimal}
-use borrow.Author.Rules.{rules}
 use Rattle.parsing.proofs.parse_number.Goals as goal
 
 hexadecimal : (c : goal.Then-is_hexadecimal) → is_hexadecimal c.args.text.now ≡ true

@@ -1,9 +1,6 @@
 -- `word_count` meets its contract: `count` words begin before `at`, and at the end none is left.
 use mathlib.Core.Path.{sym}
-use Prim.Native.Nat.{◌-◌}
-use borrow.Author.Rules.{rules}
-use lib.ListN.{length}
-use Rattle.text.proofs.Laws.Words.{Begins, begins_first, begins_next, begins_count}
+use Rattle.text.proofs.Laws.Words.{begins_first, begins_next, begins_count}
 use Rattle.parsing.proofs.word_count.Goals as goal
 
 pub loop-at-init : goal.loop-at-init

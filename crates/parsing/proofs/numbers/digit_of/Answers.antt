@@ -1,7 +1,6 @@
 -- `numbers::digit_of` meets its contract: each return is one of the three ranges of digits, or between them.
 use mathlib.Core.Path.{sym}
 use native.Mathlib.Omega.{arith}
-use borrow.Author.Rules.{rules}
 use Rattle.text.proofs.Laws.Digits.{digit_decimal, digit_lower, digit_upper, digit_none}
 use Rattle.parsing.proofs.numbers.digit_of.Goals as goal
 

@@ -1,6 +1,5 @@
 -- `numbers::is_hexadecimal` meets its contract: a text of fewer than two bytes has no x, and the tests are those of the two bytes.
 use mathlib.Core.Path.{sym}
-use borrow.Author.Rules.{rules}
 use Rattle.text.proofs.Laws.Digits.{hexadecimal_short, hexadecimal_not, hexadecimal_by}
 use Rattle.parsing.proofs.numbers.is_hexadecimal.Goals as goal
 

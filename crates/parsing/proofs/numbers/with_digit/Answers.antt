@@ -4,7 +4,6 @@ use mathlib.Core.Path.{◌≡◌, sym, ◌∙◌}
 use mathlib.Core.List.{[], ◌∷◌}
 use Prim.Native.Nat.{◌+◌, ◌*◌, ◌≤◌}
 use native.Mathlib.Omega.{arith}
-use borrow.Author.Rules.{rules}
 use Rattle.text.specs.Reading.{number_from}
 use Rattle.text.proofs.Laws.Digits.{number_stop, number_next, number_past, number_end, digit_fits, digit_passes}
 use Rattle.parsing.proofs.numbers.with_digit.Goals as goal

@@ -1,5 +1,4 @@
 -- `words::next_word` meets its contract: the next word begins past the zero byte, and where there is none, at the end.
-use borrow.Author.Rules.{rules}
 use Rattle.text.proofs.Laws.Words.{next_past, next_last}
 use Rattle.parsing.proofs.words.next_word.Goals as goal
 

@@ -1,9 +1,6 @@
 -- `words::word_begin` meets its contract: the words from the i-th on begin at `begin`, until i is the index or no word is left.
-use Prim.Native.Nat.{◌-◌, ◌≤◌}
 use native.Mathlib.Omega.{arith}
-use borrow.Author.Rules.{rules}
-use lib.ListN.{length}
-use Rattle.text.proofs.Laws.Words.{Begins, begins_first, begins_next, begins_past}
+use Rattle.text.proofs.Laws.Words.{begins_first, begins_next, begins_past}
 use Rattle.parsing.proofs.words.word_begin.Goals as goal
 
 pub loop-begin-init : goal.loop-begin-init

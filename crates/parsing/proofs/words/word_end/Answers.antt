@@ -1,10 +1,8 @@
 -- `words::word_end` meets its contract: the bytes passed and those left of the word are always as many as the word has.
-use mathlib.Core.Path.{◌≡◌, refl}
-use Prim.Native.Nat.{◌+◌, ◌-◌}
+use mathlib.Core.Path.{refl}
 use native.Mathlib.Omega.{arith}
 use borrow.Author.Rules.{rules}
-use lib.ListN.{length}
-use Rattle.text.proofs.Laws.Words.{left, left_none, left_zero, left_more}
+use Rattle.text.proofs.Laws.Words.{left_none, left_zero, left_more}
 use Rattle.parsing.proofs.words.word_end.Goals as goal
 
 pub loop-i-init : goal.loop-i-init

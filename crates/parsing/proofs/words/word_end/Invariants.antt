@@ -1,10 +1,8 @@
 -- `words::word_end` meets its contract: the bytes passed and those left of the word are always as many as the word has.
-use mathlib.Core.Path.{◌≡◌, refl}
+use mathlib.Core.Path.{◌≡◌}
 use Prim.Native.Nat.{◌+◌, ◌-◌}
-use native.Mathlib.Omega.{arith}
-use borrow.Author.Rules.{rules}
 use lib.ListN.{length}
-use Rattle.text.proofs.Laws.Words.{left, left_none, left_zero, left_more}
+use Rattle.text.proofs.Laws.Words.{left}
 use Rattle.parsing.proofs.words.word_end.Given as goal
 
 abbrev pub invariant-loop-i : goal.invariant-loop-i
