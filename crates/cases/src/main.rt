@@ -1,6 +1,6 @@
 // Every case of the services, the tool and the scripts, a line of text each.
 #![tactic(auto)]
 
-fn main() {
-    driver::run_script();
+fn main(rt: HostRuntime) {
+    driver::run_script(rt);
 }

@@ -1,6 +1,6 @@
 // Drawn calls of every service, against what reference/ answers.
 #![tactic(auto)]
 
-fn main() {
-    driver::run_script();
+fn main(rt: HostRuntime) {
+    driver::run_script(rt);
 }

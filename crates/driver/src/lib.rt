@@ -5,10 +5,9 @@ ghost use Rattle.std.specs.Prelude.{◌≡◌, ◌≤◌, length, take};
 ghost use Rattle.scripting.specs.Script.{max_printed, line_done};
 ghost use Rattle.scripting.specs.States.{capacity_of, state_in, inside_of};
 
-use libc::STDIN_FILENO;
 use script::line;
 use scripting::{MAX_PRINTED, MAX_TAPES, Marks, Printed, START};
-use streams::write_output;
+use streams::{read_piece, write_output};
 use text::NEWLINE;
 
 // A line that is being read: how many bytes of it there are, and the marks that the lines before it left. Where a write failed, nothing
@@ -30,7 +29,7 @@ const PIECE_BYTES: usize = 65536;
 const MAX_PIECES: u64 = 1099511627776;
 
 // Reads a script from standard input, and prints what each line comes to.
-pub fn run_script() {
+pub fn run_script(rt: HostRuntime) {
     let mut tapes = [0u32; MAX_TAPES];
     let mut held = [0u8; LINE_BYTES];
     let mut piece = [0u8; PIECE_BYTES];
@@ -41,35 +40,34 @@ pub fn run_script() {
     };
     let mut pieces: u64 = 0;
     while pieces < MAX_PIECES {
-        let got = libc::read(STDIN_FILENO, &mut piece);
-        if got < 0 {
-            os::fail(b"fibexp: standard input");
+        let input = read_piece(rt, &mut piece);
+        if input.failed {
             return;
         }
-        let count = io::count(got, &piece);
+        let count = input.count;
         if count == 0 {
             break;
         }
-        pending = take_piece(&piece[..count], &mut held, &mut tapes, pending);
+        pending = take_piece(rt, &piece[..count], &mut held, &mut tapes, pending);
         if pending.failed {
             return;
         }
         pieces += 1;
     }
     if 0 < pending.length {
-        end_line(&held, &mut tapes, pending);
+        end_line(rt, &held, &mut tapes, pending);
     }
 }
 
 // Every byte of a piece.
-fn take_piece(piece: &[u8], held: &mut [u8], tapes: &mut [u32], before: Pending) -> Pending
+fn take_piece(rt: HostRuntime, piece: &[u8], held: &mut [u8], tapes: &mut [u32], before: Pending) -> Pending
     requires { before.length ≤ length held.old }
     ensures { result.length ≤ length held.new }
 {
     let mut pending = before;
     let mut i: usize = 0;
     while i < piece.len() {
-        pending = take_byte(piece[i], held, tapes, pending);
+        pending = take_byte(rt, piece[i], held, tapes, pending);
         if pending.failed {
             return pending;
         }
@@ -79,13 +77,13 @@ fn take_piece(piece: &[u8], held: &mut [u8], tapes: &mut [u32], before: Pending)
 }
 
 // A byte of a line. One that the row has no room for is let pass: the line is too long already.
-fn take_byte(byte: u8, held: &mut [u8], tapes: &mut [u32], pending: Pending) -> Pending
+fn take_byte(rt: HostRuntime, byte: u8, held: &mut [u8], tapes: &mut [u32], pending: Pending) -> Pending
     requires { pending.length ≤ length held.old }
     ensures { result.length ≤ length held.new }
 {
     let at = pending.length;
     if byte == NEWLINE {
-        return end_line(held, tapes, pending);
+        return end_line(rt, held, tapes, pending);
     }
     if held.len() <= at {
         return pending;
@@ -100,7 +98,7 @@ fn take_byte(byte: u8, held: &mut [u8], tapes: &mut [u32], pending: Pending) -> 
 }
 
 // Does the line and prints what it comes to.
-fn end_line(held: &[u8], tapes: &mut [u32], pending: Pending) -> Pending
+fn end_line(rt: HostRuntime, held: &[u8], tapes: &mut [u32], pending: Pending) -> Pending
     requires { pending.length ≤ length held.now }
     ensures { result.length ≤ 0 }
 {
@@ -110,7 +108,7 @@ fn end_line(held: &[u8], tapes: &mut [u32], pending: Pending) -> Pending
     let printed = whole_line(&held[..length], tapes, before, &mut text);
     let count = printed.length;
     let marks = printed.marks;
-    let taken = write_output(&text[..count]);
+    let taken = write_output(rt, &text[..count]);
     Pending {
         length: 0,
         marks,

@@ -9,9 +9,9 @@ use streams::{read_input, write_output};
 // One byte more than a tape has is enough to see that there are too many.
 const MAX_READ: usize = MAX_BYTES + 1;
 
-fn main() {
+fn main(rt: HostRuntime) {
     let mut bytes = [0u8; MAX_READ];
-    let input = read_input(&mut bytes);
+    let input = read_input(rt, &mut bytes);
     if input.failed {
         return;
     }
@@ -19,5 +19,5 @@ fn main() {
     let mut lines = [0u8; MAX_WRITTEN];
     let listed = listing(&bytes[..count], &mut lines);
     let written = listed.written;
-    write_output(&lines[..written]);
+    write_output(rt, &lines[..written]);
 }
