@@ -1,0 +1,7 @@
+-- `leave` meets its contract by its definition.
+use Rattle.montgomery.specs.Inner.Forms.{leave}
+use Rattle.montgomery.proofs.leave.Goals as goal
+
+pub returns : goal.returns
+unfolding leave
+returns c = c.reduced.ensures
