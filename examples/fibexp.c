@@ -3,7 +3,7 @@
  * is 3 where standard input can't be read or the reply can't be written. `script` is a verb of the program fibexp alone,
  * as the reply to it says.
  *
- *     rt staticlib capi
+ *     sh tools/make.sh archive
  *     cc -std=c99 -Wall -Wextra -Werror -Iinclude examples/fibexp.c target/staticlib/libcapi.a -o target/fibexp-c
  *     target/fibexp-c build 359 179 76 hybrid | target/fibexp-c power 4
  */

@@ -3,7 +3,7 @@
  * order modulo 359 is 179. Does a single step, previews the run to the end and does it, so that register 1 holds 4^76
  * modulo 359, then runs back to the base, and prints the program's listing.
  *
- *     rt staticlib capi
+ *     sh tools/make.sh archive
  *     cc -std=c99 -Wall -Wextra -Werror -Iinclude examples/power.c target/staticlib/libcapi.a -o target/power
  *     target/power
  */

@@ -1,6 +1,6 @@
 /*
  * The C interface: writing and running tapes of targeted Fibonacci exponentiation. Link it with
- * target/staticlib/libcapi.a, which `rt staticlib capi` writes; the archive is for x86-64 Linux, and the C library is
+ * target/staticlib/libcapi.a, which `sh tools/make.sh archive` writes; the archive is for x86-64 Linux, and the C library is
  * all that it needs.
  *
  * Each service but fibexp_hofstadter and fibexp_height, which refuse nothing, answers the number of the first refusal

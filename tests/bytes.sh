@@ -1,6 +1,6 @@
 #!/bin/sh
 # Runs the command lines of tests/bytes.txt with the tool, and compares the text; the other stream must be empty.
-#     rt check fibexp && sh tests/bytes.sh
+#     sh tools/make.sh tool && sh tests/bytes.sh
 #     sh tests/bytes.sh TOOL    with the tool in C, whose exit status is compared too
 cd "$(dirname "$0")/.." || exit 2
 tool=${1:-target/bin/fibexp} has_status=${1:+yes}

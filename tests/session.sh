@@ -2,7 +2,7 @@
 # Runs the commands of the README's session with the tool, and compares what they print with what the README says: a line that comes on
 # standard error has `! ` in front there, so the two streams are compared apart. Then the same with the tool in C, which has an exit
 # status too, 0 where nothing comes on standard error, 1 for a refusal, else 2; it has no scripts.
-#     rt check fibexp && sh tests/session.sh [C_TOOL]
+#     sh tools/make.sh tool && sh tests/session.sh [C_TOOL]
 # The tool in C is C_TOOL, else target/fibexp-c where that is; the README has the line that compiles it.
 cd "$(dirname "$0")/.." || exit 2
 root=$PWD

@@ -1,4 +1,4 @@
-//! Links the archive that `rt staticlib capi` writes; FIBEXP_ARCHIVE names another folder for it.
+//! Links the archive that `sh tools/make.sh archive` writes; FIBEXP_ARCHIVE names another folder for it.
 
 use std::env;
 use std::path::PathBuf;
