@@ -1,0 +1,94 @@
+-- `number_of_places` meets its contract: the loop tests the whole list, so 13 comes before 12, and sums it modulo 2^64 (Laws/Summing).
+use Rattle.std.proofs.Common.{◌≡◌, ℕ, ◌+◌, ◌%◌, ◌^◌, ◌<◌, ◌≤◌, true, false, not, leb, List, [], ◌∷◌, length, get_or, sym, refl, ap, ◌∙◌, arith, le-leb}
+use borrow.Author.Tests.{lt-leb}
+use Rattle.refusal.specs.declared.Refusal.TheVariants.{Range, Index}
+use Rattle.refusal.specs.Outcomes.{refused, answered, ◌given_if◌, gives, passes, answers}
+use Rattle.fibonacci.specs.Fibonacci.{fib}
+use Rattle.fibonacci.specs.Forms.{weight, are_places}
+use Rattle.fibonacci.specs.Services.{last_place, fibonacci_or_zero, number_outcome}
+use Rattle.fibonacci.proofs.Laws.Fibonacci.{fibonacci_below_94}
+use Rattle.fibonacci.proofs.Laws.Places.{test_places, places_at}
+use Rattle.fibonacci.proofs.Laws.Summing.{Summing, summing_starts, summing_next, summing_stops, summing_ends, summing_sum, sum_short, sum_whole}
+use Rattle.places.proofs.number_of_places.Goals as goal
+
+-- ---- each return is a case of the list of refusals
+
+no-places : (l : List ℕ) → are_places last_place l ≡ false → refused 13 ≡ number_outcome l
+unfolding number_outcome
+no-places l e = sym (gives Index _ _ (ap not e))
+
+module _ (l : List ℕ) (e : are_places last_place l ≡ true) where
+  too-high : 2 ^ 64 ≤ weight l → refused 12 ≡ number_outcome l
+  unfolding number_outcome
+  too-high h = sym (passes Index ((Range given_if leb (2 ^ 64) (weight l)) ∷ []) (weight l) (ap not e) ∙ gives Range [] (weight l) (le-leb (2 ^ 64) (weight l) h))
+
+  fits : {sum : ℕ} → weight l < 2 ^ 64 → sum ≡ weight l % 2 ^ 64 → answered sum ≡ number_outcome l
+  unfolding number_outcome
+  fits h s =
+      ap answered (omega arith)
+      ∙ sym (passes Index ((Range given_if leb (2 ^ 64) (weight l)) ∷ []) (weight l) (ap not e) ∙ passes Range [] (weight l) (lt-leb (2 ^ 64) (weight l) h) ∙ answers (weight l))
+
+no_place : (l : List ℕ) → length l ≡ 0 → answered 0 ≡ number_outcome l
+unfolding are_places weight
+no_place [] e = fits [] refl (omega arith) refl
+no_place (i ∷ l) e = absurd (omega arith)
+
+-- past the loop the list is one of places, the sum is its weight modulo 2^64, and the weight of its highest place is known
+module _ {l : List ℕ} {above sum i f : ℕ} (s : Summing l above sum i) (some : 0 < length l) (ends : length l ≤ i) (open_end : 0 < above) (small : sum < 2 ^ 64)
+    (e : f ≡ fibonacci_or_zero (get_or l 0 0 + 1)) where
+  tested : are_places last_place l ≡ true
+  tested = summing_ends s ends open_end
+
+  weighs : f ≡ fib (get_or l 0 0 + 1)
+  weighs = fibonacci_below_94 e (omega (arith, (places_at 92 l 0 (test_places 92 l tested) some).1))
+
+  sum_too_high : sum < f → refused 12 ≡ number_outcome l
+  sum_too_high h = too-high l tested (sum_short l some weighs (summing_sum s ends small) h)
+
+  sum_fits : f ≤ sum → answered sum ≡ number_outcome l
+  sum_fits h = fits l tested (sum_whole l (test_places 92 l tested) some weighs (summing_sum s ends small) h) (summing_sum s ends small)
+
+-- ---- the loop
+
+pub returns-then-list-eq0 : goal.returns-then-list-eq0
+returns-then-list-eq0 c = no_place _ c.if-list-eq0.true
+
+pub loop-i-init : goal.loop-i-init
+loop-i-init c = (summing_starts _, omega arith, omega arith)
+
+pub overflow_cast-place : goal.overflow_cast-place
+overflow_cast-place c = omega (arith, c.shared_slice_known-in-loop-i-1.given c.loop-i.i)
+
+pub overflow_add-place : goal.overflow_add-place
+overflow_add-place c = omega (arith, c.shared_slice_known-in-loop-i-1.given c.loop-i.i)
+
+pub returns-then-above-place : goal.returns-then-above-place
+returns-then-above-place c = no-places _ (summing_stops c.loop-i.invariant.0 c.loop-i-test.true (omega (arith, c.if-above-place.true)))
+
+pub overflow_add-place-in-loop-i : goal.overflow_add-place-in-loop-i
+overflow_add-place-in-loop-i c = omega (arith, c.if-above-place.false, c.loop-i.invariant.1)
+
+pub loop-i-preserved : goal.loop-i-preserved
+loop-i-preserved c =
+    let inv = c.loop-i.invariant in
+    let weighs = fibonacci_below_94 c.fibonacci_or_zero.ensures (omega (arith, c.if-above-place.false, inv.1)) in (
+      summing_next inv.0 c.loop-i-test.true (omega (arith, c.if-above-place.false)) weighs c.wrapping_add_u64-sum.ensures.value,
+      omega (arith, c.if-above-place.false, inv.1),
+      omega arith,
+    )
+
+pub returns-then-above-eq0 : goal.returns-then-above-eq0
+returns-then-above-eq0 c = no-places _ (c.loop-i.invariant.0.spoilt c.if-above-eq0.true)
+
+pub overflow_cast-list : goal.overflow_cast-list
+overflow_cast-list c = omega (arith, c.shared_slice_known-2-1.given 0)
+
+pub overflow_add-list : goal.overflow_add-list
+overflow_add-list c = omega (arith, c.shared_slice_known-2-1.given 0)
+
+pub returns-then-sum-fibonacci_or_zero : goal.returns-then-sum-fibonacci_or_zero
+returns-then-sum-fibonacci_or_zero c =
+    sum_too_high c.loop-i.invariant.0 (omega arith) c.loop-i-test.false (omega arith) (omega arith) c.fibonacci_or_zero-2.ensures c.if-sum-fibonacci_or_zero.true
+
+pub returns : goal.returns
+returns c = sum_fits c.loop-i.invariant.0 (omega arith) c.loop-i-test.false (omega arith) (omega arith) c.fibonacci_or_zero-2.ensures c.if-sum-fibonacci_or_zero.false
