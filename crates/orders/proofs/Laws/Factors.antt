@@ -2,7 +2,7 @@
 -- n has all of them and nothing else: with each next number it stays, or the number is a prime divisor and is put behind.
 use mathlib.Core.Path.{◌≡◌, sym, ap, subst, ◌∙◌}
 use mathlib.Core.Logic.{◌⊎◌, inl, inr, ⊎_elim}
-use mathlib.Core.Bool.{Bool, true, false, ◌&&◌, true≢false}
+use mathlib.Core.Bool.{Bool, ◌&&◌, true≢false}
 use mathlib.Core.List.{List, [], ◌∷◌, ◌++◌, append-nil}
 use Prim.Native.Nat.{ℕ, zero, suc, ◌*◌, ◌-◌, ◌%◌, ◌≤◌, ◌<◌, ◌∣◌}
 use native.Mathlib.Nat.{dvd_of_mod-eq-zero, dvd_refl, dvd_trans, emod_pos_of_not-dvd, mod-eq-zero_of_dvd, mod-lt, mod-one}
