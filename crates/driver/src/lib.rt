@@ -60,7 +60,13 @@ pub fn run_script(rt: HostRuntime) {
 }
 
 // Every byte of a piece.
-fn take_piece(rt: HostRuntime, piece: &[u8], held: &mut [u8], tapes: &mut [u32], before: Pending) -> Pending
+fn take_piece(
+    rt: HostRuntime,
+    piece: &[u8],
+    held: &mut [u8],
+    tapes: &mut [u32],
+    before: Pending,
+) -> Pending
     requires { before.length ≤ length held.old }
     ensures { result.length ≤ length held.new }
 {
@@ -77,7 +83,13 @@ fn take_piece(rt: HostRuntime, piece: &[u8], held: &mut [u8], tapes: &mut [u32],
 }
 
 // A byte of a line. One that the row has no room for is let pass: the line is too long already.
-fn take_byte(rt: HostRuntime, byte: u8, held: &mut [u8], tapes: &mut [u32], pending: Pending) -> Pending
+fn take_byte(
+    rt: HostRuntime,
+    byte: u8,
+    held: &mut [u8],
+    tapes: &mut [u32],
+    pending: Pending,
+) -> Pending
     requires { pending.length ≤ length held.old }
     ensures { result.length ≤ length held.new }
 {

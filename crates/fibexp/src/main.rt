@@ -26,10 +26,7 @@ fn main(rt: HostRuntime) {
     let mut arguments = [0u8; MAX_ARGUMENTS];
     let count = gather(rt, &mut arguments);
     if count == MAX_ARGUMENTS {
-        let _told = write_error(
-            rt,
-            b"fibexp: a command line of more than 4095 bytes\n",
-        );
+        let _told = write_error(rt, b"fibexp: a command line of more than 4095 bytes\n");
         return;
     }
     answer(rt, &arguments[..count]);

@@ -1,9 +1,7 @@
 -- `decode` meets its contract: in the arm of a kind the tests of `decoded` come out as that kind, and in the ranges and past them no
 -- kind is left that has a meaning.
-use mathlib.Core.Path.{◌≡◌, sym, ◌∙◌}
+use mathlib.Core.Path.{sym, ◌∙◌}
 use native.Mathlib.Omega.{arith}
-use borrow.Author.Rules.{rules}
-use Rattle.tape.specs.declared.Decoded.TheVariants.{Bad}
 use Rattle.tape.specs.Words.{decoded}
 use Rattle.tape.proofs.Laws.Payloads.{decoded_nothing}
 use Rattle.decoding.proofs.decode.Goals as goal

@@ -1,7 +1,6 @@
 -- `nth_step` meets its contract: past the row and for what is no step the definition gives mul 0 1, and a step's word is its step's.
 use mathlib.Core.Path.{sym, ap, ◌∙◌}
-use borrow.Author.Rules.{rules}
-use borrow.Author.Tests.{eqb-true, not-true, not-false}
+use borrow.Author.Tests.{eqb-true}
 use Rattle.tape.specs.Layout.{step_of, means_at}
 use Rattle.tape.proofs.Laws.Words.{step_none}
 use Rattle.tape.proofs.Laws.Rows.{means_past}

@@ -1,7 +1,6 @@
 -- `carry` meets its contract: the product of two 16-bit numbers fits 32 bits, and its upper half 16.
 use native.Mathlib.Nat.{div-lt_iff_lt-mul}
 use native.Mathlib.Omega.{arith}
-use borrow.Author.Rules.{rules}
 use Rattle.divisors.proofs.Laws.Quotients.{product_below}
 use Rattle.divisors.proofs.carry.Goals as goal
 

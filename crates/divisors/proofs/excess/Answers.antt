@@ -1,7 +1,6 @@
 -- `excess` meets its contract: it computes what `large_divided` speaks of.
 use Prim.Native.Nat.{◌%◌}
 use native.Mathlib.Omega.{arith}
-use borrow.Author.Rules.{rules}
 use Rattle.divisors.specs.Inner.Inverted.{half_word}
 use Rattle.divisors.proofs.Laws.Quotients.{carry_at_most, large_divided}
 use Rattle.divisors.proofs.excess.Goals as goal

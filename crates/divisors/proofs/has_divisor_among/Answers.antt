@@ -1,10 +1,7 @@
 -- `has_divisor_among` meets its contract. The loop's invariant: `least` is zero where one of the first i primes divides p.
-use mathlib.Core.Logic.{⊎_elim, inl, inr}
-use Prim.Native.Nat.{◌-◌, ◌≤◌}
+use mathlib.Core.Logic.{inl, inr}
 use native.Mathlib.Omega.{arith}
-use lib.ListN.{length}
-use borrow.Author.Rules.{rules}
-use Rattle.divisors.proofs.Laws.Least.{LeastOf, least_start, least_more, least_end}
+use Rattle.divisors.proofs.Laws.Least.{least_start, least_more, least_end}
 use Rattle.divisors.proofs.has_divisor_among.Goals as goal
 use Rattle.divisors.proofs.has_divisor_among.Goals.{then-r-least, else-r-least}
 

@@ -1,10 +1,7 @@
 -- `has_divisor_among` meets its contract. The loop's invariant: `least` is zero where one of the first i primes divides p.
-use mathlib.Core.Logic.{⊎_elim, inl, inr}
 use Prim.Native.Nat.{◌-◌, ◌≤◌}
-use native.Mathlib.Omega.{arith}
 use lib.ListN.{length}
-use borrow.Author.Rules.{rules}
-use Rattle.divisors.proofs.Laws.Least.{LeastOf, least_start, least_more, least_end}
+use Rattle.divisors.proofs.Laws.Least.{LeastOf}
 use Rattle.divisors.proofs.has_divisor_among.Given as goal
 
 abbrev pub invariant-loop-i : goal.invariant-loop-i

@@ -1,7 +1,6 @@
 -- `has_divisor_from_4097` meets its contract: the table covers the odd numbers from 4097 to 2^14, as antt computes.
 use mathlib.Core.Path.{refl}
 use native.Mathlib.Omega.{arith}
-use borrow.Author.Rules.{rules}
 use Rattle.divisors.proofs.Laws.Small.{small_told}
 use Rattle.divisors.proofs.Laws.Inverses.{are_inverses, inverses}
 use Rattle.divisors.proofs.Laws.Covering.{divided_by, covers, none_listed_lem}

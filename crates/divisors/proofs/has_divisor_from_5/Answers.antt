@@ -1,9 +1,7 @@
 -- `has_divisor_from_5` meets its contract. The loop's invariant: d is odd, and no small divisor is below it.
-use mathlib.Core.Path.{◌≡◌, sym}
-use Prim.Native.Nat.{◌-◌, ◌%◌, ◌≤◌}
+use mathlib.Core.Path.{sym}
 use native.Mathlib.Nat.{dvd_of_mod-eq-zero, mod-eq-zero_of_dvd}
 use native.Mathlib.Omega.{arith}
-use Rattle.divisors.specs.Inner.Inverted.{NoneBelow}
 use Rattle.divisors.proofs.Laws.Small.{small_test, none_told}
 use Rattle.divisors.proofs.Laws.Covering.{none_below_five, past}
 use Rattle.divisors.proofs.has_divisor_from_5.Goals as goal
@@ -29,13 +27,12 @@ pub loop-d-smaller : goal.loop-d-smaller
 loop-d-smaller c = omega arith
 
 pub loop-d-preserved : goal.loop-d-preserved
-loop-d-preserved c =
-    (
-      omega arith,
-      omega arith,
-      omega arith,
-      past _ c.requires.odd _ c.loop-d.invariant.2 c.loop-d.invariant.3 (λ s. c.if-p-d-eq0.false (mod-eq-zero_of_dvd _ s.divides)),
-    )
+loop-d-preserved c = (
+  omega arith,
+  omega arith,
+  omega arith,
+  past _ c.requires.odd _ c.loop-d.invariant.2 c.loop-d.invariant.3 (λ s. c.if-p-d-eq0.false (mod-eq-zero_of_dvd _ s.divides)),
+)
 
 pub returns : goal.returns
 returns c = none_told _ (λ d s. c.loop-d.invariant.3 d (omega (arith, s.high)) s)

@@ -1,11 +1,7 @@
 -- `has_divisor_from_5` meets its contract. The loop's invariant: d is odd, and no small divisor is below it.
-use mathlib.Core.Path.{◌≡◌, sym}
+use mathlib.Core.Path.{◌≡◌}
 use Prim.Native.Nat.{◌-◌, ◌%◌, ◌≤◌}
-use native.Mathlib.Nat.{dvd_of_mod-eq-zero, mod-eq-zero_of_dvd}
-use native.Mathlib.Omega.{arith}
 use Rattle.divisors.specs.Inner.Inverted.{NoneBelow}
-use Rattle.divisors.proofs.Laws.Small.{small_test, none_told}
-use Rattle.divisors.proofs.Laws.Covering.{none_below_five, past}
 use Rattle.divisors.proofs.has_divisor_from_5.Given as goal
 
 abbrev pub invariant-loop-d : goal.invariant-loop-d

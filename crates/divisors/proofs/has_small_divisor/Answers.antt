@@ -3,7 +3,6 @@
 use mathlib.Core.Path.{◌≡◌, refl, sym}
 use Prim.Native.Nat.{◌%◌}
 use native.Mathlib.Omega.{arith}
-use borrow.Author.Rules.{rules}
 use Rattle.divisors.specs.Inner.Inverted.{NoneBelow}
 use Rattle.divisors.proofs.Laws.Small.{small_test, none_told}
 use Rattle.divisors.proofs.Laws.Inverses.{are_inverses, inverses}

@@ -1,7 +1,5 @@
 -- `payloads::division_in` meets its contract: each return is a case of `action_in` by the test of the two registers.
 use mathlib.Core.Path.{sym, ◌∙◌}
-use borrow.Author.Rules.{rules}
-use borrow.Author.Tests.{not-true, not-false}
 use Rattle.tape.proofs.Laws.Payloads.{action_distinct, action_bad}
 use Rattle.decoding.proofs.payloads.division_in.Goals as goal
 

@@ -1,5 +1,4 @@
 -- `steps::operation_of` meets its contract: the digits are those of the definition.
-use borrow.Author.Rules.{rules}
 use Rattle.tape.specs.Inner.Operations.{raw_step}
 use Rattle.decoding.proofs.steps.operation_of.Goals as goal
 
