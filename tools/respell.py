@@ -47,7 +47,7 @@ def files(root):
 
 def is_walk(path):
     """A proof of a function, beside which Rattle has names of its own."""
-    return os.path.basename(path) in ("Proof.antt", "Answers.antt", "Invariants.antt")
+    return os.path.basename(path) in ("Proof.antt", "Answers.antt", "Invariants.antt") and os.sep + "Laws" + os.sep not in path
 
 
 def own_imports(text):

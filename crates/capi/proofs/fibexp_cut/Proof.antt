@@ -5,14 +5,14 @@ use lib.ListN.{length}
 use borrow.Author.Rules.{rules}
 use Rattle.tape.specs.Layout.{step_words}
 use Rattle.sequencer.specs.Services.{cut_part}
-use Rattle.sequencer.proofs.Laws.Answers.{Stands, cut_stands, cut-not}
+use Rattle.sequencer.proofs.Laws.Answers.{Stands, cut_stands, cut_not}
 use Rattle.capi.proofs.fibexp_cut.Statement.{statement}
 use Rattle.capi.proofs.fibexp_cut.Tie as tie
 
 returns : tie.Need-returns
 returns c =
     let number = c.before.cut.ensures.1 in
-    let not = cut-not _ _ _ (λ zero. c.if1.true (number ∙ zero)) in
+    let not = cut_not _ _ _ (λ zero. c.if1.true (number ∙ zero)) in
     (number, (sym (not _).0, (sym (not _).1, λ zero. absurd (c.if1.true zero))))
 
 -- where the number is 0

@@ -4,7 +4,7 @@ use native.Mathlib.Omega.{arith}
 use borrow.Author.Rules.{rules}
 use Rattle.refusal.specs.Outcomes.{gives, passes, answers}
 use Rattle.sequencer.specs.Services.{base_rules}
-use Rattle.sequencer.proofs.Laws.Answers.{good-register}
+use Rattle.sequencer.proofs.Laws.Answers.{good_register}
 use Rattle.conditions.proofs.check_one.Statement.{statement}
 use Rattle.conditions.proofs.check_one.Tie as tie
 
@@ -14,7 +14,7 @@ returns c = sym (gives _ _ _ (sym c.before.is-bad-register.ensures ∙ c.if1.tru
 
 is-bad-base-requires : tie.Need-is-bad-base-requires
 is-bad-base-requires c κs =
-    (omega (arith, (good-register _ _ (sym c.before.is-bad-register.ensures ∙ c.if1.false)).high), c.before.before.before.requires)
+    (omega (arith, (good_register _ _ (sym c.before.is-bad-register.ensures ∙ c.if1.false)).high), c.before.before.before.requires)
 
 returns-2 : tie.Need-returns-2
 unfolding base_rules

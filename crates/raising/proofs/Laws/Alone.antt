@@ -21,14 +21,14 @@ use Rattle.lanes.proofs.Laws.Bases.{through_done}
 use Rattle.sequencer.specs.Services.{start_record, load_outcome}
 use Rattle.sequencer.specs.Bases.{row_rules, raised}
 use Rattle.sequencer.proofs.Laws.Cases.{modulus_prime, modulus_odd, words_steps}
-use Rattle.sequencer.proofs.Laws.Answers.{steps-sound, load-answered}
+use Rattle.sequencer.proofs.Laws.Answers.{steps_sound, load_answered}
 use Rattle.sequencer.proofs.Laws.Bases.{raised_done, row_map}
 
 module _ (tape : List ℕ) (h : Header) (e : accept_outcome tape ≡ answered h) (m : Modulus) (fits : h.modulus ≤ word) (is : IsModulus h.modulus m) where
   lane_alone : (a : ℕ) → load_outcome tape a ≡ answered (start_record a) → through m (raw_steps (step_words_of tape)) a ≡ raised tape a
   lane_alone a load =
       ap (λ (xs : List Step). through m xs a) (raw_steps_lem (step_words_of tape) (words_steps tape h e))
-      ∙ through_done h.modulus m (modulus_prime tape h e) (modulus_odd tape h e) fits is a (rw (header_is tape h e) (load-answered tape a _ load).base) (steps_of tape) (steps-sound tape)
+      ∙ through_done h.modulus m (modulus_prime tape h e) (modulus_odd tape h e) fits is a (rw (header_is tape h e) (load_answered tape a _ load).base) (steps_of tape) (steps_sound tape)
       ∙ ap (λ (g : Header). reg (do_all g.modulus (steps_of tape) (start a)) 1) (header_is tape h e)
       ∙ sym (raised_done tape a load)
 

@@ -11,7 +11,7 @@ use Rattle.machine.specs.Machine.{values_of, run}
 use Rattle.refusal.specs.Outcomes.{answered, gives, passes, answers}
 use Rattle.sequencer.specs.Services.{record_rules, goal_rules}
 use Rattle.sequencer.proofs.Laws.Cases.{modulus_prime, modulus_odd, words_steps, words_are, run_rules_lem}
-use Rattle.sequencer.proofs.Laws.Answers.{residues-registers}
+use Rattle.sequencer.proofs.Laws.Answers.{residues_registers}
 use Rattle.running.proofs.run_accepted.Statement.{statement}
 use Rattle.running.proofs.run_accepted.Tie as tie
 
@@ -48,7 +48,7 @@ run-steps-requires c κs =
       inside = record { are_steps = ap all_steps c.steps.ensures ∙ words_steps _ _ accept; from_inside = omega arith; goal_inside = omega arith };
       prime = modulus_prime _ _ accept;
       odd = modulus_odd _ _ accept;
-      residues = residues-registers _ _ _ _ _ (sym tested.before.is-some-bad.ensures ∙ tested.if1.false);
+      residues = residues_registers _ _ _ _ _ (sym tested.before.is-some-bad.ensures ∙ tested.if1.false);
     }
 
 returns-4 : tie.Need-returns-4

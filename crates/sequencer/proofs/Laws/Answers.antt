@@ -37,31 +37,31 @@ pub said_of : {A : Type 0} {o answer : Outcome A} (P Q : Outcome A → Type 0) �
 said_of P Q p q e = (e, (subst P (sym e) p, subst Q (sym e) q))
 
 -- a number that refusal 9 lets pass
-pub good-register : (p x : ℕ) → bad_register p x ≡ false → Residue p x
+pub good_register : (p x : ℕ) → bad_register p x ≡ false → Residue p x
 unfolding bad_register
-good-register p x good =
+good_register p x good =
     let n = neither (eqb x 0) (leb p x) good in
     record { low = omega (arith, eqb-false x 0 n.0); high = leb-false p x n.1 }
 
-pub residue-good : (p x : ℕ) → Residue p x → bad_register p x ≡ false
+pub residue_good : (p x : ℕ) → Residue p x → bad_register p x ≡ false
 unfolding bad_register
-residue-good p x r = rw (ne_eqb x 0 (λ e. omega arith), lt-leb p x r.high)
+residue_good p x r = rw (ne_eqb x 0 (λ e. omega arith), lt-leb p x r.high)
 
-pub residues-registers : (p c d e f : ℕ) → bad_registers p (c ∷ d ∷ e ∷ f ∷ []) ≡ false → Residues p (c ∷ d ∷ e ∷ f ∷ [])
+pub residues_registers : (p c d e f : ℕ) → bad_registers p (c ∷ d ∷ e ∷ f ∷ []) ≡ false → Residues p (c ∷ d ∷ e ∷ f ∷ [])
 unfolding bad_registers
-residues-registers p c d e f good =
+residues_registers p c d e f good =
     let first = neither (bad_register p c) _ good in
     let second = neither (bad_register p d) _ first.1 in
     let third = neither (bad_register p e) _ second.1 in
     let fourth = neither (bad_register p f) _ third.1 in
-    residues_four p c d e f (good-register p c first.0) (good-register p d second.0) (good-register p e third.0) (good-register p f fourth.0)
+    residues_four p c d e f (good_register p c first.0) (good_register p d second.0) (good_register p e third.0) (good_register p f fourth.0)
 
 -- the steps of a tape are sound, and an accepted tape's p is prime
-pub steps-sound : (tape : List ℕ) → AllSound (steps_of tape)
-steps-sound tape = all_steps_sound (step_words_of tape)
+pub steps_sound : (tape : List ℕ) → AllSound (steps_of tape)
+steps_sound tape = all_steps_sound (step_words_of tape)
 
-pub prime-of : (tape : List ℕ) → check_outcome tape ≡ answered 0 → Prime (header_of tape).modulus
-prime-of tape e = accepted_prime tape (accepted 0 tape e)
+pub prime_of : (tape : List ℕ) → check_outcome tape ≡ answered 0 → Prime (header_of tape).modulus
+prime_of tape e = accepted_prime tape (accepted 0 tape e)
 
 pub record Loaded (tape : List ℕ) (a : ℕ) (s : Record) : Type 0 where
   pub accepted : accept_outcome tape ≡ answered (header_of tape)
@@ -69,21 +69,21 @@ pub record Loaded (tape : List ℕ) (a : ℕ) (s : Record) : Type 0 where
   pub allowed : bad_base (header_of tape) a ≡ false
   pub record_is : s ≡ start_record a
 
-pub load-answered : (tape : List ℕ) (a : ℕ) (s : Record) → load_outcome tape a ≡ answered s → Loaded tape a s
+pub load_answered : (tape : List ℕ) (a : ℕ) (s : Record) → load_outcome tape a ≡ answered s → Loaded tape a s
 unfolding load_outcome base_rules
-load-answered tape a s e =
+load_answered tape a s e =
     let register = passed _ _ _ _ _ (answered_own tape _ (start_record a) e) in
     record {
       accepted = answered_tape tape _ (start_record a) e;
-      base = good-register _ a register.0;
+      base = good_register _ a register.0;
       allowed = (passed _ _ _ _ _ register.1).0;
       record_is = answered_with tape _ (start_record a) e;
     }
 
-pub run-answered : (tape : List ℕ) (s : Record) (goal : ℕ) {t : Record} → run_outcome tape s goal ≡ answered t
+pub run_answered : (tape : List ℕ) (s : Record) (goal : ℕ) {t : Record} → run_outcome tape s goal ≡ answered t
     → t ≡ record_at (header_of tape) (steps_of tape) s goal
 unfolding run_outcome
-run-answered tape s goal e = answered_with tape _ _ e
+run_answered tape s goal e = answered_with tape _ _ e
 
 -- what 0 beside a cut says: its words are those of the definition, and stand where `cut_start` and `cut_count` say, inside a tape of at
 -- most so many words as a tape has
@@ -124,10 +124,10 @@ module _ (tape : List ℕ) (first last : ℕ) where
       }
 
   -- and another number: both places hold what they held
-  pub cut-not : ¬ (refusal_number (cut_outcome tape first last) ≡ 0) → (held : ℕ)
+  pub cut_not : ¬ (refusal_number (cut_outcome tape first last) ≡ 0) → (held : ℕ)
       → (after (cut_start tape first last) held ≡ held) × (after (cut_count tape first last) held ≡ held)
   unfolding cut_outcome cut_start cut_count on_tape
-  cut-not some held = (other_refused words (step_index tape first) held rules some, other_refused words (length words) held rules some)
+  cut_not some held = (other_refused words (step_index tape first) held rules some, other_refused words (length words) held rules some)
 
 -- every run of every list is refused or answers as said
 as_said : (q : Request) (s : Record) → AsSaid q s
@@ -135,21 +135,21 @@ unfolding run_outcome on_tape run_rules
 as_said q s = refused_where (run_rules q.tape (given q s) q.goal) _
 
 -- a row written from its first entry on, entry by entry
-sets-none : (i : ℕ) (numbers : List ℕ) → sets [] i numbers ≡ []
-sets-none i [] = refl
-sets-none i (n ∷ numbers) = sets-none (suc i) numbers
+sets_none : (i : ℕ) (numbers : List ℕ) → sets [] i numbers ≡ []
+sets_none i [] = refl
+sets_none i (n ∷ numbers) = sets_none (suc i) numbers
 
 sets_past : (x : ℕ) (row : List ℕ) (i : ℕ) (numbers : List ℕ) → sets (x ∷ row) (suc i) numbers ≡ x ∷ sets row i numbers
 sets_past x row i [] = refl
 sets_past x row i (n ∷ numbers) = sets_past x (set row i n) (suc i) numbers
 
 -- with its number in its place of a row
-pub each-as-said : (qs : List Request) (s : Record) (row : List ℕ) → EachAsSaid qs s (sets row 0 (numbers_all qs s))
+pub each_as_said_lem : (qs : List Request) (s : Record) (row : List ℕ) → EachAsSaid qs s (sets row 0 (numbers_all qs s))
 unfolding EachAsSaid numbers_all
-each-as-said [] s row = tt
-each-as-said (q ∷ qs) s [] =
-    let rest = each-as-said qs (record_after q s) [] in
-    rw (sets-none 1 (numbers_all qs (record_after q s))) (as_said q s, rw (sets-none 0 (numbers_all qs (record_after q s))) at rest)
-each-as-said (q ∷ qs) s (n ∷ row) =
+each_as_said_lem [] s row = tt
+each_as_said_lem (q ∷ qs) s [] =
+    let rest = each_as_said_lem qs (record_after q s) [] in
+    rw (sets_none 1 (numbers_all qs (record_after q s))) (as_said q s, rw (sets_none 0 (numbers_all qs (record_after q s))) at rest)
+each_as_said_lem (q ∷ qs) s (n ∷ row) =
     rw (sets_past (refusal_number (answer_to q s)) row 0 (numbers_all qs (record_after q s)))
-    (as_said q s, refl, each-as-said qs (record_after q s) row)
+    (as_said q s, refl, each_as_said_lem qs (record_after q s) row)

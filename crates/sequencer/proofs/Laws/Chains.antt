@@ -35,7 +35,7 @@ use Rattle.sequencer.specs.Records.{Record}
 use Rattle.sequencer.specs.Services.{start_record, load_outcome}
 use Rattle.sequencer.specs.Lists.{Turn, none, to, turned, Request, given, answer_to, record_after, after_all, numbers_all, CompletedRun, unless_refused, performed}
 use Rattle.sequencer.specs.Demand.{EndToEnd, AllEndToEnd, Chain, TurnedEndToEnd, TurnedOrRefused, factor, exponent_after, power_after, ChainEnds}
-use Rattle.sequencer.proofs.Laws.Answers.{steps-sound, prime-of, load-answered, run-answered, each-as-said}
+use Rattle.sequencer.proofs.Laws.Answers.{steps_sound, prime_of, load_answered, run_answered, each_as_said_lem}
 use Rattle.sequencer.proofs.Laws.Orders.{load_order, order_loads, free_loads}
 
 -- a turn leaves the registers
@@ -77,7 +77,7 @@ module _ (p : ℕ) (pr : Prime p) (r a : ℕ) (ra : Residue p a) (ord : a ^ r % 
     forward e f =
         let up : ltb q.from q.goal ≡ true = lt-ltb q.from q.goal (omega (arith, is_program_lem.some)) in
         ap₂ (λ (i j : ℕ). run p xs i j (start b)) e f
-        ∙ run_forward p pr xs (steps-sound q.tape) (start b) (residues_start p pr b residue)
+        ∙ run_forward p pr xs (steps_sound q.tape) (start b) (residues_start p pr b residue)
         ∙ is_program_lem.raises p pr b residue (order_power p pr a r E ord)
         ∙ rw up (reduced E k)
 
@@ -85,7 +85,7 @@ module _ (p : ℕ) (pr : Prime p) (r a : ℕ) (ra : Residue p a) (ord : a ^ r % 
     backward e f =
         let down : ltb q.from q.goal ≡ false = le-ltb q.from q.goal (omega arith) in
         ap₂ (λ (i j : ℕ). run p xs i j (start b)) e f
-        ∙ run_backward p pr xs (steps-sound q.tape) (start b) (residues_start p pr b residue)
+        ∙ run_backward p pr xs (steps_sound q.tape) (start b) (residues_start p pr b residue)
         ∙ is_program_lem.undone_raises_lem p pr b residue (order_power p pr a r E ord)
         ∙ rw down (reduced E (inverse r k))
 
@@ -115,7 +115,7 @@ module _ (p : ℕ) (pr : Prime p) (r a : ℕ) (ra : Residue p a) (ord : a ^ r % 
       go (refused n) was rest links = rest E (given q s) began links
       go (answered t) was rest links =
           rest (E * factor r done % r) t
-          (ap (λ (u : Record). u.registers) (run-answered q.tape (given q s) q.goal was)
+          (ap (λ (u : Record). u.registers) (run_answered q.tape (given q s) q.goal was)
           ∙ ap (run (header_of q.tape).modulus (steps_of q.tape) (given q s).position q.goal) began
           ∙ linked done links.0 E)
           links.1
@@ -145,16 +145,16 @@ module _ (p r : ℕ) where
 
 module _ {p r a : ℕ} {qs : List Request} {s : Record} (c : Chain p r a qs s) where
   chain_prime : Prime p
-  chain_prime = subst Prime c.modulus (prime-of c.tape c.accepted)
+  chain_prime = subst Prime c.modulus (prime_of c.tape c.accepted)
 
   chain_base : Residue p a
-  chain_base = subst (λ (n : ℕ). Residue n a) c.modulus (load-answered c.tape a (start_record a) c.loaded).base
+  chain_base = subst (λ (n : ℕ). Residue n a) c.modulus (load_answered c.tape a (start_record a) c.loaded).base
 
 pub chain_ends_lem : (qs : List Request) (s : Record) (row : List ℕ) → ChainEnds qs s (sets row 0 (numbers_all qs s)) (after_all qs s)
 chain_ends_lem qs s row p r a c =
     let pr = chain_prime c in
     let ra = chain_base c in (
-      each-as-said qs s row,
+      each_as_said_lem qs s row,
       from_there p pr r a ra c.power qs 1 s (c.registers ∙ ap start (sym (power_one p pr a ra))) c.links,
       order_again p pr a r (exponent_after r (performed qs s) 1) (exponent_invertible p r (performed qs s) 1 c.links (invertible_one r)),
     )

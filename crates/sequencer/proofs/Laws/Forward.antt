@@ -21,7 +21,7 @@ use Rattle.program.proofs.Laws.Accepting.{accepted_program}
 use Rattle.sequencer.specs.Records.{Record}
 use Rattle.sequencer.specs.Services.{bad_registers, start_record, record_rules, goal_rules, load_outcome, run_outcome, forward_outcome}
 use Rattle.sequencer.proofs.Laws.Cases.{modulus_prime, registers_others, registers_last, run_rules_lem}
-use Rattle.sequencer.proofs.Laws.Answers.{residue-good, steps-sound, load-answered}
+use Rattle.sequencer.proofs.Laws.Answers.{residue_good, steps_sound, load_answered}
 use Rattle.sequencer.proofs.Laws.Orders.{load_order}
 
 -- ---- the two outcomes of load
@@ -39,8 +39,8 @@ module _ (tape : List ℕ) (a : ℕ) where
 
 start_residues : (p : ℕ) → Prime p → (a : ℕ) → Residue p a → bad_registers p (start a) ≡ false
 start_residues p pr a r =
-    let one = residue-good p 1 (residue_one p pr) in
-    registers_others p 1 _ one ∙ registers_others p a _ (residue-good p a r) ∙ registers_others p 1 _ one ∙ registers_last p 1 ∙ one
+    let one = residue_good p 1 (residue_one p pr) in
+    registers_others p 1 _ one ∙ registers_others p a _ (residue_good p a r) ∙ registers_others p 1 _ one ∙ registers_last p 1 ∙ one
 
 -- the record at a program's end
 abbrev pub end_record : List ℕ → List ℕ → Record
@@ -50,7 +50,7 @@ module _ (tape : List ℕ) (a : ℕ) {s : Record} (e : load_outcome tape a ≡ a
   pub forward_answered : forward_outcome tape a ≡ answered (end_record tape (run (header_of tape).modulus (steps_of tape) 0 (header_of tape).steps (start a)))
   unfolding record_rules goal_rules
   forward_answered =
-      let load = load-answered tape a s e in
+      let load = load_answered tape a s e in
       let pr = modulus_prime tape (header_of tape) load.accepted in
       forward_loaded tape a e
       ∙ ap (λ (t : Record). run_outcome tape t (header_of tape).steps) load.record_is
@@ -64,19 +64,19 @@ module _ (tape : List ℕ) (a : ℕ) {s : Record} (e : load_outcome tape a ≡ a
   pub forward_done : forward_outcome tape a ≡ answered (end_record tape (do_all (header_of tape).modulus (steps_of tape) (start a)))
   forward_done =
       let h = header_of tape in
-      let load = load-answered tape a s e in
+      let load = load_answered tape a s e in
       let pr = modulus_prime tape h load.accepted in
       forward_answered
       ∙ ap (λ (v : List ℕ). answered (end_record tape v))
       (ap (λ (n : ℕ). run h.modulus (steps_of tape) 0 n (start a)) (sym (steps_count tape))
-      ∙ run_forward h.modulus pr (steps_of tape) (steps-sound tape) (start a) (residues_start h.modulus pr a load.base))
+      ∙ run_forward h.modulus pr (steps_of tape) (steps_sound tape) (start a) (residues_start h.modulus pr a load.base))
 
   -- of a named program, (1, a^k, 1, 1)
   pub forward_power : is_named (header_of tape) ≡ true
       → forward_outcome tape a ≡ answered (end_record tape (start (a ^ (header_of tape).exponent % (header_of tape).modulus)))
   forward_power is =
       let h = header_of tape in
-      let load = load-answered tape a s e in
+      let load = load_answered tape a s e in
       let some = eqb-false h.variant 0 (not-true _ is) in
       forward_done
       ∙ ap (λ (v : List ℕ). answered (end_record tape v))

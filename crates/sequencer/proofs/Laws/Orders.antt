@@ -23,7 +23,7 @@ use Rattle.program.proofs.Laws.Checking.{accepted_named_lem}
 use Rattle.sequencer.specs.Records.{Record}
 use Rattle.sequencer.specs.Services.{bad_register, bad_base, base_rules, start_record, load_outcome}
 use Rattle.sequencer.proofs.Laws.Cases.{base_free, base_named, load_rules}
-use Rattle.sequencer.proofs.Laws.Answers.{good-register, residue-good, prime-of, load-answered}
+use Rattle.sequencer.proofs.Laws.Answers.{good_register, residue_good, prime_of, load_answered}
 
 -- ---- a base's own rules
 
@@ -38,7 +38,7 @@ module _ {A : Type 0} (h : Header) (a : ℕ) (x : A) where
   module _ (base : Residue h.modulus a) where
     good_base : bad_base h a ≡ false → outcome (base_rules h a) x ≡ answered x
     unfolding base_rules
-    good_base good = passes _ _ x (residue-good h.modulus a base) ∙ passes _ _ x good ∙ answers x
+    good_base good = passes _ _ x (residue_good h.modulus a base) ∙ passes _ _ x good ∙ answers x
 
     pub base_taken : is_named h ≡ true → OrderOf h.modulus a h.order → outcome (base_rules h a) x ≡ answered x
     base_taken named o = good_base (bad_base_lem h a named ∙ ap not (test_order _ a _ o))
@@ -46,7 +46,7 @@ module _ {A : Type 0} (h : Header) (a : ℕ) (x : A) where
     pub base_refused : is_named h ≡ true → ¬ (OrderOf h.modulus a h.order) → outcome (base_rules h a) x ≡ refused 11
     unfolding base_rules
     base_refused named other =
-        passes _ _ x (residue-good h.modulus a base) ∙ gives _ _ x (bad_base_lem h a named ∙ ap not (test_false _ (λ e. other (order_test _ a _ e))))
+        passes _ _ x (residue_good h.modulus a base) ∙ gives _ _ x (bad_base_lem h a named ∙ ap not (test_false _ (λ e. other (order_test _ a _ e))))
 
     base_of_free : is_named h ≡ false → outcome (base_rules h a) x ≡ answered x
     base_of_free free = good_base (base_free h a (eqb-true _ 0 (not-false _ free)))
@@ -59,7 +59,7 @@ module _ (tape : List ℕ) (a : ℕ) where
 
   -- what a named program has loaded has order r
   pub load_order : {s : Record} → load_outcome tape a ≡ answered s → is_named h ≡ true → OrderOf h.modulus a h.order
-  load_order load named = order_test _ a _ (not-false _ (sym (bad_base_lem h a named) ∙ (load-answered tape a _ load).allowed))
+  load_order load named = order_test _ a _ (not-false _ (sym (bad_base_lem h a named) ∙ (load_answered tape a _ load).allowed))
 
   module _ (accepted : check_outcome tape ≡ answered 0) where
     own_rules : load_outcome tape a ≡ outcome (base_rules h a) (start_record a)
@@ -84,7 +84,7 @@ module _ (tape : List ℕ) (a : ℕ) where
         by_test (bad_register h.modulus a)
         (λ bad. absurd (omega (arith, number (own_rules ∙ base_outside h a (start_record a) bad))))
         (λ good.
-        let base = good-register h.modulus a good in
+        let base = good_register h.modulus a good in
         by_test (is_named h)
         (λ named. (base, named, λ o. omega (arith, number (order_loads base named o))))
         (λ free. absurd (omega (arith, number (free_loads base free)))))
@@ -95,7 +95,7 @@ module _ (tape : List ℕ) (a : ℕ) where
 -- no named program loads 1, whose order is 1
 pub one_refused : (tape : List ℕ) → check_outcome tape ≡ answered 0 → is_named (header_of tape) ≡ true → load_outcome tape 1 ≡ refused 11
 one_refused tape accepted named =
-    let pr = prime-of tape accepted in
+    let pr = prime_of tape accepted in
     let is = accepted_named_lem 0 tape accepted (eqb-false _ 0 (not-true _ named)) in
     let inverse = inverse_order _ (header_of tape).order is.exponent in
     let one = ap (λ (n : ℕ). n % (header_of tape).modulus) (one_pow 1) ∙ mod-eq_of_lt pr.least in

@@ -16,7 +16,7 @@ use Rattle.sequencer.specs.Records.{Record}
 use Rattle.sequencer.specs.Services.{record_at}
 use Rattle.sequencer.specs.Lists.{Turn, none, turned, Request, given, answer_to, after_all, numbers_all, unless_refused, performed}
 use Rattle.sequencer.specs.Demand.{NoTurns, Returns, BeginReached, RewindEnds}
-use Rattle.sequencer.proofs.Laws.Answers.{steps-sound, prime-of, run-answered, each-as-said}
+use Rattle.sequencer.proofs.Laws.Answers.{steps_sound, prime_of, run_answered, each_as_said_lem}
 
 -- without a turn a run gets the record as it stands
 given_straight : (q : Request) (s : Record) → q.turn ≡ none → given q s ≡ s
@@ -36,7 +36,7 @@ begin_reached_lem (q ∷ qs) s straight = go (answer_to q s) refl (λ t. begin_r
         (unless_refused answer (record { tape = q.tape; from = (given q s).position; goal = q.goal }) (performed qs (after answer (given q s))))
     go (refused n) e rest = subst (λ (i : ℕ). BeginReached i (performed qs (given q s))) position (rest (given q s))
     go (answered t) e rest =
-        let there : t.position ≡ q.goal = ap (λ (x : Record). x.position) (run-answered q.tape (given q s) q.goal e) in
+        let there : t.position ≡ q.goal = ap (λ (x : Record). x.position) (run_answered q.tape (given q s) q.goal e) in
         (position, subst (λ (i : ℕ). BeginReached i (performed qs t)) there (rest t))
 
 module _ (tape : List ℕ) (home : ℕ) (pr : Prime (header_of tape).modulus) where
@@ -72,19 +72,19 @@ module _ (tape : List ℕ) (home : ℕ) (pr : Prime (header_of tape).modulus) wh
           ∙ ap (ran_to home) same
       go (answered t) e rest returns =
           let there : t ≡ ran_to q.goal s =
-          run-answered q.tape (given q s) q.goal e
+          run_answered q.tape (given q s) q.goal e
           ∙ ap₂ (λ (l : List ℕ) (u : Record). record_at (header_of l) (steps_of l) u q.goal) returns.0 same in
           rest t
-          (subst (λ (u : Record). Residues p u.registers) (sym there) (run_residues p pr xs (steps-sound tape) s.position q.goal s.registers g))
+          (subst (λ (u : Record). Residues p u.registers) (sym there) (run_residues p pr xs (steps_sound tape) s.position q.goal s.registers g))
           (subst (λ (u : Record). Returns tape home u.position (performed qs t)) (sym there) returns.1)
           ∙ ap (ran_to home) there
           ∙ ap (λ (v : List ℕ). record { registers = v; position = home })
-          (run_compose p pr xs (steps-sound tape) s.position q.goal home s.registers g)
+          (run_compose p pr xs (steps_sound tape) s.position q.goal home s.registers g)
 
 pub rewind_ends_lem : (qs : List Request) (s : Record) (row : List ℕ) → RewindEnds qs s (sets row 0 (numbers_all qs s)) (after_all qs s)
 rewind_ends_lem qs s row tape h =
-    let pr = prime-of tape h.accepted in (
-      each-as-said qs s row,
+    let pr = prime_of tape h.accepted in (
+      each_as_said_lem qs s row,
       from_there tape s.position pr qs s h.registers h.no_turns_lem h.returns
           ∙ ap (λ (v : List ℕ). record { registers = v; position = s.position })
           (run_here (header_of tape).modulus (steps_of tape) s.position s.registers),

@@ -26,7 +26,7 @@ use Rattle.program.specs.Services.{check_outcome}
 use Rattle.program.proofs.Laws.Door.{answered_tape, answered_own, answered_with}
 use Rattle.sequencer.specs.Services.{trace_rules, trace_outcome}
 use Rattle.sequencer.specs.Tables.{table_rules, table_outcome, MeansProducts, HasSign}
-use Rattle.sequencer.proofs.Laws.Answers.{steps-sound, prime-of}
+use Rattle.sequencer.proofs.Laws.Answers.{steps_sound, prime_of}
 use Rattle.sequencer.proofs.Laws.Cases.{modulus_prime, trace_rules_lem}
 
 module _ (tape : List ℕ) where
@@ -35,20 +35,20 @@ module _ (tape : List ℕ) where
   -- of an accepted program each register is the product of the start values to its row's exponents
   pub program_products : check_outcome tape ≡ answered 0 → (position : ℕ) (v : List ℕ) → Residues (header_of tape).modulus v
       → run (header_of tape).modulus (steps_of tape) 0 position v ≡ map (power_product (header_of tape).modulus v) (table_of (take position (steps_of tape)))
-  program_products e position v g = run_products _ (prime-of tape e) (steps_of tape) position v (steps-sound tape) g
+  program_products e position v g = run_products _ (prime_of tape e) (steps_of tape) position v (steps_sound tape) g
 
   -- and so on the way from any position to any other
   pub program_way : check_outcome tape ≡ answered 0 → (i j : ℕ) (v : List ℕ) → Residues (header_of tape).modulus v
       → run (header_of tape).modulus (steps_of tape) i j v ≡ map (power_product (header_of tape).modulus v) (table_of (way (steps_of tape) i j))
-  program_way e i j v g = way_products _ (prime-of tape e) (steps_of tape) i j v (steps-sound tape) g
+  program_way e i j v g = way_products _ (prime_of tape e) (steps_of tape) i j v (steps_sound tape) g
 
   -- the determinant by the number of swaps
   pub program_sign : (position : ℕ) → determinant 4 (table_of (take position (steps_of tape))) ≡ sign_of (count_where is_swp (take position (steps_of tape)))
-  program_sign position = table_sign (take position (steps_of tape)) (sound_take position (steps_of tape) (steps-sound tape))
+  program_sign position = table_sign (take position (steps_of tape)) (sound_take position (steps_of tape) (steps_sound tape))
 
   -- the way back times the way out, between any two positions
   pub program_back : (i j : ℕ) → matrix_product 4 (table_of (way (steps_of tape) j i)) (table_of (way (steps_of tape) i j)) ≡ identity_matrix 4
-  program_back i j = table_back (steps_of tape) i j (steps-sound tape)
+  program_back i j = table_back (steps_of tape) i j (steps_sound tape)
 
   -- ---- an answer
 
@@ -62,7 +62,7 @@ module _ (tape : List ℕ) where
     unfolding table_outcome
     table_means m e v g =
         let prime = modulus_prime tape (header_of tape) (answered_tape tape _ (table_of (take position (steps_of tape))) e) in
-        run_products _ prime (steps_of tape) position v (steps-sound tape) g ∙ ap (map _) (sym (answer_is m e))
+        run_products _ prime (steps_of tape) position v (steps_sound tape) g ∙ ap (map _) (sym (answer_is m e))
 
     pub table_has_sign : HasSign tape position (table_outcome tape position)
     table_has_sign m e = ap (determinant 4) (answer_is m e) ∙ program_sign position
@@ -78,7 +78,7 @@ module _ (tape : List ℕ) where
 
     pub trace_column : (z : List ℤ) → trace_outcome tape position ≡ answered z → z ≡ column_of (table_of (take position (steps_of tape))) 1
     unfolding trace_outcome
-    trace_column z e = answered_with tape _ _ e ∙ sym (table_trace (steps_of tape) position (steps-sound tape))
+    trace_column z e = answered_with tape _ _ e ∙ sym (table_trace (steps_of tape) position (steps_sound tape))
 
     -- and it is answered where the table is
     pub table_column : (m : Matrix) → table_outcome tape position ≡ answered m → trace_outcome tape position ≡ answered (column_of m 1)
@@ -92,4 +92,4 @@ module _ (tape : List ℕ) where
         ∙ passes _ _ _ own.0
         ∙ passes _ _ _ (ap not traced)
         ∙ answers _
-        ∙ ap answered (sym (ap (λ (m : Matrix). column_of m 1) (answer_is m e) ∙ table_trace (steps_of tape) position (steps-sound tape)))
+        ∙ ap answered (sym (ap (λ (m : Matrix). column_of m 1) (answer_is m e) ∙ table_trace (steps_of tape) position (steps_sound tape)))

@@ -23,7 +23,7 @@ use Rattle.program.proofs.Laws.Accepting.{accepted_program}
 use Rattle.program.proofs.Laws.Door.{answered_tape, answered_with}
 use Rattle.sequencer.specs.Services.{trace_rules, trace_outcome}
 use Rattle.sequencer.specs.Tracing.{NeverOutside, MeansPowers}
-use Rattle.sequencer.proofs.Laws.Answers.{steps-sound}
+use Rattle.sequencer.proofs.Laws.Answers.{steps_sound}
 use Rattle.sequencer.proofs.Laws.Cases.{modulus_prime, trace_rules_lem}
 
 -- an answer's exponents are those of the definition, and they are those of the registers
@@ -31,7 +31,7 @@ pub trace_powers : (tape : List ℕ) (position : ℕ) → MeansPowers tape posit
 unfolding trace_outcome
 trace_powers tape position z e a ra =
     let prime = modulus_prime tape (header_of tape) (answered_tape tape _ (exponents_at (steps_of tape) position) e) in
-    run_exponents _ prime a ra (steps_of tape) position (steps-sound tape) ∙ ap (map _) (sym (answered_with tape _ _ e))
+    run_exponents _ prime a ra (steps_of tape) position (steps_sound tape) ∙ ap (map _) (sym (answered_with tape _ _ e))
 
 -- ---- an accepted named program
 
