@@ -92,7 +92,9 @@ unfolding requests_of tapes_of words_from
 words_requests front [] = refl
 words_requests front (q ∷ qs) =
     let again : front ++ (q.tape ++ tapes_of qs) ≡ front ++ q.tape ++ tapes_of qs = sym (append_assoc front q.tape (tapes_of qs)) in
-    rw (again, middle front q.tape (tapes_of qs), turn_word_lem q.turn, ← (length-append front q.tape), words_requests (front ++ q.tape) qs)
+    let rest : List ℕ = words_from (length (front ++ q.tape)) qs in
+    rw (again, middle front q.tape (tapes_of qs), turn_word_lem q.turn, ← (length-append front q.tape))
+    (ap (λ (rs : List Request). q ∷ rs) (ap (λ (row : List ℕ). requests_of row rest) again ∙ words_requests (front ++ q.tape) qs))
 
 below_words : (at : ℕ) (qs : List Request) → at + length (tapes_of qs) < 2 ^ 32 → PositionsFit qs → AllBelow (2 ^ 32) (words_from at qs)
 unfolding AllBelow tapes_of words_from PositionsFit
