@@ -132,7 +132,7 @@ means (InScript verb) own v tape tapes = complains usage
 
 -- the refusal whose reason is not the usual one: 6 where a tape was to come and its bytes weren't whole words
 abbrev pub own_in : Row → Bool → ℕ
-own_in row is_whole = cond (takes_tape row.verb && not is_whole) 6 row.own_val
+own_in row is_whole = cond (takes_tape row.verb && not is_whole) 6 row.own
 
 -- to what is asked, with the tape at hand and the row of tapes
 abbrev pub reply_to : Asked → Bool → List ℕ → List ℕ → Replied

@@ -161,5 +161,5 @@ reply_empty words input = streams (reply words input) (reply_some (asked_by fals
 
 -- ---- the refusal whose reason is a verb's own
 
-pub own_whole : (row : Row) → row.own_val ≡ own_in row true
+pub own_whole : (row : Row) → row.own ≡ own_in row true
 own_whole row = rw (and-false (takes_tape row.verb))
