@@ -154,7 +154,7 @@ is_listing Play = false
 
 abbrev pub places_line : List ℕ → Row → List ℕ → State → Done
 places_line [] row v s = replied (known row v) s
-places_line (room ∷ more) row v s = prints s (places_in room row.own_val v)
+places_line (room ∷ more) row v s = prints s (places_in room row.own v)
 
 abbrev pub list_line : List ℕ → Row → List ℕ → State → Done
 list_line [] row v s = replied (known row v) s
@@ -168,7 +168,7 @@ build_by capacity (room ∷ more) own v s = build_in capacity room own v s
 -- what a verb does with its parameters: any other replies as in the tool
 abbrev pub by_verb : ℕ → Verb → Row → List ℕ → State → Done
 by_verb capacity (InScript verb) row v s = in_script capacity verb v s
-by_verb capacity Build row v s = build_by capacity s.room row.own_val v s
+by_verb capacity Build row v s = build_by capacity s.room row.own v s
 by_verb capacity (OnNumbers verb) row v s = cond (is_places verb) (places_line s.room row v s) (replied (known row v) s)
 by_verb capacity (OnTape verb) row v s = cond (is_listing verb) (list_line s.room row v s) (replied (known row v) s)
 by_verb capacity Unknown row v s = replied (known row v) s

@@ -32,7 +32,7 @@ by_act capacity ListInRoom asked v room s = prints s (list_in room (at_hand s))
 module _ (capacity : ℕ) (row : Row) (v : List ℕ) (room : ℕ) (s : State) where
   -- a verb that looks at the room: whether it is the one, and whether there is a room
   numbers_act : (one roomed : Bool) → cond one (places_line (cond roomed (room ∷ []) []) row v s) (replied (known row v) s)
-      ≡ by_act capacity (cond one (cond roomed (PlacesInRoom row.own_val) Reply) Reply) (known row v) v room s
+      ≡ by_act capacity (cond one (cond roomed (PlacesInRoom row.own) Reply) Reply) (known row v) v room s
   numbers_act true true = refl
   numbers_act true false = refl
   numbers_act false roomed = refl
@@ -45,7 +45,7 @@ module _ (capacity : ℕ) (row : Row) (v : List ℕ) (room : ℕ) (s : State) wh
 
 module _ (capacity : ℕ) (m : Marks) (tapes : List ℕ) where
   verb_act : (verb : Verb) (row : Row) (v : List ℕ)
-      → by_verb capacity verb row v (state_in m tapes) ≡ by_act capacity (act_by verb m.roomed row.own_val) (known row v) v m.room (state_in m tapes)
+      → by_verb capacity verb row v (state_in m tapes) ≡ by_act capacity (act_by verb m.roomed row.own) (known row v) v m.room (state_in m tapes)
   verb_act (InScript verb) row v = refl
   verb_act Build row v = refl
   verb_act (OnNumbers verb) row v = numbers_act capacity row v m.room (state_in m tapes) (is_places verb) m.roomed
@@ -104,7 +104,7 @@ verb_within Version roomed own v h = omega arith
 
 pub act_within_lem : {act : Act} (call : Call) (roomed : Bool) (words : List (List ℕ)) (values : List ℕ) → InRange call words values → act_of call roomed ≡ act
     → ActWithin act (take (count_of call) values)
-act_within_lem (Known row count) roomed words values r e = rw e at (verb_within row.verb roomed row.own_val (take count values) r.within)
+act_within_lem (Known row count) roomed words values r e = rw e at (verb_within row.verb roomed row.own (take count values) r.within)
 act_within_lem NoWord roomed words values r e = rw (← e) (omega arith)
 act_within_lem NoVerb roomed words values r e = rw (← e) (omega arith)
 act_within_lem (WrongCount row given) roomed words values r e = rw (← e) (omega arith)

@@ -20,7 +20,7 @@ act_by Help roomed own = Reply
 act_by Version roomed own = Reply
 
 abbrev pub act_of : Call → Bool → Act
-act_of (Known row count) roomed = act_by row.verb roomed row.own_val
+act_of (Known row count) roomed = act_by row.verb roomed row.own
 act_of NoWord roomed = Reply
 act_of NoVerb roomed = Reply
 act_of (WrongCount row given) roomed = Reply
