@@ -17,7 +17,7 @@ PREFIXES = ("overflow-", "nonzero-", "slice-bounds-", "offset-bounds-", "bounds-
 
 
 def norm(s):
-    return s.replace("_", "-")
+    return s.replace("_", "-").lower()
 
 
 def contracts(root):
@@ -38,6 +38,27 @@ def contracts(root):
 
 def all_contracts(crates):
     return {c: contracts(os.path.join(crates, c)) for c in os.listdir(crates) if os.path.isdir(os.path.join(crates, c, "src"))}
+
+
+def nested(digits, clauses):
+    """A path into a tuple of clauses, which pairs the first with the rest, by their names."""
+    at = 0
+    while at < len(clauses) - 1 and digits and digits[0] in "01":
+        first = digits[0] == "0"
+        digits = digits[1:]
+        if first:
+            break
+        at += 1
+    return [clauses[at]] + digits
+
+
+def paired(parts):
+    return parts[0] if len(parts) == 1 else f"({parts[0]}, {paired(parts[1:])})"
+
+
+def parts_of(name, n):
+    """The paths to the n parts of a tuple that pairs the first with the rest."""
+    return [name + ".1" * i + (".0" if i < n - 1 else "") for i in range(n)]
 
 
 class Function:
@@ -84,6 +105,8 @@ class Function:
             return "c"
         head, rest = parts[0], parts[1:]
         clauses = []
+        if head.startswith("@"):
+            return ".".join(["c", head[1:]] + rest)
         if head in ("args", "lifetimes", "ranges"):
             new = head
         elif head == "requires":
@@ -97,9 +120,9 @@ class Function:
                 clauses = self.clauses(self.callee.get(new, ""), 1 if rest[0] == "ensures" else 0)
                 clauses = [rest[0]] + clauses if len(clauses) > 1 else []
         if head == "requires" and rest and rest[0].isdigit() and len(clauses) > 1:
-            rest = [clauses[int(rest[0])]] + rest[1:]
+            rest = nested(rest, clauses)
         elif clauses and len(rest) > 1 and rest[1].isdigit():
-            rest = [rest[0], clauses[1 + int(rest[1])]] + rest[2:]
+            rest = [rest[0]] + nested(rest[1:], clauses[1:])
         return ".".join(["c", new] + rest)
 
     def pair(self, m):
@@ -107,10 +130,24 @@ class Function:
         clauses = self.clauses(self.callee.get(m.group(1), ""), 1)
         if len(clauses) < 2:
             return m.group(0)
-        return "(" + ", ".join(m.group(0) + "." + n for n in clauses) + ")"
+        return paired([m.group(0) + "." + n for n in clauses])
 
-    def body(self, text):
-        states = {"c"}
+    def arm(self, place):
+        """The step of the arm of a match that a place is in."""
+        by = {new: (up, step) for (old, up, step, _, _), new in zip(self.of["places"], self.of["places_by_name"])}
+        old_new = {p[0]: n for p, n in zip(self.of["places"], self.of["places_by_name"])}
+        while place in by:
+            up, step = by[place]
+            if place.startswith("In-") and step[1].startswith("in"):
+                return step[1]
+            place = old_new.get(up)
+        return None
+
+    def body(self, text, place=None, state="c"):
+        states = {"c", state}
+        arm = self.arm(place)
+        if arm:
+            text = re.sub(r"(?<![\w.'-])" + state + r"(?:\.before)*\.(?:enum[-_]told[\w-]*\.given\.1|in-[\w-]+\.keys\d+|told[\w-]*\.given\.1)", f"{state}.@{arm}.is", text)
         alias = re.compile(r"let (" + NAME + r") = (" + NAME + r")((?:\.before)*) in\s*")
 
         def drop(m):
@@ -132,6 +169,10 @@ class Function:
         text = re.sub(r"not-(?:true|false) _ (c\.[^\s(){},]+)", r"\1", text)
         text = re.sub(r"\((c\.[^\s(){},]+)\)", r"\1", text)
         text = re.sub(r"(?<!at )(?<!at\n)(?<![\w.])c\.([^\s(){}.,]+)\.ensures(?![\w.-])", self.pair, text)
+        for m in list(re.finditer(r"let (\w+) = \((c\.[^\s(),]+\.ensures\.\w+), (c\.[^\s(),]+\.ensures\.\w+)\) in\s*", text)):
+            text = text.replace(m.group(0), "")
+            text = re.sub(r"(?<![\w.'-])" + m.group(1) + r"\.0(?![\w'-])", m.group(2), text)
+            text = re.sub(r"(?<![\w.'-])" + m.group(1) + r"\.1(?![\w'-])", m.group(3), text)
         return text.replace(" κs =", " =").replace("λ κs. ", "")
 
 
@@ -187,7 +228,7 @@ def open_end(text, clauses):
     term = text[cut:].strip()
     if term.startswith(("rw ", "simp ", "search ", "elim ", "omega ", "grind ")):
         return None
-    return text[:cut] + " let both = " + term + " in record { " + "; ".join(f"{n} = both.{i}" for i, n in enumerate(clauses)) + " }"
+    return text[:cut] + " let both = " + term + " in record { " + "; ".join(f"{n} = {w}" for n, w in zip(clauses, parts_of("both", len(clauses)))) + " }"
 
 
 def blocks(text):
@@ -299,8 +340,9 @@ def turn(path, fun, where):
             new += f"_{n + 1}"
         done[key] = new
         b = helpers[name]
-        b = re.sub(r"\((\w+) : tie\." + NAME + r"(?: [^()]*)?\)", lambda m: f"({m.group(1)} : goal.{place})", b)
-        b = fun.body(b)
+        state = re.search(r"\((\w+) : tie\.", b).group(1)
+        b = re.sub(r"\((\w+) : tie\." + NAME + r"(?: [^()]*)?\)", f"(c : goal.{place})", b)
+        b = fun.body(b, place, state)
         b = cite(b, place, name)
         b = re.sub(r"(?m)^" + re.escape(name) + r"(?= )", new, b)
         answers.append(b)
@@ -323,7 +365,7 @@ def turn(path, fun, where):
         lines = [l for l in lines if not l.startswith("--")]
         unfolding = [l for l in lines if l.startswith("unfolding ")]
         eq = "\n".join(l for l in lines[1:] if not l.startswith("unfolding "))
-        eq = fun.body(eq)
+        eq = fun.body(eq, fun.at.get(new))
         eq = cite(eq, fun.at.get(new, "?"))
         eq = re.sub(r"^" + re.escape(decl) + r"(?= )", new, eq)
         clauses = fun.own(1) if new.startswith("returns") else []
