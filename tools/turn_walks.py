@@ -147,7 +147,7 @@ class Function:
         states = {"c", state}
         arm = self.arm(place)
         if arm:
-            text = re.sub(r"(?<![\w.'-])" + state + r"(?:\.before)*\.(?:enum[-_]told[\w-]*\.given\.1|in-[\w-]+\.keys\d+|told[\w-]*\.given\.1)", f"{state}.@{arm}.is", text)
+            text = re.sub(r"(?<![\w.'-])" + state + r"(?:\.before)*\.(?:enum[-_]told[\w-]*\.given\.1|(?:match|in-[\w-]+)[\w-]*\.keys\d+|told[\w-]*\.given\.1)", f"{state}.@{arm}.is", text)
         alias = re.compile(r"let (" + NAME + r") = (" + NAME + r")((?:\.before)*) in\s*")
 
         def drop(m):
