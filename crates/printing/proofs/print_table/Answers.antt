@@ -1,0 +1,8 @@
+-- `print_table` meets its contract: the table's lines, or the refusal.
+use Rattle.printing.proofs.print_table.Goals as goal
+
+pub returns-in-Answered : goal.returns-in-Answered
+returns-in-Answered c = rw c.in-Answered.is c.rows.ensures
+
+pub returns-in-Refused : goal.returns-in-Refused
+returns-in-Refused c = rw (c.in-Refused.is, ← c.number.ensures) c.refuse.ensures
