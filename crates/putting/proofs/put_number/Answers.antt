@@ -13,8 +13,8 @@ use Rattle.putting.proofs.put_number.Invariants.{Spelt}
 use Rattle.putting.proofs.put_number.Goals as goal
 
 -- a digit stored in front of those stored before
-in-front : (digits : List ℕ) (first x : ℕ) → first < length digits → drop first (set digits first x) ≡ x ∷ drop (suc first) digits
-in-front digits first x h = rw (set_split digits first x h) (drop_at (take first digits) _ first (length-take-le first digits (omega arith)))
+in_front : (digits : List ℕ) (first x : ℕ) → first < length digits → drop first (set digits first x) ≡ x ∷ drop (suc first) digits
+in_front digits first x h = rw (set_split digits first x h) (drop_at (take first digits) _ first (length-take-le first digits (omega arith)))
 
 -- ten and above have a second digit, and there is room for it
 further : (first rest : ℕ) → rest < 10 ^ suc first → 10 ≤ rest → 1 ≤ first
@@ -22,31 +22,31 @@ further zero rest small h = absurd (omega arith)
 further (suc first) rest small h = omega arith
 
 module _ {n first rest : ℕ} {digits : List ℕ} (s : Spelt n digits first rest) where
-  last-in-front : 10 ≤ rest → decimal n ≡ decimal (rest / 10) ++ drop first (set digits first (code "0" + rest % 10))
-  last-in-front h =
+  last-in_front : 10 ≤ rest → decimal n ≡ decimal (rest / 10) ++ drop first (set digits first (code "0" + rest % 10))
+  last-in_front h =
       s.spells
       ∙ ap (λ (l : List ℕ). l ++ drop (suc first) digits) (decimal_again rest h)
       ∙ append_snoc (decimal (rest / 10)) _ _
-      ∙ ap (λ (l : List ℕ). decimal (rest / 10) ++ l) (sym (in-front digits first _ (omega (arith, s.long, s.inside))))
+      ∙ ap (λ (l : List ℕ). decimal (rest / 10) ++ l) (sym (in_front digits first _ (omega (arith, s.long, s.inside))))
 
-  stored-length : (x : ℕ) → length (set digits first x) ≡ 20
-  stored-length x = length-set digits first x ∙ s.long
+  stored_length : (x : ℕ) → length (set digits first x) ≡ 20
+  stored_length x = length-set digits first x ∙ s.long
 
-  next-spelt : 10 ≤ rest → Spelt n (set digits first (code "0" + rest % 10)) (first - 1) (rest / 10)
-  next-spelt h =
+  next_spelt : 10 ≤ rest → Spelt n (set digits first (code "0" + rest % 10)) (first - 1) (rest / 10)
+  next_spelt h =
       let e : suc (first - 1) ≡ first = omega (arith, further first rest s.small h) in
       record {
-        long = stored-length _;
+        long = stored_length _;
         inside = omega (arith, s.inside);
         small = rw e (omega (arith, s.small, pow-suc 10 first));
-        spells = rw e (last-in-front h);
+        spells = rw e (last-in_front h);
       }
 
-  all-spelt : rest < 10 → take (20 - first) (drop first (set digits first (code "0" + rest))) ≡ decimal n
-  all-spelt h =
+  all_spelt : rest < 10 → take (20 - first) (drop first (set digits first (code "0" + rest))) ≡ decimal n
+  all_spelt h =
       let stored = set digits first (code "0" + rest) in
-      take_all (20 - first) (drop first stored) (omega (arith, length-drop first stored, stored-length (code "0" + rest)))
-      ∙ in-front digits first _ (omega (arith, s.long, s.inside))
+      take_all (20 - first) (drop first stored) (omega (arith, length-drop first stored, stored_length (code "0" + rest)))
+      ∙ in_front digits first _ (omega (arith, s.long, s.inside))
       ∙ ap (λ (l : List ℕ). l ++ drop (suc first) digits) (sym (decimal_one rest h))
       ∙ sym s.spells
 
@@ -63,7 +63,7 @@ pub loop-rest-smaller : goal.loop-rest-smaller
 loop-rest-smaller c = omega (arith, further _ _ c.loop-rest.invariant.small c.loop-rest-test.true)
 
 pub loop-rest-preserved : goal.loop-rest-preserved
-loop-rest-preserved c = next-spelt c.loop-rest.invariant c.loop-rest-test.true
+loop-rest-preserved c = next_spelt c.loop-rest.invariant c.loop-rest-test.true
 
 pub bounds-digits-first-2 : goal.bounds-digits-first-2
 bounds-digits-first-2 c = omega (arith, c.loop-rest.invariant.inside)
@@ -75,7 +75,7 @@ pub slice_bounds-put-start : goal.slice_bounds-put-start
 slice_bounds-put-start c = omega (arith, c.loop-rest.invariant.inside)
 
 pub slice_bounds-put-end : goal.slice_bounds-put-end
-slice_bounds-put-end c = omega (arith, c.loop-rest.invariant.inside, stored-length c.loop-rest.invariant (code "0" + c.loop-rest.rest))
+slice_bounds-put-end c = omega (arith, c.loop-rest.invariant.inside, stored_length c.loop-rest.invariant (code "0" + c.loop-rest.rest))
 
 pub returns : goal.returns
-returns c = rw (all-spelt c.loop-rest.invariant c.loop-rest-test.false) at c.put.ensures
+returns c = rw (all_spelt c.loop-rest.invariant c.loop-rest-test.false) at c.put.ensures
