@@ -71,6 +71,11 @@ class Function:
                 self.steps.setdefault(norm(step), new)
                 if callee:
                     self.callee[new] = callee
+        self.arms = {}
+        for arm in of["arms"]:
+            for new, step, fields in (arm or [None, 0, []])[2]:
+                if not new.endswith("-own"):
+                    self.arms.setdefault((norm(step), *fields), [arm[0], new])
         self.goals = {}
         for old, new in of["needs"]:
             self.goals.setdefault(norm(old), new)
@@ -105,8 +110,10 @@ class Function:
             return "c"
         head, rest = parts[0], parts[1:]
         clauses = []
-        if head.startswith("@"):
-            return ".".join(["c", head[1:]] + rest)
+        for n in range(len(parts), 1, -1):
+            found = self.arms.get((norm(head), *parts[1:n]))
+            if found:
+                return ".".join(["c"] + found + parts[n:])
         if head in ("args", "lifetimes", "ranges"):
             new = head
         elif head == "requires":
@@ -116,6 +123,13 @@ class Function:
             if new is None:
                 self.notes.append(f"step {head}")
                 new = head
+            if len(rest) > 1 and rest[0] in ("new", "auto") and rest[1].isdigit():
+                names = self.of["params"].get(self.callee.get(new, ""), [])
+                at = 1
+                while at < len(rest) and rest[at] == "1":
+                    at += 1
+                if at < len(rest) and rest[at] == "0" and at - 1 < len(names):
+                    rest = [rest[0], names[at - 1]] + rest[at + 1:]
             if rest and rest[0] in ("ensures", "requires"):
                 clauses = self.clauses(self.callee.get(new, ""), 1 if rest[0] == "ensures" else 0)
                 clauses = [rest[0]] + clauses if len(clauses) > 1 else []
@@ -132,22 +146,8 @@ class Function:
             return m.group(0)
         return paired([m.group(0) + "." + n for n in clauses])
 
-    def arm(self, place):
-        """The step of the arm of a match that a place is in."""
-        by = {new: (up, step) for (old, up, step, _, _), new in zip(self.of["places"], self.of["places_by_name"])}
-        old_new = {p[0]: n for p, n in zip(self.of["places"], self.of["places_by_name"])}
-        while place in by:
-            up, step = by[place]
-            if place.startswith("In-") and step[1].startswith("in"):
-                return step[1]
-            place = old_new.get(up)
-        return None
-
     def body(self, text, place=None, state="c"):
         states = {"c", state}
-        arm = self.arm(place)
-        if arm:
-            text = re.sub(r"(?<![\w.'-])" + state + r"(?:\.before)*\.(?:enum[-_]told[\w-]*\.given\.1|(?:match|in-[\w-]+)[\w-]*\.keys\d+|told[\w-]*\.given\.1)", f"{state}.@{arm}.is", text)
         alias = re.compile(r"let (" + NAME + r") = (" + NAME + r")((?:\.before)*) in\s*")
 
         def drop(m):
