@@ -1,0 +1,48 @@
+-- `raise_accepted` meets its contract: each return is a line of the service's own rules, and where all are passed the row is what the
+-- lanes make of it.
+use mathlib.Core.Path.{sym, ap, ◌∙◌}
+use mathlib.Core.List.{List}
+use Prim.Native.Nat.{ℕ}
+use native.Mathlib.Omega.{arith}
+use Rattle.refusal.specs.Outcomes.{number_outcome_of}
+use Rattle.tape.specs.Inner.Operations.{raw_steps}
+use Rattle.lanes.specs.Inner.Lanes.{through_lanes}
+use Rattle.sequencer.proofs.Laws.Bases.{raise_free, raise_many, raise_row, raise_refused, raise_passed}
+use Rattle.raising.proofs.Laws.Alone.{row_alone}
+use Rattle.raising.proofs.raise_accepted.Goals as goal
+
+pub returns-then-header-eq0 : goal.returns-then-header-eq0
+returns-then-header-eq0 c =
+    let told = raise_refused _ _ _ c.requires (raise_free _ _ 0 c.if-header-eq0.true) in record {
+      result_value = told.0;
+      bases_after = told.1;
+    }
+
+pub returns-then-bases-gt-MAX_BASES : goal.returns-then-bases-gt-MAX_BASES
+returns-then-bases-gt-MAX_BASES c =
+    let told = raise_refused _ _ _ c.requires (raise_many _ _ 0 c.if-header-eq0.false c.if-bases-gt-MAX_BASES.true) in record {
+      result_value = told.0;
+      bases_after = told.1;
+    }
+
+pub returns-in-Refused : goal.returns-in-Refused
+returns-in-Refused c =
+    let told = raise_refused _ _ _ c.requires
+    (raise_row _ _ 0 c.if-header-eq0.false c.if-bases-gt-MAX_BASES.false
+    ∙ sym c.check_bases.ensures
+    ∙ ap number_outcome_of c.in-Refused.is) in record {
+      result_value = told.0;
+      bases_after = told.1;
+    }
+
+pub returns-in-Answered : goal.returns-in-Answered
+returns-in-Answered c =
+    let few = c.if-bases-gt-MAX_BASES.false in
+    let all = sym c.check_bases.ensures ∙ ap number_outcome_of c.in-Answered.is in
+    let told = raise_passed _ _ _ c.requires _ (raise_row _ _ 0 c.if-header-eq0.false few ∙ all)
+    (c.run_lanes.ensures
+    ∙ ap (λ (l : List ℕ). through_lanes c.modulus_of.result (raw_steps l) c.args.bases.now) c.steps.ensures
+    ∙ row_alone _ _ c.requires _ (omega arith) c.modulus_of.ensures _ few all) in record {
+      result_value = told.0;
+      bases_after = told.1;
+    }
