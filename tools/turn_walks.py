@@ -163,7 +163,7 @@ class Function:
             text = new
         for s in sorted(states, key=len, reverse=True):
             text = re.sub(r"(?<![\w.'-])" + re.escape(s) + r"((?:\.[^\s(){}.;,\[\]]+)+)", lambda m: "\x00" + self.walk(m.group(1)[1:].split("."))[1:], text)
-            if s != "c":
+            if s not in ("c", "at"):
                 text = re.sub(r"(?<![\w.'\x00-])" + re.escape(s) + r"(?![\w'-])", "\x00", text)
         text = text.replace("\x00", "c")
         text = re.sub(r"not-(?:true|false) _ (c\.[^\s(){},]+)", r"\1", text)
