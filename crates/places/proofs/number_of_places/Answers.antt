@@ -13,14 +13,14 @@ use Rattle.places.proofs.number_of_places.Goals as goal
 
 -- ---- each return is a case of the list of refusals
 
-no-places : (l : List ℕ) → are_places last_place l ≡ false → refused 13 ≡ number_outcome l
+no_places : (l : List ℕ) → are_places last_place l ≡ false → refused 13 ≡ number_outcome l
 unfolding number_outcome
-no-places l e = sym (gives Index _ _ (ap not e))
+no_places l e = sym (gives Index _ _ (ap not e))
 
 module _ (l : List ℕ) (e : are_places last_place l ≡ true) where
-  too-high : 2 ^ 64 ≤ weight l → refused 12 ≡ number_outcome l
+  too_high : 2 ^ 64 ≤ weight l → refused 12 ≡ number_outcome l
   unfolding number_outcome
-  too-high h = sym (passes Index ((Range given_if leb (2 ^ 64) (weight l)) ∷ []) (weight l) (ap not e) ∙ gives Range [] (weight l) (le-leb (2 ^ 64) (weight l) h))
+  too_high h = sym (passes Index ((Range given_if leb (2 ^ 64) (weight l)) ∷ []) (weight l) (ap not e) ∙ gives Range [] (weight l) (le-leb (2 ^ 64) (weight l) h))
 
   fits : {sum : ℕ} → weight l < 2 ^ 64 → sum ≡ weight l % 2 ^ 64 → answered sum ≡ number_outcome l
   unfolding number_outcome
@@ -43,7 +43,7 @@ module _ {l : List ℕ} {above sum i f : ℕ} (s : Summing l above sum i) (some 
   weighs = fibonacci_below_94 e (omega (arith, (places_at 92 l 0 (test_places 92 l tested) some).1))
 
   sum_too_high : sum < f → refused 12 ≡ number_outcome l
-  sum_too_high h = too-high l tested (sum_short l some weighs (summing_sum s ends small) h)
+  sum_too_high h = too_high l tested (sum_short l some weighs (summing_sum s ends small) h)
 
   sum_fits : f ≤ sum → answered sum ≡ number_outcome l
   sum_fits h = fits l tested (sum_whole l (test_places 92 l tested) some weighs (summing_sum s ends small) h) (summing_sum s ends small)
@@ -63,7 +63,7 @@ pub overflow_add-place : goal.overflow_add-place
 overflow_add-place c = omega (arith, c.shared_slice_known-in-loop-i-1.given c.loop-i.i)
 
 pub returns-then-above-place : goal.returns-then-above-place
-returns-then-above-place c = no-places _ (summing_stops c.loop-i.invariant.0 c.loop-i-test.true (omega (arith, c.if-above-place.true)))
+returns-then-above-place c = no_places _ (summing_stops c.loop-i.invariant.0 c.loop-i-test.true (omega (arith, c.if-above-place.true)))
 
 pub overflow_add-place-in-loop-i : goal.overflow_add-place-in-loop-i
 overflow_add-place-in-loop-i c = omega (arith, c.if-above-place.false, c.loop-i.invariant.1)
@@ -78,7 +78,7 @@ loop-i-preserved c =
     )
 
 pub returns-then-above-eq0 : goal.returns-then-above-eq0
-returns-then-above-eq0 c = no-places _ (c.loop-i.invariant.0.spoilt c.if-above-eq0.true)
+returns-then-above-eq0 c = no_places _ (c.loop-i.invariant.0.spoilt c.if-above-eq0.true)
 
 pub overflow_cast-list : goal.overflow_cast-list
 overflow_cast-list c = omega (arith, c.shared_slice_known-2-1.given 0)
