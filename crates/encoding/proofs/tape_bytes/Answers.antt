@@ -10,18 +10,6 @@ pub loop-i-init : goal.loop-i-init
 unfolding bytes_of
 loop-i-init c = (omega arith, put_none _ _)
 
-pub offset_bounds-words-i : goal.offset_bounds-words-i
-offset_bounds-words-i c = omega arith
-
-pub bounds-words-i : goal.bounds-words-i
-bounds-words-i c = omega arith
-
-pub overflow_add-i : goal.overflow_add-i
-overflow_add-i c = omega arith
-
-pub loop-i-smaller : goal.loop-i-smaller
-loop-i-smaller c = omega arith
-
 pub loop-i-preserved : goal.loop-i-preserved
 loop-i-preserved c = (omega arith, bytes_next _ c.loop-i.i (omega arith) c.loop-i.invariant.1 c.word_bytes-next.ensures)
 

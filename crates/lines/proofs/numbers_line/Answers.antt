@@ -15,23 +15,8 @@ returns-then-values-eq0 c =
       values_len_bound = numbers_short 9 values (λ i. omega (arith, c.type_inv.values i));
     }
 
-pub bounds-values-0 : goal.bounds-values-0
-bounds-values-0 c = omega arith
-
 pub loop-i-init : goal.loop-i-init
 loop-i-init c = (omega arith, all_left _ _ _)
-
-pub offset_bounds-values-i : goal.offset_bounds-values-i
-offset_bounds-values-i c = omega arith
-
-pub bounds-values-i : goal.bounds-values-i
-bounds-values-i c = omega arith
-
-pub overflow_add-i : goal.overflow_add-i
-overflow_add-i c = omega arith
-
-pub loop-i-smaller : goal.loop-i-smaller
-loop-i-smaller c = omega arith
 
 pub loop-i-preserved : goal.loop-i-preserved
 loop-i-preserved c = (omega arith, next_left _ c.loop-i.i c.loop-i.invariant.1 (omega arith) c.put_byte-past.ensures c.put_word-next-in-loop-i.ensures)

@@ -1,7 +1,6 @@
 -- `step_lines` meets its contract: with i steps written, the lines from step i + 1 on are left.
 use mathlib.Core.List.{◌++◌}
 use Prim.Native.Nat.{◌+◌}
-use native.Mathlib.Omega.{arith}
 use lib.ListN.{get_or, drop}
 use Rattle.tape.specs.Words.{decoded}
 use Rattle.tape.specs.Layout.{steps_in}
@@ -15,16 +14,10 @@ use Rattle.listing_lines.proofs.step_lines.Goals as goal
 pub loop-i-init : goal.loop-i-init
 loop-i-init c = all_left _ _ _
 
-pub overflow_add-i : goal.overflow_add-i
-overflow_add-i c = omega arith
-
 pub step_line-next-requires : goal.step_line-next-requires
 step_line-next-requires c =
     let word = get_or c.args.words.now c.loop-i.i 0 in
     rw c.nth_step.ensures (step_sound (decoded word) (decoded_lawful word))
-
-pub overflow_add-i-in-loop-i : goal.overflow_add-i-in-loop-i
-overflow_add-i-in-loop-i c = omega arith
 
 -- the line of the step that is read comes next
 coming : (c : goal.After-slice_known-in-loop-i-1)

@@ -13,33 +13,6 @@ use Rattle.encoding.proofs.words.words.Goals as goal
 pub loop-i-init : goal.loop-i-init
 loop-i-init c = (omega arith, refl, all_left _ _ _)
 
-pub overflow_mul-at : goal.overflow_mul-at
-overflow_mul-at c = omega arith
-
-pub bounds-bytes-at : goal.bounds-bytes-at
-bounds-bytes-at c = omega arith
-
-pub overflow_add-at : goal.overflow_add-at
-overflow_add-at c = omega arith
-
-pub bounds-bytes-at-in-loop-i : goal.bounds-bytes-at-in-loop-i
-bounds-bytes-at-in-loop-i c = omega arith
-
-pub overflow_add-at-in-loop-i : goal.overflow_add-at-in-loop-i
-overflow_add-at-in-loop-i c = omega arith
-
-pub bounds-bytes-at-in-loop-i-2 : goal.bounds-bytes-at-in-loop-i-2
-bounds-bytes-at-in-loop-i-2 c = omega arith
-
-pub overflow_add-at-in-loop-i-2 : goal.overflow_add-at-in-loop-i-2
-overflow_add-at-in-loop-i-2 c = omega arith
-
-pub bounds-bytes-at-in-loop-i-3 : goal.bounds-bytes-at-in-loop-i-3
-bounds-bytes-at-in-loop-i-3 c = omega arith
-
-pub offset_bounds-buffer-i : goal.offset_bounds-buffer-i
-offset_bounds-buffer-i c = omega arith
-
 -- there is room for it
 room : (c : goal.After-word_from_bytes) → c.loop-i.i < length c.loop-i.buffer
 room c =
@@ -47,12 +20,6 @@ room c =
 
 pub bounds-buffer-i : goal.bounds-buffer-i
 bounds-buffer-i c = room c
-
-pub overflow_add-i : goal.overflow_add-i
-overflow_add-i c = omega arith
-
-pub loop-i-smaller : goal.loop-i-smaller
-loop-i-smaller c = omega arith
 
 -- the word of the next four bytes comes next
 coming : (c : goal.After-word_from_bytes)
