@@ -57,10 +57,10 @@ pub loop-i-init : goal.loop-i-init
 loop-i-init c = (summing_starts _, omega arith, omega arith)
 
 pub overflow_cast-place : goal.overflow_cast-place
-overflow_cast-place c = omega (arith, c.shared_slice_known-in-loop-i-1.given c.loop-i.i)
+overflow_cast-place c = omega (arith, c.type_inv.list c.loop-i.i)
 
 pub overflow_add-place : goal.overflow_add-place
-overflow_add-place c = omega (arith, c.shared_slice_known-in-loop-i-1.given c.loop-i.i)
+overflow_add-place c = omega (arith, c.type_inv.list c.loop-i.i)
 
 pub returns-then-above-place : goal.returns-then-above-place
 returns-then-above-place c = no_places _ (summing_stops c.loop-i.invariant.0 c.loop-i-test.true (omega (arith, c.if-above-place.true)))
@@ -81,10 +81,10 @@ pub returns-then-above-eq0 : goal.returns-then-above-eq0
 returns-then-above-eq0 c = no_places _ (c.loop-i.invariant.0.spoilt c.if-above-eq0.true)
 
 pub overflow_cast-list : goal.overflow_cast-list
-overflow_cast-list c = omega (arith, c.shared_slice_known-2-1.given 0)
+overflow_cast-list c = omega (arith, c.type_inv.list 0)
 
 pub overflow_add-list : goal.overflow_add-list
-overflow_add-list c = omega (arith, c.shared_slice_known-2-1.given 0)
+overflow_add-list c = omega (arith, c.type_inv.list 0)
 
 pub returns-then-sum-fibonacci_or_zero : goal.returns-then-sum-fibonacci_or_zero
 returns-then-sum-fibonacci_or_zero c =

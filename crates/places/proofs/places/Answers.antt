@@ -33,23 +33,11 @@ slice_bounds-list-end c =
     let n = c.args.n in
     omega (arith, c.zeckendorf-form.ensures.count_value, ap length c.zeckendorf-form.ensures.places_value ∙ length-append (places_of n) _)
 
--- what the form's buffer holds up to its count
-listed : (c : goal.After-list-2-1) → take c.zeckendorf-form.result.count c.zeckendorf-form.result.places ≡ places_of c.args.n
-listed c = front _ _ _ c.zeckendorf-form.ensures.count_value c.zeckendorf-form.ensures.places_value
-
 pub slice_bounds-copy_to_front-end : goal.slice_bounds-copy_to_front-end
-slice_bounds-copy_to_front-end c = c.zeckendorf-form.ensures.count_value ∙ sym (ap length (listed c))
-
--- what the form's buffer holds up to its count
-listed_2 : (c : goal.After-copy_to_front-arg-1) → take c.zeckendorf-form.result.count c.zeckendorf-form.result.places ≡ places_of c.args.n
-listed_2 c = front _ _ _ c.zeckendorf-form.ensures.count_value c.zeckendorf-form.ensures.places_value
+slice_bounds-copy_to_front-end c = c.zeckendorf-form.ensures.count_value ∙ sym (ap length (front _ _ _ c.zeckendorf-form.ensures.count_value c.zeckendorf-form.ensures.places_value))
 
 pub copy_to_front-requires : goal.copy_to_front-requires
-copy_to_front-requires c = omega (arith, c.zeckendorf-form.ensures.count_value, ap length (listed_2 c))
-
--- what the form's buffer holds up to its count
-listed_3 : (c : goal.After-slice_known-2-1) → take c.zeckendorf-form.result.count c.zeckendorf-form.result.places ≡ places_of c.args.n
-listed_3 c = front _ _ _ c.zeckendorf-form.ensures.count_value c.zeckendorf-form.ensures.places_value
+copy_to_front-requires c = omega (arith, c.zeckendorf-form.ensures.count_value, ap length (front _ _ _ c.zeckendorf-form.ensures.count_value c.zeckendorf-form.ensures.places_value))
 
 pub returns : goal.returns
 unfolding places_buffer
@@ -59,5 +47,5 @@ returns c =
     let e = enough n (length buffer) (omega (arith, c.zeckendorf-form.ensures.count_value)) in
     record {
       result_value = ap answered c.zeckendorf-form.ensures.count_value ∙ sym e;
-      buffer_after = c.copy_to_front.ensures ∙ ap (λ (l : List ℕ). l ++ drop (length l) buffer) (listed_3 c) ∙ sym (row_written (places_of n) buffer e);
+      buffer_after = c.copy_to_front.ensures ∙ ap (λ (l : List ℕ). l ++ drop (length l) buffer) (front _ _ _ c.zeckendorf-form.ensures.count_value c.zeckendorf-form.ensures.places_value) ∙ sym (row_written (places_of n) buffer e);
     }
