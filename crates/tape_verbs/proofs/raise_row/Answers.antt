@@ -1,0 +1,15 @@
+-- `raise_row` meets its contract: where the service answers, the row has what is shown, and as many numbers as before.
+use mathlib.Core.Path.{refl}
+use native.Mathlib.Omega.{arith}
+use Rattle.tape_verbs.proofs.raise_row.Goals as goal
+
+pub returns-in-Refused : goal.returns-in-Refused
+returns-in-Refused c =
+    let raise = c.raise in
+    rw (← raise.ensures.result_value, c.in-Refused.is, ← c.number.ensures)
+    c.refuse.ensures
+
+pub returns-in-Answered : goal.returns-in-Answered
+returns-in-Answered c =
+    rw (← c.raise.ensures.result_value, c.in-Answered.is, ← c.raise.ensures.bases_after)
+    (record { status = refl; text = c.numbers_line.ensures.put; short = omega (arith, c.numbers_line.ensures.values_len_bound, c.raise.auto.bases, c.requires) })
