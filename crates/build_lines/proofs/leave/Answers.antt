@@ -1,0 +1,13 @@
+-- `leave` meets its contract: the words stand from where the tape at hand begins, or the row has no room for them.
+use mathlib.Core.Path.{refl}
+use native.Mathlib.Omega.{arith}
+use Rattle.scripting.proofs.Laws.Tapes.{did_full}
+use Rattle.scripting.proofs.Laws.Rooms.{did_left}
+use Rattle.build_lines.proofs.leave.Goals as goal
+
+pub returns-then-tapes-begin : goal.returns-then-tapes-begin
+returns-then-tapes-begin c =
+    did_full c.requires.inside c.args.words.now _ (omega (arith, c.if-tapes-begin.true)) refl c.put_full.ensures
+
+pub returns : goal.returns
+returns c = did_left c.requires.inside c.args.words.now _ (omega (arith, c.if-tapes-begin.false, c.requires.inside.begin, c.requires.inside.end)) c.put_words-end.ensures c.ending.ensures c.numbers_line.ensures.put (omega (arith, c.numbers_line.ensures.values_len_bound, c.requires.short))
