@@ -1,0 +1,15 @@
+-- `list_into` meets its contract: the count and the number are put, and the row as it is then.
+use mathlib.Core.Path.{ap}
+use native.Mathlib.Omega.{arith}
+use lib.ListN.{length}
+use Rattle.listing.proofs.Laws.Cases.{written_fits}
+use Rattle.scripting.proofs.Laws.Rooms.{put_list_into}
+use Rattle.rooms.proofs.list_into.Goals as goal
+
+pub overflow_cast-said : goal.overflow_cast-said
+overflow_cast-said c = omega (arith, written_fits c.args.bytes.now (length c.args.row.now) c.listing-listed.result c.listing-listed.ensures.value, c.requires)
+
+pub returns : goal.returns
+returns c =
+    let both = put_list_into c.args.row.now c.args.bytes.now (omega (arith, ap length c.listing-listed.ensures.lines_after, c.listing-listed.auto.lines, c.requires)) c.listing-listed.ensures.value c.numbers_line-next.ensures.put (omega (arith, c.numbers_line-next.ensures.values_len_bound)) (rw c.listing-listed.ensures.lines_after at c.bytes_line.ensures.put) (rw c.listing-listed.ensures.lines_after at c.bytes_line.ensures.values_len_bound) in
+    record { put = both.0; bytes_len_bound = both.1 }
