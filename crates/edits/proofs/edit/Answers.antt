@@ -17,5 +17,7 @@ edit_inside-requires c =
     inside_used c.args.marks c.args.tapes.now c.least-capacity.ensures c.inside.ensures
 
 pub returns : goal.returns
-returns c = let both = did_used c.args.marks c.args.tapes.now c.least-capacity.ensures c.inside.ensures (λ (capacity : ℕ) (state : State). in_script capacity c.args.verb (held_to (limit_in c.args.verb) c.args.values.now) state)
-    c.edit_inside.auto.tapes c.edit_inside.ensures in record { did = both.0; tapes_unchanged = both.1 }
+returns c =
+    let both = did_used c.args.marks c.args.tapes.now c.least-capacity.ensures c.inside.ensures (λ (capacity : ℕ) (state : State). in_script capacity c.args.verb (held_to (limit_in c.args.verb) c.args.values.now) state)
+    c.edit_inside.auto.tapes c.edit_inside.ensures in
+    record { did = both.0; tapes_unchanged = both.1 }
