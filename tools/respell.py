@@ -17,6 +17,8 @@ TOKEN = re.compile(r"--[^\n]*|//[^\n]*|\"(?:[^\"\\\n]|\\.)*\"|" + WORD)
 TICKED = re.compile(r"`([^`\n]+)`")
 DECLARED = re.compile(r"^ *(?:(?:unfoldable|abbrev|pub|record|data|ruleset) +)*(" + WORD + r")(?: +(?:\([^()]*(?:\([^()]*\)[^()]*)*\)|\{[^{}]*\}))* :(?: |$)", re.M)
 TURNS = re.compile(r"^◌?[a-z][A-Za-z0-9]*(?:-[A-Za-z0-9]+)*['₀-₉]*◌?$")
+# Fields of records, which are no lemmas.
+FIELDS = {"undone-raises", "no-turns"}
 # Lemmas whose names are in snake case already, and would be those of a definition.
 LEMMAS = {"numbers_fit": "numbers_fit_lem", "on_row": "on_row_lem", "same_step": "same_step_lem"}
 # The new names of definitions, which a lemma's may not be: such a lemma ends in _lem.
@@ -31,7 +33,7 @@ def snake(name):
     if name in LEMMAS:
         return LEMMAS[name]
     out = plain(name)
-    return out + "_lem" if "-" in name and out in TAKEN else out
+    return out + "_lem" if "-" in name and out in TAKEN and name not in FIELDS else out
 
 
 def turns(name):

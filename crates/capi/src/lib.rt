@@ -233,7 +233,7 @@ pub extern "C" fn fibexp_reply(
 ) -> u32
     ensures value { result ≡ (reply (split_words arguments.now) input.now).status }
     ensures put { Put text.old 0 (reply (split_words arguments.now) input.now).text written.new text.new }
-    ensures input_len_bound { length (reply (split_words arguments.now) input.now).text ≤ max_text }
+    ensures short { length (reply (split_words arguments.now) input.now).text ≤ max_text }
 {
     let told = command::reply(arguments, input, text);
     *written = told.length;

@@ -11,7 +11,7 @@ use text::{BLANK, NEWLINE};
 // A number on a line of its own.
 pub fn number_line(buffer: &mut [u8], at: usize, n: u64) -> usize
     ensures put { Put buffer.old at (number_line n) result buffer.new }
-    ensures n_len_bound { length (number_line n) ≤ 21 }
+    ensures short { length (number_line n) ≤ 21 }
 {
     put_number_then(buffer, at, n, NEWLINE)
 }
@@ -19,7 +19,7 @@ pub fn number_line(buffer: &mut [u8], at: usize, n: u64) -> usize
 // Numbers on one line.
 pub fn numbers_line(buffer: &mut [u8], at: usize, values: &[u32]) -> usize
     ensures put { Put buffer.old at (numbers_line values.now) result buffer.new }
-    ensures values_len_bound { length (numbers_line values.now) ≤ 11 * length values.now + 1 }
+    ensures short { length (numbers_line values.now) ≤ 11 * length values.now + 1 }
 {
     if values.len() == 0 {
         return put_byte(buffer, at, NEWLINE);
@@ -37,7 +37,7 @@ pub fn numbers_line(buffer: &mut [u8], at: usize, values: &[u32]) -> usize
 // Bytes' numbers on one line.
 pub fn bytes_line(buffer: &mut [u8], at: usize, values: &[u8]) -> usize
     ensures put { Put buffer.old at (numbers_line values.now) result buffer.new }
-    ensures values_len_bound { length (numbers_line values.now) ≤ 4 * length values.now + 1 }
+    ensures short { length (numbers_line values.now) ≤ 4 * length values.now + 1 }
 {
     if values.len() == 0 {
         return put_byte(buffer, at, NEWLINE);

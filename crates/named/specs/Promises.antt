@@ -38,7 +38,7 @@ pub record IsProgram (r k : ℕ) (xs : List Step) : Type 0 where
   pub sound : AllSound xs
   -- done, it takes (1, a, 1, 1) to (1, a^k, 1, 1); undone, (1, b, 1, 1) to (1, b^K, 1, 1)
   pub raises : (p : ℕ) → Prime p → Raises p r k xs
-  pub undone_raises_lem : (p : ℕ) → Prime p → UndoneRaises p r (inverse r k) xs
+  pub undone_raises : (p : ℕ) → Prime p → UndoneRaises p r (inverse r k) xs
   -- the last exponents are (0, k, 0, 0) modulo r
   pub ends : map (residue_of r) (exponents_at xs (length xs)) ≡ 0 ∷ k ∷ 0 ∷ 0 ∷ []
   -- where a word holds r, it is short enough for a tape and at no position an exponent leaves its range

@@ -53,7 +53,7 @@ pub(crate) fn power(buffer: &mut [u8], state: State) -> Reply
 // The four registers and the position, and the end of the line.
 fn put_record(buffer: &mut [u8], at: usize, state: State) -> usize
     ensures put { Put buffer.old at (record_line (record_of state)) result buffer.new }
-    ensures state_len_bound { length (record_line (record_of state)) ≤ 56 }
+    ensures short { length (record_line (record_of state)) ≤ 56 }
 {
     let registers = state.registers;
     let values = [
@@ -109,7 +109,7 @@ pub(crate) fn rows(buffer: &mut [u8], table: Table) -> Reply
 // Four exponents, and the end of the line.
 fn put_row(buffer: &mut [u8], at: usize, row: Exponents) -> usize
     ensures put { Put buffer.old at (exponents_line (exponents_of row)) result buffer.new }
-    ensures row_len_bound { length (exponents_line (exponents_of row)) ≤ 88 }
+    ensures short { length (exponents_line (exponents_of row)) ≤ 88 }
 {
     let c = put_exponent(buffer, at, row.c, BLANK);
     let d = put_exponent(buffer, c, row.d, BLANK);
@@ -120,7 +120,7 @@ fn put_row(buffer: &mut [u8], at: usize, row: Exponents) -> usize
 // A whole number, and a byte.
 fn put_exponent(buffer: &mut [u8], at: usize, n: i64, last: u8) -> usize
     ensures put { Put buffer.old at (whole n ++ last ∷ []) result buffer.new }
-    ensures n_len_bound { length (whole n) ≤ 21 }
+    ensures short { length (whole n) ≤ 21 }
 {
     let next = put_whole(buffer, at, n);
     put_byte(buffer, next, last)

@@ -22,7 +22,7 @@ const MAX_TAPE_BYTES: usize = MAX_TAPES * WORD_BYTES;
 // The places of the first parameter into a buffer: their count or the refusal, and the buffer.
 pub fn places_in(own: u32, values: &[u64], room: usize, text: &mut [u8]) -> usize
     ensures put { Put text.old 0 (places_in (min room max_room) own values.now) result text.new }
-    ensures values_len_bound { length (places_in (min room max_room) own values.now) ≤ max_commanded }
+    ensures short { length (places_in (min room max_room) own values.now) ≤ max_commanded }
 {
     let held = least(room, MAX_ROOM);
     let mut row = [HELD; MAX_ROOM];
@@ -42,7 +42,7 @@ fn first(values: &[u64]) -> u64
 fn places_into(own: u32, n: u64, row: &mut [u8], text: &mut [u8]) -> usize
     requires { length row.old ≤ max_room }
     ensures put { Put text.old 0 (places_into row.old own (n ∷ [])) result text.new }
-    ensures n_len_bound { length (places_into row.old own (n ∷ [])) ≤ max_commanded }
+    ensures short { length (places_into row.old own (n ∷ [])) ≤ max_commanded }
 {
     let found = places::places(n, row);
     let next = answer(text, own, found).length;
@@ -52,7 +52,7 @@ fn places_into(own: u32, n: u64, row: &mut [u8], text: &mut [u8]) -> usize
 // The listing of a tape, whose first `MAX_TAPES` words are used, into a buffer: how many bytes were written and its number, and the buffer.
 pub fn list_in(tape: &[u32], room: usize, text: &mut [u8]) -> usize
     ensures put { Put text.old 0 (list_in (min room max_room) (take (capacity_of tape.now) tape.now)) result text.new }
-    ensures tape_len_bound { length (list_in (min room max_room) (take (capacity_of tape.now) tape.now)) ≤ max_commanded }
+    ensures short { length (list_in (min room max_room) (take (capacity_of tape.now) tape.now)) ≤ max_commanded }
 {
     let words = least(tape.len(), MAX_TAPES);
     let held = least(room, MAX_ROOM);
@@ -65,7 +65,7 @@ pub fn list_in(tape: &[u32], room: usize, text: &mut [u8]) -> usize
 fn list_into(bytes: &[u8], row: &mut [u8], text: &mut [u8]) -> usize
     requires { length row.old ≤ max_room }
     ensures put { Put text.old 0 (list_into row.old bytes.now) result text.new }
-    ensures bytes_len_bound { length (list_into row.old bytes.now) ≤ max_commanded }
+    ensures short { length (list_into row.old bytes.now) ≤ max_commanded }
 {
     let listed = lister::listing(bytes, row);
     let said = [listed.written as u32, listed.number];

@@ -109,7 +109,7 @@ pub record Rewind (tape : List ℕ) (qs : List Request) (s : Record) : Type 0 wh
   pub accepted : check_outcome tape ≡ answered 0
   pub position : s.position ≤ (header_of tape).steps
   pub registers : Residues (header_of tape).modulus s.registers
-  pub no_turns_lem : NoTurns qs
+  pub no_turns : NoTurns qs
   pub returns : Returns tape s.position s.position (performed qs s)
 
 -- DEMAND 3, REWIND. If a list is a rewind from record s, every run in it is refused or answers as said, with its number among

@@ -24,9 +24,9 @@ pub returns-else-tapes-begin : goal.returns-else-tapes-begin
 returns-else-tapes-begin c = let row = c.args.row.now in
     rw c.in-Answered.is
     (did_left c.requires.inside (take c.in-Answered.n row) _ (omega (arith, c.if-tapes-begin.false, c.requires.inside.begin, c.requires.inside.end, length-take-le c.in-Answered.n row (rw c.in-Answered.is at c.requires.counted))) c.put_words-end.ensures c.ending.ensures (puts_join c.number_line-next.ensures.put c.numbers_line.ensures.put)
-    (omega (arith, c.number_line-next.ensures.n_len_bound, c.numbers_line.ensures.values_len_bound, c.requires.short, length-append (number_line c.in-Answered.n) (numbers_line row))))
+    (omega (arith, c.number_line-next.ensures.short, c.numbers_line.ensures.short, c.requires.short, length-append (number_line c.in-Answered.n) (numbers_line row))))
 
 pub returns-in-Refused : goal.returns-in-Refused
 returns-in-Refused c = rw (c.in-Refused.is, ← c.number.ensures)
     (did_print _ c.requires.inside refl (puts_join c.refuse-next.ensures.text c.numbers_line-in-Refused.ensures.put)
-    (omega (arith, c.refuse-next.ensures.short, c.numbers_line-in-Refused.ensures.values_len_bound, c.requires.short, length-append (refusal_line c.args.own c.number.result) (numbers_line c.args.row.now))))
+    (omega (arith, c.refuse-next.ensures.short, c.numbers_line-in-Refused.ensures.short, c.requires.short, length-append (refusal_line c.args.own c.number.result) (numbers_line c.args.row.now))))

@@ -8,5 +8,5 @@ pub returns : goal.returns
 unfolding line
 returns c = record {
   put = c.put_number_then.ensures;
-  n_len_bound = number_short c.args.n (omega (arith, c.ranges.n));
+  short = number_short c.args.n (omega (arith, c.ranges.n));
 }

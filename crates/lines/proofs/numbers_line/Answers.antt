@@ -12,7 +12,7 @@ returns-then-values-eq0 c =
     let values = c.args.values.now in
     record {
       put = no_numbers values c.if-values-eq0.true c.put_byte.ensures;
-      values_len_bound = numbers_short 9 values (λ i. omega (arith, c.type_inv.values i));
+      short = numbers_short 9 values (λ i. omega (arith, c.type_inv.values i));
     }
 
 pub loop-i-init : goal.loop-i-init
@@ -32,5 +32,5 @@ shape_of-buffer c = put_length (done (goal.at.shape_of-buffer c).After-put_byte-
 pub returns : goal.returns
 returns c = record {
   put = done (goal.at.returns c).After-put_byte-2;
-  values_len_bound = numbers_short 9 c.args.values.now (λ i. omega (arith, c.type_inv.values i));
+  short = numbers_short 9 c.args.values.now (λ i. omega (arith, c.type_inv.values i));
 }

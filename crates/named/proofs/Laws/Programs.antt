@@ -68,7 +68,7 @@ module _ (r k : ℕ) (good : bad_exponent k r ≡ false) where
           some = drawn_some figure ss ts Ss Ts;
           sound = sound;
           raises = raises;
-          undone_raises_lem = λ p pr. raises_undone p pr r k xs sound (inverse r k) inverse_is.one (raises p pr);
+          undone_raises = λ p pr. raises_undone p pr r k xs sound (inverse r k) inverse_is.one (raises p pr);
           ends = ends;
           short = short;
           stays = λ small. goes_stays (room small) xs goes;

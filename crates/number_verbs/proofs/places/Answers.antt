@@ -29,5 +29,5 @@ returns c =
     record {
       status = refl;
       text = rw listed at c.bytes_line.ensures.put;
-      short = omega (arith, rw listed at c.bytes_line.ensures.values_len_bound, c.zeckendorf-form.ensures.count_value, zeckendorf_count_64 c.args.n c.ranges.n.fits);
+      short = omega (arith, rw listed at c.bytes_line.ensures.short, c.zeckendorf-form.ensures.count_value, zeckendorf_count_64 c.args.n c.ranges.n.fits);
     }

@@ -35,5 +35,5 @@ returns c =
     let held = c.least-held.ensures in
     let tapes = rw used at c.tape_bytes-count.ensures in
     let both = put_list_in (min c.args.room max_room) (take (capacity_of tape) tape) _ _ (filled_part max_room c.least-held.result (omega (arith, held)) ∙ ap filled held)
-    (put_taken tapes (omega (arith, bytes_length (take (capacity_of tape) tape), length-take (capacity_of tape) tape, length-replicate {A = ℕ} 16384 0))) (c.list_into.ensures.put, c.list_into.ensures.bytes_len_bound) in
-    record { put = both.0; tape_len_bound = both.1 }
+    (put_taken tapes (omega (arith, bytes_length (take (capacity_of tape) tape), length-take (capacity_of tape) tape, length-replicate {A = ℕ} 16384 0))) (c.list_into.ensures.put, c.list_into.ensures.short) in
+    record { put = both.0; short = both.1 }

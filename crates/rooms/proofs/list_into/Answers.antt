@@ -11,5 +11,5 @@ overflow_cast-said c = omega (arith, written_fits c.args.bytes.now (length c.arg
 
 pub returns : goal.returns
 returns c =
-    let both = put_list_into c.args.row.now c.args.bytes.now (omega (arith, ap length c.listing-listed.ensures.lines_after, c.listing-listed.auto.lines, c.requires)) c.listing-listed.ensures.value c.numbers_line-next.ensures.put (omega (arith, c.numbers_line-next.ensures.values_len_bound)) (rw c.listing-listed.ensures.lines_after at c.bytes_line.ensures.put) (rw c.listing-listed.ensures.lines_after at c.bytes_line.ensures.values_len_bound) in
-    record { put = both.0; bytes_len_bound = both.1 }
+    let both = put_list_into c.args.row.now c.args.bytes.now (omega (arith, ap length c.listing-listed.ensures.lines_after, c.listing-listed.auto.lines, c.requires)) c.listing-listed.ensures.value c.numbers_line-next.ensures.put (omega (arith, c.numbers_line-next.ensures.short)) (rw c.listing-listed.ensures.lines_after at c.bytes_line.ensures.put) (rw c.listing-listed.ensures.lines_after at c.bytes_line.ensures.short) in
+    record { put = both.0; short = both.1 }

@@ -18,5 +18,5 @@ places_into-requires c = omega (arith, length-take c.least-held.result (filled m
 pub returns : goal.returns
 returns c =
     let held = c.least-held.ensures in
-    let both = put_places_in (min c.args.room max_room) c.args.own _ c.args.values.now _ (filled_part max_room c.least-held.result (omega (arith, held)) ∙ ap filled held) c.first.ensures (c.places_into.ensures.put, c.places_into.ensures.n_len_bound) in
-    record { put = both.0; values_len_bound = both.1 }
+    let both = put_places_in (min c.args.room max_room) c.args.own _ c.args.values.now _ (filled_part max_room c.least-held.result (omega (arith, held)) ∙ ap filled held) c.first.ensures (c.places_into.ensures.put, c.places_into.ensures.short) in
+    record { put = both.0; short = both.1 }

@@ -7,5 +7,5 @@ use Rattle.rooms.proofs.places_into.Goals as goal
 
 pub returns : goal.returns
 returns c =
-    let both = put_places_into c.args.row.now c.args.n c.args.own c.places-found.result (omega (arith, ap length c.places-found.ensures.buffer_after, c.places-found.auto.buffer, c.requires)) c.places-found.ensures.result_value c.answer-next.ensures (rw c.places-found.ensures.buffer_after at c.bytes_line.ensures.put) (rw c.places-found.ensures.buffer_after at c.bytes_line.ensures.values_len_bound) in
-    record { put = both.0; n_len_bound = both.1 }
+    let both = put_places_into c.args.row.now c.args.n c.args.own c.places-found.result (omega (arith, ap length c.places-found.ensures.buffer_after, c.places-found.auto.buffer, c.requires)) c.places-found.ensures.result_value c.answer-next.ensures (rw c.places-found.ensures.buffer_after at c.bytes_line.ensures.put) (rw c.places-found.ensures.buffer_after at c.bytes_line.ensures.short) in
+    record { put = both.0; short = both.1 }

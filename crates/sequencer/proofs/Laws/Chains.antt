@@ -86,7 +86,7 @@ module _ (p : ℕ) (pr : Prime p) (r a : ℕ) (ra : Residue p a) (ord : a ^ r % 
         let down : ltb q.from q.goal ≡ false = le-ltb q.from q.goal (omega arith) in
         ap₂ (λ (i j : ℕ). run p xs i j (start b)) e f
         ∙ run_backward p pr xs (steps_sound q.tape) (start b) (residues_start p pr b residue)
-        ∙ is_program_lem.undone_raises_lem p pr b residue (order_power p pr a r E ord)
+        ∙ is_program_lem.undone_raises p pr b residue (order_power p pr a r E ord)
         ∙ rw down (reduced E (inverse r k))
 
     pub linked : run (header_of q.tape).modulus xs q.from q.goal (start b) ≡ start (a ^ (E * factor r q % r) % p)

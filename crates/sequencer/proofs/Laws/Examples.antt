@@ -192,7 +192,7 @@ rewind_exists =
       accepted = refl;
       position = omega arith;
       registers = residues_four 7 2 3 4 5 (below 2 (omega arith) (omega arith)) (below 3 (omega arith) (omega arith)) (below 4 (omega arith) (omega arith)) (below 5 (omega arith) (omega arith));
-      no_turns_lem = (refl, (refl, (refl, (refl, tt))));
+      no_turns = (refl, (refl, (refl, (refl, tt))));
       returns = (refl, (refl, (refl, refl)));
     }
 

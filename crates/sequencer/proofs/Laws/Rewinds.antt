@@ -85,7 +85,7 @@ pub rewind_ends_lem : (qs : List Request) (s : Record) (row : List ℕ) → Rewi
 rewind_ends_lem qs s row tape h =
     let pr = prime_of tape h.accepted in (
       each_as_said_lem qs s row,
-      from_there tape s.position pr qs s h.registers h.no_turns_lem h.returns
+      from_there tape s.position pr qs s h.registers h.no_turns h.returns
           ∙ ap (λ (v : List ℕ). record { registers = v; position = s.position })
           (run_here (header_of tape).modulus (steps_of tape) s.position s.registers),
     )

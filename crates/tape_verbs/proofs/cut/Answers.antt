@@ -14,4 +14,4 @@ returns-then-number-ne0 c =
 pub returns : goal.returns
 returns c =
     let a = c.args in
-    cut_told a.own a.tape.now a.first a.last c.cut-part.ensures.result_value (sym c.cut-part.ensures.number_after ∙ c.if-number-ne0.false) c.numbers_line.ensures.put c.numbers_line.ensures.values_len_bound
+    cut_told a.own a.tape.now a.first a.last c.cut-part.ensures.result_value (sym c.cut-part.ensures.number_after ∙ c.if-number-ne0.false) c.numbers_line.ensures.put c.numbers_line.ensures.short

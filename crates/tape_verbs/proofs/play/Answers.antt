@@ -54,4 +54,4 @@ pub returns : goal.returns
 returns c =
     let runs = (goal.at.returns c).After-runs-length in
     let line = c.numbers_line.ensures in
-    runs_told_lem (values runs) (tapes runs) (told runs) line.put line.values_len_bound (omega (arith, size runs, counted runs))
+    runs_told_lem (values runs) (tapes runs) (told runs) line.put line.short (omega (arith, size runs, counted runs))

@@ -12,4 +12,4 @@ returns-in-Refused c =
 pub returns-in-Answered : goal.returns-in-Answered
 returns-in-Answered c =
     rw (← c.raise.ensures.result_value, c.in-Answered.is, ← c.raise.ensures.bases_after)
-    (record { status = refl; text = c.numbers_line.ensures.put; short = omega (arith, c.numbers_line.ensures.values_len_bound, c.raise.auto.bases, c.requires) })
+    (record { status = refl; text = c.numbers_line.ensures.put; short = omega (arith, c.numbers_line.ensures.short, c.raise.auto.bases, c.requires) })

@@ -4,4 +4,4 @@ use native.Mathlib.Omega.{arith}
 use Rattle.printing.proofs.results.exponents.Goals as goal
 
 pub returns : goal.returns
-returns c = record { status = refl; text = c.put_row.ensures.put; short = omega (arith, c.put_row.ensures.row_len_bound) }
+returns c = record { status = refl; text = c.put_row.ensures.put; short = omega (arith, c.put_row.ensures.short) }

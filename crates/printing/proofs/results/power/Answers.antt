@@ -15,5 +15,5 @@ returns c =
     record {
       status = refl;
       text = puts_join c.number_line-next.ensures.put c.put_record.ensures.put;
-      short = omega (arith, c.number_line-next.ensures.n_len_bound, c.put_record.ensures.state_len_bound, length-append (number_line (reg s.registers 1)) (record_line s));
+      short = omega (arith, c.number_line-next.ensures.short, c.put_record.ensures.short, length-append (number_line (reg s.registers 1)) (record_line s));
     }

@@ -13,5 +13,5 @@ returns c =
     record {
       status = refl;
       text = puts_join c.numbers_line-next.ensures.put c.numbers_line.ensures.put;
-      short = omega (arith, c.numbers_line-next.ensures.values_len_bound, c.numbers_line.ensures.values_len_bound, length-append (numbers_line w.registers) (numbers_line w.counts));
+      short = omega (arith, c.numbers_line-next.ensures.short, c.numbers_line.ensures.short, length-append (numbers_line w.registers) (numbers_line w.counts));
     }

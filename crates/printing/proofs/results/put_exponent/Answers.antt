@@ -10,5 +10,5 @@ returns c =
     let small = c.ranges.n.sfits in
     record {
       put = puts_join (rw (from_bits n small) at c.put_whole-next.ensures) c.put_byte.ensures;
-      n_len_bound = whole_short n small;
+      short = whole_short n small;
     }

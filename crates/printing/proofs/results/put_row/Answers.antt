@@ -19,5 +19,5 @@ returns c =
     let of_f = rw (from_bits x.f f_fits) at c.put_exponent.ensures in
     record {
       put = four_put x.c x.d x.e x.f of_c.put of_d.put of_e.put of_f.put;
-      row_len_bound = four_short x.c x.d x.e x.f of_c.n_len_bound of_d.n_len_bound of_e.n_len_bound of_f.n_len_bound;
+      short = four_short x.c x.d x.e x.f of_c.short of_d.short of_e.short of_f.short;
     }

@@ -18,5 +18,5 @@ returns c =
       text = puts_join (puts_join (puts_join of_c.put of_d.put) of_e.put) of_f.put;
       short =
           lines_short (exponents_line (exponents_of x.c)) (exponents_line (exponents_of x.d)) (exponents_line (exponents_of x.e)) (exponents_line (exponents_of x.f))
-          of_c.row_len_bound of_d.row_len_bound of_e.row_len_bound of_f.row_len_bound;
+          of_c.short of_d.short of_e.short of_f.short;
     }

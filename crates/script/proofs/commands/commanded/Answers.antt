@@ -147,7 +147,7 @@ does_4 c is =
 pub returns-in-PlacesInRoom : goal.returns-in-PlacesInRoom
 returns-in-PlacesInRoom c =
     let e : min c.args.marks.room max_room ≡ c.args.marks.room = min-eq_left c.requires.room in
-    rw (does_4 c c.in-PlacesInRoom.is) (did_print _ c.requires refl (rw e at c.places_in.ensures.put) (rw e at c.places_in.ensures.values_len_bound))
+    rw (does_4 c c.in-PlacesInRoom.is) (did_print _ c.requires refl (rw e at c.places_in.ensures.put) (rw e at c.places_in.ensures.short))
 
 -- and that is what the line asks for
 does_5 : (c : goal.After-slice_known-in-ListInRoom-1) {act : Act} → c.act_of-act.result ≡ act
@@ -161,4 +161,4 @@ does_5 c is =
 pub returns-in-ListInRoom : goal.returns-in-ListInRoom
 returns-in-ListInRoom c =
     let e = list_whole c.requires in
-    rw (does_5 c c.in-ListInRoom.is) (did_print _ c.requires refl (rw e at c.list_in.ensures.put) (rw e at c.list_in.ensures.tape_len_bound))
+    rw (does_5 c c.in-ListInRoom.is) (did_print _ c.requires refl (rw e at c.list_in.ensures.put) (rw e at c.list_in.ensures.short))
