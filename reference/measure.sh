@@ -4,7 +4,7 @@
 # FIBEXP_ARCHIVE names a folder that has libcapi.a; without it the archive is made first.
 cd "$(dirname "$0")/.." || exit 2
 page=docs/PERFORMANCE.md
-[ -n "$FIBEXP_ARCHIVE" ] || sh "$(dirname "$0")/../tools/make.sh" archive || exit
+[ -n "$FIBEXP_ARCHIVE" ] || sh tools/make.sh archive || exit
 said=$(mktemp) || exit 2
 trap 'rm -f "$said"' EXIT
 {

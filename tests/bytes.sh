@@ -21,7 +21,7 @@ while IFS= read -r line; do
     input "$bytes" | { "$tool" "$@" >"$work/out" 2>"$work/error"; echo $? >"$work/status"; }
     said=out silent=error
     [ "$status" = 0 ] || { said=error silent=out; }
-    # A program of the kit has no exit status: it ends with 0.
+    # The tool always ends with status 0.
     [ -n "$has_status" ] || status=0
     printf '%s\n' "$text" >"$work/text"
     if [ "$(cat "$work/status")" != "$status" ] || [ -s "$work/$silent" ] || ! cmp -s "$work/text" "$work/$said"; then
