@@ -1,6 +1,5 @@
 // Sessions: a session carries the tape it was opened on, its registers and its position, goes one step either way, and is previewed. The
-// struct holds a reference, and the proofs of the functions over it are by hand, so these are few and thin: the work is done by functions
-// on the tape and the state.
+// functions over the struct are few and thin: the work is done by functions on the tape and the state.
 #![tactic(auto)]
 
 ghost use Rattle.std.specs.Prelude.{cond, [], ◌≡◌, eqb};
@@ -76,7 +75,7 @@ pub fn step<'a>(session: Session<'a>, backward: bool) -> SessionAnswer<'a>
     }
 }
 
-// A session is opened, goes one step and is left. No struct that holds a reference goes in or out, so no caller's proof is by hand.
+// A session is opened, goes one step and is left. No struct that holds a reference goes in or out.
 pub fn step_once(tape: &[u32], state: State, backward: bool) -> SteppedOnce
     ensures opened_value { result.opened ≡ refusal_number (open_outcome tape.now (record_of state)) }
     ensures stepped_value { result.stepped ≡ refusal_number (session_outcome tape.now (record_of state) backward) }
