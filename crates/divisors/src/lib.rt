@@ -5,9 +5,9 @@ mod table;
 
 ghost use Rattle.std.specs.Prelude.{◌≡◌, ◌<◌};
 ghost use Rattle.divisors.specs.Small.{has_small_divisor};
-ghost use Rattle.divisors.specs.Inner.Inverted.{LeftFrom5, sum_limit, carry_of, HalfWordInverse, Table, LeftFrom4097, ZeroWhereDivided, DividedByOne};
+ghost use Rattle.divisors.specs.Inner.Inverted.{LeftFrom5, sum_limit, carry_of, HalfWordInverse, Table, ZeroWhereDivided, DividedByOne};
 
-use table::{INVERSES_FROM_4097, INVERSES_TO_4096, PRIMES_FROM_4097, PRIMES_TO_4096};
+use table::{BELOW_4096, INVERSES, PRIMES};
 
 // The largest number that is tried.
 const LIMIT: u32 = 16384;
@@ -26,30 +26,21 @@ pub fn has_small_divisor(p: u32) -> bool
     if p % 3 == 0 {
         return 3 < p;
     }
-    // A p this small can be a prime of the tables, and from here on `excess` can have too large a sum.
+    // A p this small can be a prime of the table, and from `SUM_LIMIT` on `excess` can have too large a sum.
     if p <= LIMIT {
         return has_divisor_from_5(p);
     }
     if p >= SUM_LIMIT {
         return has_divisor_from_5(p);
     }
-    if has_divisor_among(p, &PRIMES_TO_4096, &INVERSES_TO_4096) {
+    if has_divisor_among(p, &PRIMES[..BELOW_4096], &INVERSES[..BELOW_4096]) {
         return true;
     }
     // Of two factors one is at most the root, which is below 4096.
     if p < 0x100_0000 {
         return false;
     }
-    has_divisor_from_4097(p)
-}
-
-// The same by the second table, where the first has no divisor: in a function of its own, since a constant that is lent is written
-// out where its function begins.
-fn has_divisor_from_4097(p: u32) -> bool
-    requires { LeftFrom4097 p }
-    ensures { result ≡ has_small_divisor p }
-{
-    has_divisor_among(p, &PRIMES_FROM_4097, &INVERSES_FROM_4097)
+    has_divisor_among(p, &PRIMES[BELOW_4096..], &INVERSES[BELOW_4096..])
 }
 
 // Whether one of the primes divides p. The loop does not end early, and keeps the least excess rather than whether one was zero:
@@ -58,14 +49,9 @@ fn has_divisor_among(p: u32, primes: &[u16], inverses: &[u16]) -> bool
     requires { Table p primes.now inverses.now }
     ensures { DividedByOne primes.now p result }
 {
-    let mut least: u16 = 65535;
-    let mut i: usize = 0;
-    while i < primes.len() {
-        let r = excess(p, primes[i], inverses[i]);
-        if r < least {
-            least = r;
-        }
-        i += 1;
+    let mut least: u16 = u16::MAX;
+    for (d, inverse) in primes.iter().zip(inverses) {
+        least = least.min(excess(p, *d, *inverse));
     }
     least == 0
 }
@@ -96,15 +82,10 @@ fn has_divisor_from_5(p: u32) -> bool
     requires { LeftFrom5 p }
     ensures { result ≡ has_small_divisor p }
 {
-    let mut d: u32 = 5;
-    while d <= LIMIT {
-        if p <= d {
-            return false;
-        }
+    for d in (5..p.min(LIMIT)).step_by(2) {
         if p % d == 0 {
             return true;
         }
-        d += 2;
     }
     false
 }

@@ -1,8 +1,7 @@
 -- The least of the numbers that are zero where an entry divides p: it is zero where one is.
-use mathlib.Core.Path.{◌≡◌, sym, ◌∙◌, subst}
-use mathlib.Core.Logic.{◌⊎◌, ⊎_elim}
+use mathlib.Core.Path.{◌≡◌, subst}
 use mathlib.Core.List.{List}
-use Prim.Native.Nat.{ℕ, ◌+◌, ◌≤◌, ◌<◌, ◌∣◌}
+use Prim.Native.Nat.{ℕ, min, ◌+◌, ◌<◌, ◌∣◌}
 use native.Mathlib.Omega.{arith}
 use native.Mathlib.Decide.{dec_lt}
 use lib.Dec.{eqb}
@@ -21,17 +20,16 @@ module _ (ds : List ℕ) (p : ℕ) where
   least_start = record { some = λ z. absurd (omega arith); none = λ z j before. absurd (omega arith) }
 
   -- with the next, the lesser of the two
-  pub least_more : (i least r next : ℕ) → LeastOf ds p i least → ZeroWhereDivided p (get_or ds i 0) r → next ≤ least → next ≤ r → (next ≡ r) ⊎ (next ≡ least) → LeastOf ds p (i + 1) next
-  least_more i least r next l h under_least under one = record { some = some; none = none }
+  pub least_more : (i least r : ℕ) → LeastOf ds p i least → ZeroWhereDivided p (get_or ds i 0) r → LeastOf ds p (i + 1) (min least r)
+  least_more i least r l h = record { some = some; none = none }
     where
-      some : next ≡ 0 → (j : ℕ) × (j < i + 1) × (get_or ds j 0 ∣ p)
-      some z =
-          ⊎_elim
-          (λ e. (i, omega arith, h.divides (sym e ∙ z)))
-          (λ e. let at : (j : ℕ) × (j < i) × (get_or ds j 0 ∣ p) = l.some (sym e ∙ z) in (at.0, omega arith, at.2))
-          one
+      some : min least r ≡ 0 → (j : ℕ) × (j < i + 1) × (get_or ds j 0 ∣ p)
+      some z = elim (dec_lt 0 r) [
+        | yes k ↦ let at : (j : ℕ) × (j < i) × (get_or ds j 0 ∣ p) = l.some (omega arith) in (at.0, omega arith, at.2)
+        | no k ↦ (i, omega arith, h.divides (omega arith))
+      ]
 
-      none : ¬ (next ≡ 0) → (j : ℕ) → j < i + 1 → ¬ (get_or ds j 0 ∣ p)
+      none : ¬ (min least r ≡ 0) → (j : ℕ) → j < i + 1 → ¬ (get_or ds j 0 ∣ p)
       none z j before d =
           elim (dec_lt j i) [
             | yes k ↦ l.none (λ e. z (omega arith)) j k d

@@ -49,12 +49,6 @@ pub record Table (p : ℕ) (ds xs : List ℕ) : Type 0 where
   pub reach : InReach p
   pub inverses : Inverses ds xs
 
--- p is left for the second table: the first has told that no small divisor of p is below 4097
-pub record LeftFrom4097 (p : ℕ) : Type 0 where
-  pub reach : InReach p
-  pub odd : ¬ (p % 2 ≡ 0)
-  pub none_below : NoneBelow p 4097
-
 -- r is zero where d divides p, and only there
 pub record ZeroWhereDivided (p d r : ℕ) : Type 0 where
   pub divides : r ≡ 0 → d ∣ p
