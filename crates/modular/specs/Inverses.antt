@@ -1,5 +1,5 @@
 -- REQUIREMENTS 2: the inverse of k modulo r, and the inverse service.
-use Rattle.std.specs.Prelude.{◌≡◌, Bool, ◌&&◌, ◌||◌, [], ◌∷◌, ℕ, ◌*◌, ◌-◌, ◌%◌, ◌≤◌, ◌<◌, leb, ltb, eqb}
+use Rattle.std.specs.Prelude.{◌≡◌, Bool, ◌&&◌, ◌||◌, [], ◌∷◌, Option, Some, None, ℕ, zero, suc, ◌*◌, ◌-◌, ◌%◌, ◌≤◌, ◌<◌, leb, ltb, eqb}
 use Rattle.std.specs.Int.{◌∣◌}
 use Rattle.refusal.specs.declared.Refusal.TheVariants.{Order, Exponent}
 use Rattle.refusal.specs.Outcomes.{Outcome, outcome, ◌given_if◌}
@@ -22,6 +22,11 @@ pub record Inverse (m x y : ℕ) : Type 0 where
 -- the inverse of x modulo m; 0 where there is none
 unfoldable pub inverse : ℕ → ℕ → ℕ
 inverse m x = greatest (λ (y : ℕ). eqb (x * y % m) 1) (m - 1)
+
+-- a number of which 0 stands for none
+unfoldable pub nonzero : ℕ → Option ℕ
+nonzero zero = None
+nonzero (suc n) = Some (suc n)
 
 -- refusal 3: k is not from 1 to r - 1, or shares a factor above 1 with r
 unfoldable pub bad_exponent : ℕ → ℕ → Bool

@@ -5,7 +5,7 @@ ghost use Rattle.std.specs.Prelude.{◌≡◌, ◌*◌};
 ghost use Rattle.refusal.specs.Outcomes.{number_outcome_of};
 ghost use Rattle.modular.specs.Residues.{remainder};
 ghost use Rattle.modular.specs.Primes.{is_prime};
-ghost use Rattle.modular.specs.Inverses.{inverse, inverse_outcome};
+ghost use Rattle.modular.specs.Inverses.{inverse, nonzero, inverse_outcome};
 
 use refusal::{NumberAnswer, Refusal};
 
@@ -16,7 +16,7 @@ pub fn product(x: u32, y: u32, m: u32) -> u32
     if m == 0 {
         return 0;
     }
-    ((x as u64) * (y as u64) % (m as u64)) as u32
+    (u64::from(x) * u64::from(y) % u64::from(m)) as u32
 }
 
 // From here on the table of small divisors takes less time than the divisions it stands for.
@@ -32,59 +32,56 @@ pub fn is_prime(p: u32) -> bool
     if p < 4 {
         return true;
     }
-    if p % 2 == 0 {
+    if p % 2 == 0 || p % 3 == 0 {
         return false;
     }
-    if p % 3 == 0 {
+    let first = if p < TABLE_FROM {
+        5
+    } else if divisors::has_small_divisor(p) {
         return false;
-    }
-    let mut d: u32 = 5;
-    if p >= TABLE_FROM {
-        if divisors::has_small_divisor(p) {
+    } else {
+        16385
+    };
+    // A number of 32 bits has its square root below 65536.
+    for d in (first..65536).step_by(6) {
+        if p < d * d {
+            return true;
+        }
+        if p % d == 0 || p % (d + 2) == 0 {
             return false;
         }
-        d = 16385;
-    }
-    while (d as u64) * (d as u64) <= p as u64 {
-        if p % d == 0 {
-            return false;
-        }
-        if p % (d + 2) == 0 {
-            return false;
-        }
-        d += 6;
     }
     true
 }
 
-// The inverse of x modulo m, by the extended Euclidean algorithm; 0 where there is none.
+// The inverse of x modulo m, where it has one: by the extended Euclidean algorithm.
+pub fn inverse_of(x: u32, m: u32) -> Option<u32>
+    ensures { result ≡ nonzero (inverse m x) }
+{
+    if m < 2 {
+        return None;
+    }
+    let (mut a, mut b) = (m, x % m);
+    let (mut s, mut t): (i64, i64) = (0, 1);
+    while b != 0 {
+        let q = i64::from(a / b);
+        (a, b) = (b, a % b);
+        (s, t) = (t, s - q * t);
+    }
+    if a != 1 {
+        return None;
+    }
+    if s < 0 {
+        s += i64::from(m);
+    }
+    Some(s as u32)
+}
+
+// The same, with 0 where it has none.
 pub fn inverse_or_zero(x: u32, m: u32) -> u32
     ensures { result ≡ inverse m x }
 {
-    if m < 2 {
-        return 0;
-    }
-    let mut a = m;
-    let mut b = x % m;
-    let mut s: i64 = 0;
-    let mut t: i64 = 1;
-    while b != 0 {
-        let q = (a / b) as i64;
-        let rest = a % b;
-        let next = s - q * t;
-        a = b;
-        b = rest;
-        s = t;
-        t = next;
-    }
-    if a != 1 {
-        return 0;
-    }
-    if s < 0 {
-        (s + m as i64) as u32
-    } else {
-        s as u32
-    }
+    inverse_of(x, m).unwrap_or(0)
 }
 
 // The inverse service.

@@ -1,15 +1,17 @@
 -- `inverse` is the only inverse, and there is one exactly where x and m share no factor above 1. An exponent k of an order r that
 -- is not refused has one, and the inverse is such an exponent itself, whose inverse is k.
-use mathlib.Core.Path.{◌≡◌, sym, ◌∙◌, ap, ap₂, subst}
+use mathlib.Core.Path.{◌≡◌, refl, sym, ◌∙◌, ap, ap₂, subst}
 use mathlib.Core.Logic.{⊎_elim}
 use mathlib.Core.Bool.{true, false, ◌&&◌, ◌||◌}
-use Prim.Native.Nat.{ℕ, ◌*◌, ◌-◌, ◌%◌, ◌≤◌, ◌<◌, ◌∣◌}
+use Prim.Native.Nat.{ℕ, zero, suc, ◌*◌, ◌-◌, ◌%◌, ◌≤◌, ◌<◌, ◌∣◌}
 use native.Mathlib.Nat.{dvd-mod_iff, dvd-mul_right_of_dvd, dvd_of_mod-eq-zero, eq-one_of_dvd-one, eq-zero-or-pos, le_of_dvd, mod-eq_of_lt, mod-eq-zero_of_dvd, mod-one, mul-one, one-dvd, one-mul, pos_of_dvd_of_pos, zero-mod, zero-mul}
 use native.Mathlib.Omega.{arith}
+use Rattle.std.specs.Prelude.{Some, None}
+use Rattle.std.specs.Option.{unwrap_or}
 use lib.Dec.{leb, ltb, eqb}
 use borrow.Author.Tests.{eqb-true, eqb-false, eq-eqb, ne_eqb, leb-false, lt-leb, ltb-false, le-ltb}
 use Rattle.divisors.specs.Search.{divides}
-use Rattle.modular.specs.Inverses.{Coprime, gcd, Inverse, inverse, bad_exponent}
+use Rattle.modular.specs.Inverses.{Coprime, gcd, Inverse, inverse, nonzero, bad_exponent}
 use Rattle.refusal.proofs.Laws.Tests.{test_true, both, neither}
 use Rattle.divisors.proofs.Laws.Search.{greatest_at_most, greatest_passes, greatest_most, greatest_is}
 use Rattle.modular.proofs.Laws.Residues.{mul_mod_left, mul_mod_right}
@@ -124,3 +126,19 @@ bad_exponent_lem k r bad = test_true (bad_exponent k r) (λ e. bad (good_exponen
 module _ (k r : ℕ) (good : bad_exponent k r ≡ false) where
   pub inverse_order : Inverse r k (inverse r k)
   inverse_order = let g = good_exponent_lem k r good in inverse_exists r k (omega (arith, g.low, g.high)) g.coprime
+
+-- a number of which 0 stands for none
+pub nonzero_none : (n : ℕ) → n ≡ 0 → None ≡ nonzero n
+unfolding nonzero
+nonzero_none zero e = refl
+nonzero_none (suc n) e = absurd (omega arith)
+
+pub nonzero_some : (n : ℕ) → 1 ≤ n → Some n ≡ nonzero n
+unfolding nonzero
+nonzero_some zero low = absurd (omega arith)
+nonzero_some (suc n) low = refl
+
+pub nonzero_or_zero : (n : ℕ) → unwrap_or (nonzero n) 0 ≡ n
+unfolding nonzero
+nonzero_or_zero zero = refl
+nonzero_or_zero (suc n) = refl

@@ -12,8 +12,8 @@ returns-then-m-eq0 c = sym (remainder_zero _ _ c.if-m-eq0.true)
 pub overflow_mul-result : goal.overflow_mul-result
 overflow_mul-result c = record { fits = product_below 4294967296 (omega arith) (omega arith) }
 
-pub overflow_cast-result-4 : goal.overflow_cast-result-4
-overflow_cast-result-4 c = record { fits = lt_trans (mod-lt _ (omega arith)) (omega arith) }
+pub overflow_cast-result : goal.overflow_cast-result
+overflow_cast-result c = record { fits = lt_trans (mod-lt _ (omega arith)) (omega arith) }
 
 pub returns : goal.returns
-returns c = sym (remainder_is _ _ (omega arith))
+returns c = rw (c.from.ensures, c.from-2.ensures, c.from-3.ensures) (sym (remainder_is _ _ (omega arith)))
