@@ -8,6 +8,7 @@ pub mod Zeckendorf
 pub mod Places
 pub mod Height
 pub mod Ranges
+pub mod Tables
 pub mod Lengths
 pub mod Taking
 pub mod BitStrings

@@ -1,3 +1,2 @@
 -- Definitions that only contracts of inner functions cite: nothing that a reader has to judge.
 pub mod Weights
-pub mod Pairs

@@ -1,5 +1,5 @@
 -- The services on Fibonacci numbers and forms: what each call comes to.
-use Rattle.std.specs.Prelude.{Bool, true, false, not, cond, List, [], ◌∷◌, ◌++◌, map, ℕ, ◌-◌, ◌^◌, leb, ltb, length, replicate}
+use Rattle.std.specs.Prelude.{Bool, true, false, not, cond, List, [], ◌∷◌, ◌++◌, map, Option, Some, None, ℕ, ◌-◌, ◌^◌, leb, ltb, length, replicate}
 use Rattle.refusal.specs.declared.Refusal.TheVariants.{Room, Range, Index}
 use Rattle.refusal.specs.Outcomes.{Outcome, outcome, ◌given_if◌, buffer_after}
 use Rattle.fibonacci.specs.Fibonacci.{fib}
@@ -12,6 +12,10 @@ last_index = 93
 -- and so do the places 1 to 92
 abbrev pub last_place : ℕ
 last_place = 92
+
+-- F_i, where it fits
+unfoldable pub fibonacci_of : ℕ → Option ℕ
+fibonacci_of i = cond (leb i last_index) (Some (fib i)) None
 
 -- F_i, and 0 where it does not fit
 unfoldable pub fibonacci_or_zero : ℕ → ℕ

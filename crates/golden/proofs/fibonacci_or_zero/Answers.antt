@@ -1,11 +1,8 @@
--- `fibonacci_or_zero` meets its contract: an index is twice its half, or one more.
-use mathlib.Core.Path.{ap, ◌∙◌}
-use native.Mathlib.Omega.{arith}
-use Rattle.fibonacci.specs.Services.{fibonacci_or_zero}
+-- `fibonacci_or_zero` meets its contract: 0 stands for what does not fit.
+use Rattle.std.proofs.Common.{ap, ◌∙◌}
+use Rattle.std.specs.Option.{unwrap_or}
+use Rattle.fibonacci.proofs.Laws.Tables.{fibonacci_of_or_zero}
 use Rattle.golden.proofs.fibonacci_or_zero.Goals as goal
 
-pub returns-then-index-eq0 : goal.returns-then-index-eq0
-returns-then-index-eq0 c = c.pair_at-pair.ensures.even_is ∙ ap fibonacci_or_zero (omega (arith, c.if-index-eq0.true))
-
 pub returns : goal.returns
-returns c = c.pair_at-pair.ensures.odd_is ∙ ap fibonacci_or_zero (omega (arith, c.if-index-eq0.false))
+returns c = c.unwrap_or.ensures ∙ ap (λ o. unwrap_or o 0) c.fibonacci_of.ensures ∙ fibonacci_of_or_zero _
