@@ -10,10 +10,10 @@ use tape::{HEADER_WORDS, OTHER_WORDS};
 pub fn steps(tape: &[u32]) -> &[u32]
     ensures { result.now ≡ step_words_of tape.now }
 {
-    if tape.len() < OTHER_WORDS {
-        return &tape[..0];
+    match tape {
+        [_, _, _, _, steps @ .., _] => steps,
+        _ => &[],
     }
-    &tape[HEADER_WORDS..tape.len() - 1]
 }
 
 // The index of the word of the step numbered position + 1.
@@ -40,11 +40,5 @@ pub fn part(row: &[u32], begin: u32, end: u32) -> &[u32]
 fn between(row: &[u32], begin: usize, end: usize) -> &[u32]
     ensures { result.now ≡ part row.now begin end }
 {
-    if end < begin {
-        return &row[..0];
-    }
-    if row.len() < end {
-        return &row[..0];
-    }
-    &row[begin..end]
+    row.get(begin..end).unwrap_or_default()
 }

@@ -1,0 +1,2 @@
+-- Where a tape is laid out.
+pub mod Place
