@@ -1,5 +1,5 @@
 -- `step_words` meets its contract: the part is that between the two indices.
-use mathlib.Core.Path.{ap₂, ◌∙◌}
+use Rattle.std.proofs.Common.{ap₂, ◌∙◌}
 use Rattle.tape.specs.Layout.{part}
 use Rattle.parts.proofs.step_words.Goals as goal
 
