@@ -5,3 +5,4 @@ pub mod Promises
 pub mod Members
 pub mod Parameters
 pub mod Figures
+pub mod Variants

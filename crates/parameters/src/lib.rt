@@ -4,6 +4,8 @@
 ghost use Rattle.std.specs.Prelude.{◌≡◌};
 ghost use Rattle.named.specs.Parameters.{bad_modulus, good_inverse, bad_variant};
 
+use named::Variant;
+
 // Refusal 1: p isn't a prime from 3 to 268435455.
 pub fn is_bad_modulus(p: u32) -> bool
     ensures { result ≡ bad_modulus p }
@@ -34,8 +36,5 @@ pub fn good_inverse(k: u32, r: u32) -> u32
 pub fn is_bad_variant(variant: u32) -> bool
     ensures { result ≡ bad_variant variant }
 {
-    if variant == 0 {
-        return true;
-    }
-    named::LAST_VARIANT < variant
+    Variant::try_from(variant).is_err()
 }

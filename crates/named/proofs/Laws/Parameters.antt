@@ -1,7 +1,10 @@
 -- What the tests of p, r, k and the variant say: each is by its parts, so a law rewrites the parts that are known or takes them apart.
-use mathlib.Core.Path.{◌≡◌, sym, ◌∙◌}
+use mathlib.Core.Path.{◌≡◌, refl, sym, ap, ◌∙◌}
 use mathlib.Core.Bool.{true, false, not, true≢false, and-true, and-false}
-use Prim.Native.Nat.{ℕ, ◌-◌, ◌%◌, ◌≤◌, ◌<◌, ◌∣◌}
+use Rattle.std.proofs.Common.{◌≢◌, Ok, Err, is_err}
+use Rattle.std.specs.declared.result.Result.{Result}
+use Rattle.refusal.specs.declared.Refusal.{Refusal}
+use Prim.Native.Nat.{ℕ, zero, suc, ◌-◌, ◌%◌, ◌≤◌, ◌<◌, ◌∣◌}
 use native.Mathlib.Nat.{le_of_dvd, dvd_of_mod-eq-zero}
 use native.Mathlib.Omega.{arith}
 use lib.Dec.{leb, ltb, eqb}
@@ -12,8 +15,11 @@ use Rattle.modular.specs.Inverses.{inverse, bad_exponent}
 use Rattle.refusal.proofs.Laws.Tests.{by_test, both, neither}
 use Rattle.modular.proofs.Laws.Inverses.{inverse_none, exponent_good}
 use Rattle.tape.specs.Words.{number_limit}
+use Rattle.named.specs.declared.Variant.{Variant}
+use Rattle.named.specs.declared.Variant.TheVariants.{Basic, Dual, Hybrid}
 use Rattle.named.specs.Named.{last_variant}
 use Rattle.named.specs.Parameters.{bad_modulus, bad_order, good_inverse, bad_variant}
+use Rattle.named.specs.Variants.{variant_number, Names}
 
 -- ---- the modulus
 
@@ -108,3 +114,21 @@ module _ (variant : ℕ) where
   pub named_most : bad_variant variant ≡ false → variant ≤ last_variant
   unfolding bad_variant
   named_most is = ltb-false last_variant variant (neither (eqb variant 0) _ is).1
+
+-- a variant's number is in the table
+pub variant_named : (v : Variant) → bad_variant (variant_number v) ≡ false
+unfolding bad_variant
+variant_named Basic = refl
+variant_named Dual = refl
+variant_named Hybrid = refl
+
+-- and no other number is
+pub unnamed : (variant : ℕ) → variant ≢ 1 → variant ≢ 2 → variant ≢ 3 → bad_variant variant ≡ true
+unfolding bad_variant
+unnamed zero one two three = refl
+unnamed (suc n) one two three = let past : last_variant < suc n = omega arith in rw (ne_eqb (suc n) 0 (omega arith), lt-ltb last_variant (suc n) past)
+
+-- a number names no variant where refusal 4 applies
+pub names_bad : (variant : ℕ) (o : Result Variant Refusal) → Names variant o → is_err o ≡ bad_variant variant
+names_bad variant (Ok v) is = sym (ap bad_variant is ∙ variant_named v)
+names_bad variant (Err e) is = sym is.0

@@ -1,12 +1,7 @@
--- `is_bad_variant` meets its contract: each return is a case of the test.
-use Rattle.named.specs.Parameters.{bad_variant}
-use borrow.Author.Tests.{eq-eqb, ne_eqb}
+-- `is_bad_variant` meets its contract: a number that names a variant is in the table, and one that names none is not.
+use Rattle.std.proofs.Common.{◌∙◌}
+use Rattle.named.proofs.Laws.Parameters.{names_bad}
 use Rattle.parameters.proofs.is_bad_variant.Goals as goal
 
-pub returns-then-variant-eq0 : goal.returns-then-variant-eq0
-unfolding bad_variant
-returns-then-variant-eq0 c = rw (eq-eqb _ 0 c.if-variant-eq0.true)
-
 pub returns : goal.returns
-unfolding bad_variant
-returns c = rw (ne_eqb _ 0 c.if-variant-eq0.false)
+returns c = c.is_err.ensures.value ∙ names_bad _ _ c.try_from.ensures
