@@ -16,7 +16,8 @@ ghost use Rattle.program.specs.Inner.Building.{Writable, Built};
 
 use drawing::draw;
 use forms::{forms, step_count};
-use parameters::{good_inverse, is_bad_modulus, is_bad_variant};
+use named::Variant;
+use parameters::{good_inverse, is_bad_modulus};
 use program::FormRows;
 use refusal::{NumberAnswer, Refusal};
 use tape::Header;
@@ -36,10 +37,10 @@ pub fn build(p: u32, r: u32, k: u32, variant: u32, buffer: &mut [u32]) -> Number
     if inverse == 0 {
         return NumberAnswer::Refused(Refusal::Exponent);
     }
-    if is_bad_variant(variant) {
+    let Ok(named) = Variant::try_from(variant) else {
         return NumberAnswer::Refused(Refusal::Variant);
-    }
-    write(p, r, k, variant, forms(variant, r, k, inverse), buffer)
+    };
+    write(p, r, k, variant, forms(named, r, k, inverse), buffer)
 }
 
 // The room, the header, the steps and the end, whatever the variant: 5, else the word count.
@@ -48,22 +49,18 @@ fn write(p: u32, r: u32, k: u32, variant: u32, forms: FormRows, buffer: &mut [u3
     requires rows_from_table { RowsFromTable variant r k forms }
     ensures { Built (named_words p r k variant) buffer.old result buffer.new }
 {
-    let figure = forms.figure;
-    let steps = step_count(figure, forms.first_length, forms.last_length, forms.count);
     let header = Header {
         variant,
         modulus: p,
         order: r,
         exponent: k,
-        steps: steps as u32,
+        steps: step_count(forms) as u32,
     };
-    let total = laying::word_count(header);
-    if buffer.len() < total {
+    let Some(at) = laying::lay_out(buffer, header) else {
         return NumberAnswer::Refused(Refusal::Room);
-    }
-    let at = laying::lay_out(buffer, header);
-    draw(buffer, at, forms);
-    NumberAnswer::Answered(total as u64)
+    };
+    draw(buffer, at, &forms);
+    NumberAnswer::Answered(laying::word_count(header) as u64)
 }
 
 // Refusal 2: r < 2, or r doesn't divide p - 1.

@@ -1,18 +1,16 @@
 // Build and check: the definitions and laws of this layer, and the type that they name. It has no functions.
 #![tactic(auto)]
 
+use fibonacci::BitString;
 use named::Figure;
 
-// The figure, the forms of its first and its last loop and those beside them, a bit for each place; how long the first and the last
-// are, and how many places are set in all. Where a figure selects nothing beside, those rows are zeros.
+// The figure, the forms of its first and its last loop and those beside them. A form beside another is of as many places; where a figure
+// selects nothing beside, none of its places is set.
 #[derive(Clone, Copy)]
 pub struct FormRows {
     pub figure: Figure,
-    pub first: [u8; 92],
-    pub beside: [u8; 92],
-    pub last: [u8; 92],
-    pub beside_last: [u8; 92],
-    pub first_length: usize,
-    pub last_length: usize,
-    pub count: usize,
+    pub first: BitString,
+    pub beside: BitString,
+    pub last: BitString,
+    pub beside_last: BitString,
 }

@@ -5,18 +5,22 @@ use mathlib.Core.Logic.{inl}
 use mathlib.Core.List.{List, [], map}
 use Prim.Native.Nat.{ℕ, ◌+◌, ◌≤◌, ◌<◌}
 use native.Mathlib.Omega.{arith}
-use borrow.Author.Tests.{lt-ltb, le-ltb}
+use native.Mathlib.Decide.{dec_lt}
+use mathlib.Core.Bool.{true, false, true≢false}
+use Rattle.refusal.proofs.Laws.Tests.{both}
+use borrow.Author.Tests.{leb-true, lt-ltb, le-ltb}
 use lib.ListN.{length, get_or, length-map}
 use Rattle.refusal.specs.declared.Refusal.TheVariants.{Room}
 use Rattle.refusal.specs.declared.NumberAnswer.TheVariants.{Answered, Refused}
 use Rattle.refusal.specs.Outcomes.{refused, answered, gives, passes, answers, row_kept, row_written}
-use Rattle.refusal.specs.Rows.{Wrote}
+use Rattle.std.proofs.lemmas.List.Edits.{sets}
 use Rattle.modular.proofs.Laws.Inverses.{good_exponent_lem}
 use Rattle.tape.specs.declared.Header.{Header}
 use Rattle.tape.specs.Words.{step_word}
-use Rattle.tape.specs.Layout.{max_words, Program, header_for, program_words, word_count, lay_begin, laid_buffer}
+use lib.Dec.{leb}
+use Rattle.tape.specs.Layout.{has_place, numbers_fit, max_words, Program, header_for, program_words, word_count, lay_begin, laid_buffer}
 use Rattle.tape.proofs.Laws.Layout.{LawfulProgram, program_length}
-use Rattle.tape.proofs.Laws.Writing.{steps_fit, program_laid}
+use Rattle.tape.proofs.Laws.Writing.{fits_numbers, place_there, none_laid, steps_fit, program_laid}
 use Rattle.named.specs.Generators.{Forms, generated, steps_from}
 use Rattle.named.specs.Named.{named_steps, named_program, named_words}
 use Rattle.named.specs.Promises.{FormsFit}
@@ -24,10 +28,10 @@ use Rattle.named.proofs.Laws.Parameters.{named_some, named_most}
 use Rattle.named.proofs.Laws.Table.{member_fits, named_program_lem}
 use Rattle.program.specs.declared.FormRows.{FormRows}
 use Rattle.program.specs.Services.{room_outcome}
-use Rattle.program.specs.Inner.Forms.{Whole, Few, RowsFromTable}
+use Rattle.program.specs.Inner.Forms.{Whole, set_in, RowsFromTable}
 use Rattle.program.specs.Inner.Writing.{drawn_words}
 use Rattle.program.specs.Inner.Building.{Writable, Built}
-use Rattle.program.proofs.Laws.Forms.{rows_words, rows_whole, few_ones, rows_count}
+use Rattle.program.proofs.Laws.Forms.{rows_words, rows_whole, rows_count}
 
 -- ---- the room
 
@@ -65,6 +69,11 @@ module _ (p r k variant : ℕ) (w : Writable p r k variant) where
 
 -- ---- writing it
 
+-- a row that has a place for a header's tape is as long as the tape
+pub place_room : (h : Header) (room : ℕ) → has_place h room ≡ true → word_count h ≤ room
+unfolding has_place
+place_room h room there = leb-true (word_count h) room (both (leb (word_count h) room) (numbers_fit h) there).0
+
 module _ {p r k variant : ℕ} {rows : FormRows} (w : Writable p r k variant) (g : RowsFromTable variant r k rows) where
   abbrev q : Program
   q = named_program p r k variant
@@ -82,22 +91,24 @@ module _ {p r k variant : ℕ} {rows : FormRows} (w : Writable p r k variant) (g
   pub whole : Whole rows
   whole = rw g.rows_are (rows_whole g.forms fits)
 
-  pub few : Few rows.first_length rows.last_length rows.count
-  few = rw g.rows_are (record { first_most = fits.first; last_most = fits.last; count_most = few_ones g.forms fits })
-
-  pub count_is : {n : ℕ} → n ≡ steps_from rows.figure rows.first_length rows.last_length rows.count → n ≡ length (named_steps variant r k)
+  pub count_is : {n : ℕ} → n ≡ steps_from rows.figure rows.first.length rows.last.length (set_in rows) → n ≡ length (named_steps variant r k)
   count_is e =
-      e ∙ ap (λ (f : FormRows). steps_from f.figure f.first_length f.last_length f.count) g.rows_are
+      e ∙ ap (λ (f : FormRows). steps_from f.figure f.first.length f.last.length (set_in f)) g.rows_are
       ∙ rows_count g.forms fits ∙ ap length (sym steps_are)
 
   module _ {h : Header} (header_is : h ≡ header_for q) where
     total_is : word_count h ≡ length (program_words q)
     total_is = ap word_count header_is ∙ sym (program_length q)
 
-    pub built_short : {row : List ℕ} → length row < word_count h → Built (program_words q) row (Refused Room) row
-    built_short {row} less =
-        let e = short (program_words q) (length row) (omega (arith, total_is)) in
-        record { outcome_is = sym e; row_is = sym (row_kept (program_words q) row e) }
+    pub built_short : {row after : List ℕ} → has_place h (length row) ≡ false → after ≡ laid_buffer h row → Built (program_words q) row (Refused Room) after
+    built_short {row} none is =
+        elim (dec_lt (length row) (word_count h)) [
+          | yes less ↦
+              let e = short (program_words q) (length row) (omega (arith, less, total_is)) in
+              record { outcome_is = sym e; row_is = is ∙ sym (none_laid h row none).1 ∙ sym (row_kept (program_words q) row e) }
+          | no long ↦
+              absurd (true≢false (sym (place_there h (length row) (omega arith) (rw header_is (fits_numbers (header_for q) (named_lawful p r k variant w).fits))) ∙ none))
+        ]
 
     module _ (row : List ℕ) (room : word_count h ≤ length row) where
       long : length (program_words q) ≤ length row
@@ -107,14 +118,14 @@ module _ {p r k variant : ℕ} {rows : FormRows} (w : Writable p r k variant) (g
       steps_room =
           rw (header_is, words_are, length-map (named_steps variant r k) step_word) (steps_fit q (named_lawful p r k variant w) row long)
 
-      pub built_written : {laid after : List ℕ} {at next n : ℕ} → at ≡ lay_begin h (length row) → laid ≡ laid_buffer h row
-          → Wrote laid at (drawn_words rows) next after → n ≡ word_count h → Built (program_words q) row (Answered n) after
-      built_written begin is v e =
+      pub built_written : {laid after : List ℕ} {at n : ℕ} → at ≡ lay_begin h (length row) → laid ≡ laid_buffer h row
+          → after ≡ sets laid at (drawn_words rows) → n ≡ word_count h → Built (program_words q) row (Answered n) after
+      built_written begin is drawn e =
           let done = enough (program_words q) (length row) long in
           record {
             outcome_is = ap answered (e ∙ total_is) ∙ sym done;
             row_is =
-                v.after_is
+                drawn
                 ∙ rw (begin, is, header_is, words_are) (program_laid q (named_lawful p r k variant w) row long)
                 ∙ sym (row_written (program_words q) row done);
           }

@@ -2,13 +2,14 @@
 -- the highest.
 use mathlib.Core.Path.{◌≡◌, refl, sym, ap, ap₂, ◌∙◌}
 use mathlib.Core.Bool.{Bool, true, false, cond}
-use mathlib.Core.List.{List, [], ◌∷◌, ◌++◌, map, map-append, append-nil, append_assoc}
-use Prim.Native.Nat.{ℕ, zero, suc, ◌+◌, ◌-◌, ◌≤◌, ◌<◌}
+use mathlib.Core.List.{List, [], ◌∷◌, ◌++◌, map, map-append, append-nil, append_assoc, reverse, reverse-cons}
+use Prim.Native.Nat.{ℕ, zero, suc, ◌+◌}
 use native.Mathlib.Nat.{suc_inj}
-use native.Mathlib.Numerals.{add-one, sub-one}
 use native.Mathlib.Omega.{arith}
-use lib.ListN.{length, get_or, take, drop, take-append-drop, length-append, length-take, length-map}
-use lib.Seq.{take-suc, drop-cons}
+use lib.ListN.{length, length-append, length-map}
+use Rattle.std.specs.List.{zip, flat_map}
+use Rattle.std.proofs.lemmas.Grind.{flat_map-append}
+use Rattle.std.proofs.lemmas.List.{length-reverse}
 use borrow.Author.Tests.{eq-eqb, ne_eqb}
 use Rattle.fibonacci.specs.Forms.{pad}
 use Rattle.fibonacci.specs.Services.{bit}
@@ -22,6 +23,7 @@ use Rattle.named.specs.declared.Figure.TheVariants.{Two, Four, Six}
 use Rattle.named.specs.Generators.{select, ascend, descend, basic, dual, hybrid, drawn}
 use Rattle.named.specs.Promises.{Alone}
 use Rattle.program.specs.declared.FormRows.{FormRows}
+use Rattle.program.specs.Inner.Forms.{bits_in}
 use Rattle.program.specs.Inner.Writing.{is_set, form_in, chosen, ascend_words, ascend_back_words, descend_words, up_words, back_words, down_words, front_words, drawn_words}
 
 -- ---- one place
@@ -100,38 +102,49 @@ descend_words_lem fs gs =
     ∙ ap (map step_word) (descend_append (form_in fs) (form_in gs))
     ∙ map-append step_word (descend (form_in gs)) (descend (form_in fs))
 
--- ---- a loop at its index i
+-- ---- a loop by its places, in the order in which it writes them
 
-module _ (fs ss : List ℕ) (e : length fs ≡ length ss) where
-  pub ascend_next : (i : ℕ) → i < length fs
-      → ascend_words (take (i + 1) fs) (take (i + 1) ss) ≡ ascend_words (take i fs) (take i ss) ++ up_words (get_or fs i 0) (get_or ss i 0)
-  ascend_next i h =
-      rw (add-one, take-suc fs i 0 h, take-suc ss i 0 (omega arith))
-      (ascend_words_lem (take i fs) (get_or fs i 0 ∷ []) (take i ss) (get_or ss i 0 ∷ []) (omega (arith, length-take i fs, length-take i ss)))
+-- the words of two bits
+abbrev pub up_pair : ℕ × ℕ → List ℕ
+up_pair p = up_words p.0 p.1
 
-  pub ascend_total : (i : ℕ) → ascend_words fs ss ≡ ascend_words (take i fs) (take i ss) ++ ascend_words (drop i fs) (drop i ss)
-  ascend_total i =
-      ap₂ ascend_words (sym (take-append-drop i fs)) (sym (take-append-drop i ss))
-      ∙ ascend_words_lem (take i fs) (drop i fs) (take i ss) (drop i ss) (omega (arith, length-take i fs, length-take i ss))
+abbrev pub back_pair : ℕ × ℕ → List ℕ
+back_pair p = back_words p.0 p.1
 
-  pub ascend_back_next : (i : ℕ) → 0 < i → i ≤ length fs
-      → ascend_back_words (drop (i - 1) fs) (drop (i - 1) ss) ≡ ascend_back_words (drop i fs) (drop i ss) ++ back_words (get_or fs (i - 1) 0) (get_or ss (i - 1) 0)
-  ascend_back_next zero p h = absurd (omega arith)
-  ascend_back_next (suc i) p h =
-      rw (sub-one, drop-cons fs i 0 h, drop-cons ss i 0 (omega arith))
-      (ascend_back_words_lem (get_or fs i 0 ∷ []) (drop (suc i) fs) (get_or ss i 0 ∷ []) (drop (suc i) ss) refl)
+pub ascend_each : (fs ss : List ℕ) → length fs ≡ length ss → ascend_words fs ss ≡ flat_map up_pair (zip fs ss)
+unfolding ascend
+ascend_each [] ss e = refl
+ascend_each (f ∷ fs) [] e = absurd (omega arith)
+ascend_each (f ∷ fs) (s ∷ ss) e =
+    ascend_words_lem (f ∷ []) fs (s ∷ []) ss refl ∙ ap (λ (l : List ℕ). up_words f s ++ l) (ascend_each fs ss (suc_inj e))
 
-  pub ascend_back_total : (i : ℕ) → ascend_back_words fs ss ≡ ascend_back_words (drop i fs) (drop i ss) ++ ascend_back_words (take i fs) (take i ss)
-  ascend_back_total i =
-      ap₂ ascend_back_words (sym (take-append-drop i fs)) (sym (take-append-drop i ss))
-      ∙ ascend_back_words_lem (take i fs) (drop i fs) (take i ss) (drop i ss) (omega (arith, length-take i fs, length-take i ss))
+-- pairs of rows of one length, one after the other
+zip_append : (fs ss gs ts : List ℕ) → length fs ≡ length ss → zip (fs ++ gs) (ss ++ ts) ≡ zip fs ss ++ zip gs ts
+zip_append [] [] gs ts e = refl
+zip_append [] (s ∷ ss) gs ts e = absurd (omega arith)
+zip_append (f ∷ fs) [] gs ts e = absurd (omega arith)
+zip_append (f ∷ fs) (s ∷ ss) gs ts e = ap (λ (l : List (ℕ × ℕ)). (f, s) ∷ l) (zip_append fs ss gs ts (suc_inj e))
 
-pub descend_next : (fs : List ℕ) (i : ℕ) → 0 < i → i ≤ length fs → descend_words (drop (i - 1) fs) ≡ descend_words (drop i fs) ++ down_words (get_or fs (i - 1) 0)
-descend_next fs zero p h = absurd (omega arith)
-descend_next fs (suc i) p h = rw (sub-one, drop-cons fs i 0 h) (descend_words_lem (get_or fs i 0 ∷ []) (drop (suc i) fs))
+pub ascend_back_each : (fs ss : List ℕ) → length fs ≡ length ss → ascend_back_words fs ss ≡ flat_map back_pair (zip (reverse fs) (reverse ss))
+unfolding ascend inverted
+ascend_back_each [] [] e = refl
+ascend_back_each [] (s ∷ ss) e = absurd (omega arith)
+ascend_back_each (f ∷ fs) [] e = absurd (omega arith)
+ascend_back_each (f ∷ fs) (s ∷ ss) e =
+    let one : length (reverse fs) ≡ length (reverse ss) = length-reverse fs ∙ suc_inj e ∙ sym (length-reverse ss) in
+    ascend_back_words_lem (f ∷ []) fs (s ∷ []) ss refl
+    ∙ ap (λ (l : List ℕ). l ++ back_words f s) (ascend_back_each fs ss (suc_inj e))
+    ∙ rw (reverse-cons f fs, reverse-cons s ss, zip_append (reverse fs) (reverse ss) (f ∷ []) (s ∷ []) one)
+    (sym (flat_map-append back_pair (zip (reverse fs) (reverse ss)) ((f, s) ∷ []) ∙ ap (λ (l : List ℕ). flat_map back_pair (zip (reverse fs) (reverse ss)) ++ l) (append-nil (back_words f s))))
 
-pub descend_total : (fs : List ℕ) (i : ℕ) → descend_words fs ≡ descend_words (drop i fs) ++ descend_words (take i fs)
-descend_total fs i = ap descend_words (sym (take-append-drop i fs)) ∙ descend_words_lem (take i fs) (drop i fs)
+pub descend_each : (bs : List ℕ) → descend_words bs ≡ flat_map down_words (reverse bs)
+unfolding descend
+descend_each [] = refl
+descend_each (b ∷ bs) =
+    descend_words_lem (b ∷ []) bs
+    ∙ ap (λ (l : List ℕ). l ++ down_words b) (descend_each bs)
+    ∙ rw (reverse-cons b bs)
+    (sym (flat_map-append down_words (reverse bs) (b ∷ []) ∙ ap (λ (l : List ℕ). flat_map down_words (reverse bs) ++ l) (append-nil (down_words b))))
 
 -- ---- a word for a bit
 
@@ -205,8 +218,6 @@ size_6 first = ap suc (length-append (descend_words first) _)
 
 pub drawn_size : (rows : FormRows)
     → length (drawn_words rows)
-    ≡ length (front_words rows.figure (take rows.first_length rows.first) (take rows.first_length rows.beside) (take rows.last_length rows.beside_last))
-    + length (ascend_back_words (take rows.last_length rows.last) (take rows.last_length rows.beside_last))
-drawn_size rows =
-    length-append
-    (front_words rows.figure (take rows.first_length rows.first) (take rows.first_length rows.beside) (take rows.last_length rows.beside_last)) _
+    ≡ length (front_words rows.figure (bits_in rows.first) (bits_in rows.beside) (bits_in rows.beside_last))
+    + length (ascend_back_words (bits_in rows.last) (bits_in rows.beside_last))
+drawn_size rows = length-append (front_words rows.figure (bits_in rows.first) (bits_in rows.beside) (bits_in rows.beside_last)) _

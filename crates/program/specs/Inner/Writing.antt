@@ -1,5 +1,5 @@
 -- The words of a program's parts, from rows of bits as the code holds forms: a place is set where its bit is 1.
-use Rattle.std.specs.Prelude.{Bool, cond, List, [], ◌∷◌, ◌++◌, map, ℕ, eqb, take}
+use Rattle.std.specs.Prelude.{Bool, cond, List, [], ◌∷◌, ◌++◌, map, ℕ, eqb}
 use Rattle.tape.specs.declared.Step.TheVariants.{Swp}
 use Rattle.tape.specs.Words.{step_word}
 use Rattle.machine.specs.Machine.{inverted}
@@ -7,6 +7,7 @@ use Rattle.named.specs.declared.Figure.{Figure}
 use Rattle.named.specs.declared.Figure.TheVariants.{Two, Four, Six}
 use Rattle.named.specs.Generators.{ascend, descend}
 use Rattle.program.specs.declared.FormRows.{FormRows}
+use Rattle.program.specs.Inner.Forms.{bits_in}
 
 abbrev pub is_set : ℕ → Bool
 is_set bit = eqb bit 1
@@ -48,7 +49,5 @@ front_words Six first none none_last = step_word (Swp 0 1) ∷ (descend_words fi
 -- and in all (`rows_words` of proofs/Laws/Forms)
 abbrev pub drawn_words : FormRows → List ℕ
 drawn_words rows =
-    let m = rows.first_length in
-    let n = rows.last_length in
-    front_words rows.figure (take m rows.first) (take m rows.beside) (take n rows.beside_last)
-    ++ ascend_back_words (take n rows.last) (take n rows.beside_last)
+    front_words rows.figure (bits_in rows.first) (bits_in rows.beside) (bits_in rows.beside_last)
+    ++ ascend_back_words (bits_in rows.last) (bits_in rows.beside_last)

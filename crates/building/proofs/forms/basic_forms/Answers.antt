@@ -1,12 +1,13 @@
 -- `forms::basic_forms` meets its contract: its rows are the bit strings of k and K.
-use native.Mathlib.Omega.{arith}
+use Rattle.std.proofs.Common.{◌∙◌, ap₂}
 use Rattle.named.specs.declared.Figure.TheVariants.{Two}
-use Rattle.program.proofs.Laws.Forms.{bits_of_lem, whole, lone_rows}
+use Rattle.program.specs.Inner.Forms.{lone_rows}
+use Rattle.program.proofs.Laws.Forms.{own_string}
 use Rattle.building.proofs.forms.basic_forms.Goals as goal
 
-pub overflow_add-count : goal.overflow_add-count
-overflow_add-count c =
-    omega (arith, (bits_of_lem c.args.k (omega (arith, c.ranges.k)) (c.bit_string-ks.ensures.length_value, (c.bit_string-ks.ensures.bits_value, c.bit_string-ks.ensures.count_value))).few, (bits_of_lem c.args.inverse (omega (arith, c.ranges.inverse)) (c.bit_string-inverses.ensures.length_value, (c.bit_string-inverses.ensures.bits_value, c.bit_string-inverses.ensures.count_value))).few)
-
 pub returns : goal.returns
-returns c = lone_rows Two (whole _ (c.bit_string-ks.ensures.length_value, (c.bit_string-ks.ensures.bits_value, c.bit_string-ks.ensures.count_value))) (whole _ (c.bit_string-inverses.ensures.length_value, (c.bit_string-inverses.ensures.bits_value, c.bit_string-inverses.ensures.count_value)))
+returns c =
+    let k = c.bit_string-first.ensures in
+    let K = c.bit_string-last.ensures in
+    c.lone.ensures
+    ∙ ap₂ (lone_rows Two) (own_string c.args.k c.from.ensures (k.length_value, (k.bits_value, k.count_value))) (own_string c.args.inverse c.from-2.ensures (K.length_value, (K.bits_value, K.count_value)))

@@ -1,7 +1,7 @@
 -- `forms::dual_forms` meets its contract: its four rows are the forms of k and K times F_h and F_(h+1).
-use mathlib.Core.Path.{refl}
-use native.Mathlib.Omega.{arith}
+use Rattle.std.proofs.Common.{refl, ◌∙◌, ℕ, suc, arith}
 use Rattle.program.proofs.Laws.Forms.{height_small, weight_fits, product_form, dual_rows}
+use Rattle.fibonacci.specs.Height.{height}
 use Rattle.building.proofs.forms.dual_forms.Goals as goal
 
 pub overflow_cast-low : goal.overflow_cast-low
@@ -24,8 +24,9 @@ returns c =
     let high = c.fibonacci_or_zero-high.ensures in
     let small = height_small c.requires h in
     let K = c.requires.inverse_is in
-    dual_rows c.args.r c.args.k
-    (product_form c.requires _ _ _ h (omega arith) h refl low c.residue-s.ensures)
-    (product_form c.requires _ _ _ h (omega arith) (omega arith) refl high c.residue-t.ensures)
-    (product_form c.requires _ _ _ h (omega arith) h K low c.residue-s_back.ensures)
-    (product_form c.requires _ _ _ h (omega arith) (omega arith) K high c.residue-t_back.ensures)
+    let next : ℕ = suc (height c.args.r) in
+    dual_rows c.requires
+    (c.residue.ensures ∙ product_form c.requires _ _ _ h (omega arith) h refl low)
+    (c.residue-2.ensures ∙ product_form c.requires _ _ next h (omega arith) (omega arith) refl high)
+    (c.residue-3.ensures ∙ product_form c.requires _ _ _ h (omega arith) h K low)
+    (c.residue-4.ensures ∙ product_form c.requires _ _ next h (omega arith) (omega arith) K high)
