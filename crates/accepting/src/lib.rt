@@ -7,7 +7,6 @@ ghost use Rattle.tape.specs.Layout.{header_of, header_outcome, header_outcome_of
 ghost use Rattle.named.specs.Parameters.{bad_variant};
 ghost use Rattle.program.specs.Services.{check_outcome, accept_outcome};
 ghost use Rattle.program.specs.Inner.Building.{refused_past};
-ghost use Rattle.program.specs.Same.{same_words};
 
 use building::build;
 use parameters::{is_bad_modulus, is_bad_variant};
@@ -54,7 +53,7 @@ fn accept_measured(tape: &[u32], header: Header) -> HeaderAnswer
         NumberAnswer::Refused(e) => refuse(tape, e),
         NumberAnswer::Answered(words) => {
             let n = words as usize;
-            if same_words(tape, &row[..n]) {
+            if tape == &row[..n] {
                 return HeaderAnswer::Answered(header);
             }
             refuse(tape, Refusal::Mismatch)
@@ -89,21 +88,4 @@ fn accept_not_named(tape: &[u32]) -> HeaderAnswer
             HeaderAnswer::Answered(header)
         }
     }
-}
-
-// Whether two rows hold the same words.
-fn same_words(a: &[u32], b: &[u32]) -> bool
-    ensures { result ≡ same_words a.now b.now }
-{
-    if a.len() != b.len() {
-        return false;
-    }
-    let mut i: usize = 0;
-    while i < a.len() {
-        if a[i] != b[i] {
-            return false;
-        }
-        i += 1;
-    }
-    true
 }

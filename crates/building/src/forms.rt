@@ -27,9 +27,9 @@ pub(crate) fn forms(variant: Variant, r: u32, k: u32, inverse: u32) -> FormRows
 }
 
 // How many steps a figure draws: two for each place, one for each that is set, and the swaps. Figure 2 goes along its chains twice.
-pub(crate) fn step_count(forms: FormRows) -> usize
-    requires { Whole forms }
-    ensures { result ≡ steps_from forms.figure forms.first.length forms.last.length (set_in forms) }
+pub(crate) fn step_count(forms: &FormRows) -> usize
+    requires { Whole forms.now }
+    ensures { result ≡ steps_from forms.now.figure forms.now.first.length forms.now.last.length (set_in forms.now) }
 {
     let set = forms.first.count + forms.beside.count + forms.last.count + forms.beside_last.count;
     let chains = 2 * (forms.first.length + forms.last.length);

@@ -54,7 +54,7 @@ fn write(p: u32, r: u32, k: u32, variant: u32, forms: FormRows, buffer: &mut [u3
         modulus: p,
         order: r,
         exponent: k,
-        steps: step_count(forms) as u32,
+        steps: step_count(&forms) as u32,
     };
     let Some(at) = laying::lay_out(buffer, header) else {
         return NumberAnswer::Refused(Refusal::Room);

@@ -1,15 +1,14 @@
--- Comparing two rows of words: equal rows are the same, rows of different lengths are not, and of rows of one length the test of
--- what is left from an index on goes by the words at it.
-use mathlib.Core.Path.{◌≡◌, refl, ap, ap₂, ◌∙◌}
-use mathlib.Core.Bool.{true, false, ◌&&◌}
+-- Comparing two rows of words: equal rows are the same, rows of different lengths are not, and `==` on slices is the test.
+use mathlib.Core.Path.{◌≡◌, refl, ap, ap₂}
+use Rattle.std.proofs.Common.{nat_eq}
+use Rattle.std.specs.Cmp.Lexicographic.{pointwise}
+use mathlib.Core.Bool.{Bool, true, false, ◌&&◌}
 use mathlib.Core.List.{List, [], ◌∷◌}
-use Prim.Native.Nat.{ℕ, ◌+◌, ◌≤◌, ◌<◌}
-use native.Mathlib.Numerals.{add-one}
+use Prim.Native.Nat.{ℕ}
 use native.Mathlib.Omega.{arith}
 use lib.Dec.{eqb}
-use lib.ListN.{length, get_or, drop, drop_of_length-le}
-use lib.Seq.{drop-cons}
-use borrow.Author.Tests.{eqb-true, eq-eqb, ne_eqb}
+use lib.ListN.{length}
+use borrow.Author.Tests.{eqb-true, eq-eqb}
 use Rattle.refusal.proofs.Laws.Tests.{both, test_false}
 use Rattle.program.specs.Same.{same_words}
 
@@ -28,18 +27,10 @@ same_equal (v ∷ vs) (w ∷ ws) e = let t = both (eqb v w) (same_words vs ws) e
 pub same_lengths : (vs ws : List ℕ) → ¬ (length vs ≡ length ws) → same_words vs ws ≡ false
 same_lengths vs ws differ = test_false (same_words vs ws) (λ e. differ (ap length (same_equal vs ws e)))
 
-module _ (vs ws : List ℕ) (one : length vs ≡ length ws) (i : ℕ) where
-  module _ (inside : i < length vs) where
-    from : same_words (drop i vs) (drop i ws) ≡ (eqb (get_or vs i 0) (get_or ws i 0) && same_words (drop (i + 1) vs) (drop (i + 1) ws))
-    unfolding same_words
-    from = rw add-one (ap₂ same_words (drop-cons vs i 0 inside) (drop-cons ws i 0 (omega arith)))
-
-    pub same_stop : ¬ (get_or vs i 0 ≡ get_or ws i 0) → same_words (drop i vs) (drop i ws) ≡ false
-    same_stop differ = from ∙ rw (ne_eqb (get_or vs i 0) (get_or ws i 0) differ)
-
-    pub same_on : get_or vs i 0 ≡ get_or ws i 0 → same_words (drop i vs) (drop i ws) ≡ same_words (drop (i + 1) vs) (drop (i + 1) ws)
-    same_on equal = from ∙ rw (eq-eqb (get_or vs i 0) (get_or ws i 0) equal)
-
-  pub same_end : length vs ≤ i → same_words (drop i vs) (drop i ws) ≡ true
-  unfolding same_words
-  same_end past = ap₂ same_words (drop_of_length-le vs {i = i} past) (drop_of_length-le ws {i = i} (omega arith))
+-- `==` on slices is the same test
+pub pointwise_same : (vs ws : List ℕ) → pointwise nat_eq vs ws ≡ same_words vs ws
+unfolding same_words
+pointwise_same [] [] = refl
+pointwise_same [] (w ∷ ws) = refl
+pointwise_same (v ∷ vs) [] = refl
+pointwise_same (v ∷ vs) (w ∷ ws) = ap (λ (b : Bool). eqb v w && b) (pointwise_same vs ws)
