@@ -3,7 +3,7 @@
 #![tactic(auto)]
 
 ghost use Rattle.std.specs.Prelude.{◌≡◌, ◌++◌, length, take, drop};
-ghost use Rattle.refusal.specs.Outcomes.{number_outcome_of};
+ghost use Rattle.refusal.specs.Outcomes.{outcome_of};
 ghost use Rattle.text.specs.Text.{number_line, numbers_line};
 ghost use Rattle.tape.specs.Layout.{max_words};
 ghost use Rattle.tool.specs.Verbs.{largest32, max_room};
@@ -16,7 +16,7 @@ ghost use Rattle.scripting.specs.Inner.Leaving.{ShortRow, WrittenRow};
 use lines::{number_line, numbers_line};
 use printing::refuse;
 use putting::put_words;
-use refusal::NumberAnswer;
+use refusal::Refusal;
 use scripting::{MAX_ROOM, MAX_TAPES, Marks, Printed};
 use tape::MAX_WORDS;
 use tape_row::{ending, inside, least, put_full};
@@ -74,23 +74,23 @@ fn build_line(own: u32, values: &[u64], tapes: &mut [u32], marks: Marks, text: &
 // What build answered: the words that it counts, or the refusal.
 fn built(
     own: u32,
-    answer: NumberAnswer,
+    answer: Result<u64, Refusal>,
     row: &[u32],
     tapes: &mut [u32],
     marks: Marks,
     text: &mut [u8],
 ) -> Printed
     requires { WrittenRow max_words marks tapes.old row.now answer }
-    ensures { Did (built_as (length tapes.old) (state_in marks tapes.old) (number_outcome_of answer) (take (count_in answer) row.now) (printed own (number_outcome_of answer) number_line).text (numbers_line (take (count_in answer) row.now))) text.old result tapes.new text.new }
+    ensures { Did (built_as (length tapes.old) (state_in marks tapes.old) (outcome_of answer) (take (count_in answer) row.now) (printed own (outcome_of answer) number_line).text (numbers_line (take (count_in answer) row.now))) text.old result tapes.new text.new }
 {
     match answer {
-        NumberAnswer::Answered(n) => {
+        Ok(n) => {
             let count = n as usize;
             leave(&row[..count], tapes, marks, text)
         }
-        NumberAnswer::Refused(e) => Printed {
+        Err(e) => Printed {
             marks,
-            length: refuse(text, own, refusal::number(e)).length,
+            length: refuse(text, own, u32::from(e)).length,
         },
     }
 }
@@ -145,17 +145,17 @@ fn build_into(
 // What build answered, and its buffer, whose words are the tape at hand where it answered.
 fn show(
     own: u32,
-    answer: NumberAnswer,
+    answer: Result<u64, Refusal>,
     row: &[u32],
     tapes: &mut [u32],
     marks: Marks,
     text: &mut [u8],
 ) -> Printed
     requires { WrittenRow max_room marks tapes.old row.now answer }
-    ensures { Did (built_as (length tapes.old) (state_in marks tapes.old) (number_outcome_of answer) (take (count_in answer) row.now) ((printed own (number_outcome_of answer) number_line).text ++ numbers_line row.now) ((printed own (number_outcome_of answer) number_line).text ++ numbers_line row.now)) text.old result tapes.new text.new }
+    ensures { Did (built_as (length tapes.old) (state_in marks tapes.old) (outcome_of answer) (take (count_in answer) row.now) ((printed own (outcome_of answer) number_line).text ++ numbers_line row.now) ((printed own (outcome_of answer) number_line).text ++ numbers_line row.now)) text.old result tapes.new text.new }
 {
     match answer {
-        NumberAnswer::Answered(n) => {
+        Ok(n) => {
             let count = n as usize;
             let begin = marks.begin;
             if tapes.len() - begin < count {
@@ -171,8 +171,8 @@ fn show(
                 length: numbers_line(text, next, row),
             }
         }
-        NumberAnswer::Refused(e) => {
-            let next = refuse(text, own, refusal::number(e)).length;
+        Err(e) => {
+            let next = refuse(text, own, u32::from(e)).length;
             Printed {
                 marks,
                 length: numbers_line(text, next, row),

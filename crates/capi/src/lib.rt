@@ -5,7 +5,7 @@
 #![tactic(auto)]
 
 ghost use Rattle.std.specs.Prelude.{◌≡◌, ℕ, ◌≤◌, ◌^◌, ◌<◌, length, take, drop};
-ghost use Rattle.refusal.specs.Outcomes.{answered, number_outcome_of, refusal_number, after};
+ghost use Rattle.refusal.specs.Outcomes.{answered, outcome_of, refusal_number, after};
 ghost use Rattle.modular.specs.Inverses.{inverse_outcome};
 ghost use Rattle.fibonacci.specs.Hofstadter.{G};
 ghost use Rattle.fibonacci.specs.Height.{height};
@@ -24,10 +24,8 @@ ghost use Rattle.text.specs.Rows.{Put};
 ghost use Rattle.tool.specs.Replies.{reply, reads_tape};
 ghost use Rattle.tool.specs.Rows.{max_text};
 
-use memory::{
-    bit, number_of, record_in, store_exponents, store_preview, store_record, store_table, store_u64,
-};
-use refusal::NumberAnswer;
+use memory::{bit, number_of, record_in, store_exponents, store_preview, store_record, store_table, store_u64};
+use refusal::Refusal;
 
 // A Fibonacci number by its index: 13.
 #[unsafe(no_mangle)]
@@ -194,14 +192,14 @@ pub extern "C" fn fibexp_cut(
     ensures count_after { count.new ≡ after (cut_count tape.now first last) count.old }
     ensures tape_after { result ≡ 0 → take count.new (drop start.new tape.now) ≡ cut_part (cut_outcome tape.now first last) }
 {
-    let mut number: u32 = 0;
-    let part = inspecting::cut(tape, first, last, &mut number);
-    if number != 0 {
-        return number;
+    match inspecting::cut(tape, first, last) {
+        Ok(words) => {
+            *start = parts::step_index(tape, first) as u32;
+            *count = words.len() as u32;
+            0
+        }
+        Err(e) => u32::from(e),
     }
-    *start = parts::step_index(tape, first) as u32;
-    *count = part.len() as u32;
-    0
 }
 
 // The listing of a tape that is given as bytes: 5 and nothing written where the row is shorter, else the listing's own number, which
@@ -249,16 +247,16 @@ pub extern "C" fn fibexp_reads(arguments: &[u8]) -> u32
 }
 
 // Stores an answer that fits 32 bits.
-fn store_u32(answer: NumberAnswer, place: &mut u32) -> u32
-    requires { (x : ℕ) → number_outcome_of answer ≡ answered x → x < 2 ^ 32 }
-    ensures value { result ≡ refusal_number (number_outcome_of answer) }
-    ensures place_after { place.new ≡ after (number_outcome_of answer) place.old }
+fn store_u32(answer: Result<u64, Refusal>, place: &mut u32) -> u32
+    requires { (x : ℕ) → outcome_of answer ≡ answered x → x < 2 ^ 32 }
+    ensures value { result ≡ refusal_number (outcome_of answer) }
+    ensures place_after { place.new ≡ after (outcome_of answer) place.old }
 {
     match answer {
-        NumberAnswer::Answered(x) => {
+        Ok(x) => {
             *place = x as u32;
             0
         }
-        NumberAnswer::Refused(e) => refusal::number(e),
+        Err(e) => u32::from(e),
     }
 }

@@ -10,38 +10,30 @@ ghost use Rattle.tables.specs.Inner.Columns.{column_outcome, columns_outcome};
 
 use decoding::operation_of;
 use exponent_steps::{exponents_of, shift};
-use machine::{Exponents, ExponentsAnswer};
+use machine::Exponents;
 use refusal::Refusal;
-use tables::{Table, TableAnswer};
+use tables::Table;
 
 // Start value j's exponents after the steps that some words have in their digits; 12 where one leaves the range at any position.
-pub fn column(words: &[u32], j: u32) -> ExponentsAnswer
+pub fn column(words: &[u32], j: u32) -> Result<Exponents, Refusal>
     ensures { exponents_outcome_of result ≡ column_outcome (raw_steps words.now) j }
 {
     let mut exponents = start_of(j);
     if !shift_all(words, &mut exponents) {
-        return ExponentsAnswer::Refused(Refusal::Range);
+        return Err(Refusal::Range);
     }
-    ExponentsAnswer::Answered(exponents_of(&exponents))
+    Ok(exponents_of(&exponents))
 }
 
 // Those of all four start values, a row for each register; 12 where any leaves the range at any position.
-pub fn table(words: &[u32]) -> TableAnswer
+pub fn table(words: &[u32]) -> Result<Table, Refusal>
     ensures { table_outcome_of result ≡ columns_outcome (raw_steps words.now) }
 {
-    let ExponentsAnswer::Answered(first) = column(words, 0) else {
-        return TableAnswer::Refused(Refusal::Range);
-    };
-    let ExponentsAnswer::Answered(second) = column(words, 1) else {
-        return TableAnswer::Refused(Refusal::Range);
-    };
-    let ExponentsAnswer::Answered(third) = column(words, 2) else {
-        return TableAnswer::Refused(Refusal::Range);
-    };
-    let ExponentsAnswer::Answered(fourth) = column(words, 3) else {
-        return TableAnswer::Refused(Refusal::Range);
-    };
-    TableAnswer::Answered(rows(first, second, third, fourth))
+    let first = column(words, 0)?;
+    let second = column(words, 1)?;
+    let third = column(words, 2)?;
+    let fourth = column(words, 3)?;
+    Ok(rows(first, second, third, fourth))
 }
 
 // The exponents of start value j before any step: 1 in register j, 0 in the others.

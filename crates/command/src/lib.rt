@@ -145,7 +145,7 @@ fn own_in(row: Row, whole: bool) -> u32
     }
     let verb = row.verb;
     if takes_tape(verb) {
-        return refusal::number(Refusal::Length);
+        return u32::from(Refusal::Length);
     }
     row.own
 }

@@ -2,7 +2,7 @@
 #![tactic(auto)]
 
 ghost use Rattle.std.specs.Prelude.{◌≡◌, ◌≤◌};
-ghost use Rattle.refusal.specs.Outcomes.{outcome, number_outcome_of};
+ghost use Rattle.refusal.specs.Outcomes.{outcome, verdict_of};
 ghost use Rattle.orders.specs.Orders.{is_order};
 ghost use Rattle.orders.specs.PrimeDivisors.{primes_of};
 ghost use Rattle.machine.specs.Machine.{values_of};
@@ -12,7 +12,7 @@ ghost use Rattle.sequencer.specs.Bases.{row_rules};
 use machine::Registers;
 use montgomery::power;
 use orders::prime_divisors;
-use refusal::{NumberAnswer, Refusal};
+use refusal::Refusal;
 use tape::Header;
 
 // Refusal 9 for one of the four.
@@ -32,16 +32,16 @@ pub fn is_some_bad(p: u32, registers: Registers) -> bool
 }
 
 // A base's own refusals: 9, 11. It is a row of one.
-pub fn check_base(header: Header, base: u32) -> NumberAnswer
-    ensures { number_outcome_of result ≡ outcome (base_rules header base) 0 }
+pub fn check_base(header: Header, base: u32) -> Result<(), Refusal>
+    ensures { verdict_of result ≡ outcome (base_rules header base) 0 }
 {
     let row = [base];
     check_bases(header, &row)
 }
 
 // The refusals of a row's bases: those of the first base that has one. The prime divisors of r, which decide an order, are found once.
-pub fn check_bases(header: Header, bases: &[u32]) -> NumberAnswer
-    ensures { number_outcome_of result ≡ outcome (row_rules header bases.now) 0 }
+pub fn check_bases(header: Header, bases: &[u32]) -> Result<(), Refusal>
+    ensures { verdict_of result ≡ outcome (row_rules header bases.now) 0 }
 {
     let found = prime_divisors(header.order);
     let primes = found.primes;
@@ -49,32 +49,28 @@ pub fn check_bases(header: Header, bases: &[u32]) -> NumberAnswer
 }
 
 // The same, given the prime divisors of r.
-fn check_all(header: Header, primes: &[u32], bases: &[u32]) -> NumberAnswer
+fn check_all(header: Header, primes: &[u32], bases: &[u32]) -> Result<(), Refusal>
     requires { primes.now ≡ primes_of header.order }
-    ensures { number_outcome_of result ≡ outcome (row_rules header bases.now) 0 }
+    ensures { verdict_of result ≡ outcome (row_rules header bases.now) 0 }
 {
-    let mut i: usize = 0;
-    while i < bases.len() {
-        match check_one(header, primes, bases[i]) {
-            NumberAnswer::Refused(e) => return NumberAnswer::Refused(e),
-            NumberAnswer::Answered(passed) => i += 1,
-        }
+    for base in bases {
+        check_one(header, primes, *base)?;
     }
-    NumberAnswer::Answered(0)
+    Ok(())
 }
 
 // The refusals of one base, given these.
-fn check_one(header: Header, primes: &[u32], base: u32) -> NumberAnswer
+fn check_one(header: Header, primes: &[u32], base: u32) -> Result<(), Refusal>
     requires { primes.now ≡ primes_of header.order }
-    ensures { number_outcome_of result ≡ outcome (base_rules header base) 0 }
+    ensures { verdict_of result ≡ outcome (base_rules header base) 0 }
 {
     if is_bad_register(header.modulus, base) {
-        return NumberAnswer::Refused(Refusal::Register);
+        return Err(Refusal::Register);
     }
     if is_bad_base(header, primes, base) {
-        return NumberAnswer::Refused(Refusal::Base);
+        return Err(Refusal::Base);
     }
-    NumberAnswer::Answered(0)
+    Ok(())
 }
 
 // Refusal 9: a register or base is 0 or at least p.

@@ -2,12 +2,12 @@
 #![tactic(auto)]
 
 ghost use Rattle.std.specs.Prelude.{◌≡◌};
-ghost use Rattle.refusal.specs.Outcomes.{number_outcome_of};
+ghost use Rattle.refusal.specs.Outcomes.{outcome_of};
 ghost use Rattle.fibonacci.specs.Hofstadter.{G};
 ghost use Rattle.fibonacci.specs.Height.{height};
 ghost use Rattle.fibonacci.specs.Services.{fibonacci_of, fibonacci_or_zero, fibonacci_outcome};
 
-use refusal::{NumberAnswer, Refusal};
+use refusal::Refusal;
 
 const F_47: u64 = 2971215073;
 
@@ -167,13 +167,13 @@ static FIBONACCI: [u64; 94] = [
 ];
 
 // A Fibonacci number by its index.
-pub fn fibonacci(index: u32) -> NumberAnswer
-    ensures { number_outcome_of result ≡ fibonacci_outcome index }
+pub fn fibonacci(index: u32) -> Result<u64, Refusal>
+    ensures { outcome_of result ≡ fibonacci_outcome index }
 {
     if 93 < index {
-        return NumberAnswer::Refused(Refusal::Index);
+        return Err(Refusal::Index);
     }
-    NumberAnswer::Answered(fibonacci_or_zero(index))
+    Ok(fibonacci_or_zero(index))
 }
 
 // Hofstadter's G: n + 1 divided by the golden ratio, rounded down. F_48 / F_47 in the ratio's place gives the same or one more, and the

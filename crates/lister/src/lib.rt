@@ -14,7 +14,7 @@ use listing::{Listed, MAX_WRITTEN};
 use listing_lines::{first_line, refused_line, step_lines};
 use putting::put;
 use refusal::Refusal;
-use tape::{Header, HeaderAnswer, MAX_WORDS};
+use tape::{Header, MAX_WORDS};
 
 // Writes the listing of a tape that is given as bytes; a refusal is one line. 5 where the buffer is shorter than the listing.
 pub fn listing(bytes: &[u8], lines: &mut [u8]) -> Listed
@@ -34,8 +34,8 @@ pub fn list_tape(tape: &[u32], buffer: &mut [u8]) -> Listed
     ensures number_value { result.number ≡ refusal_number (accept_outcome tape.now) }
 {
     match accepting::accept(tape) {
-        HeaderAnswer::Refused(e) => list_refusal(e, buffer),
-        HeaderAnswer::Answered(header) => list_accepted(tape, header, buffer),
+        Err(e) => list_refusal(e, buffer),
+        Ok(header) => list_accepted(tape, header, buffer),
     }
 }
 
@@ -51,7 +51,7 @@ fn list_short(bytes: &[u8], lines: &mut [u8]) -> Listed
     if lines.len() < count {
         return Listed {
             written: 0,
-            number: refusal::number(Refusal::Room),
+            number: u32::from(Refusal::Room),
         };
     }
     put(lines, 0, &text[..count]);
@@ -86,7 +86,7 @@ fn list_refusal(e: Refusal, buffer: &mut [u8]) -> Listed
     ensures put { Put buffer.old 0 (refused_line (number_of e)) result.written buffer.new }
     ensures number_value { result.number ≡ number_of e }
 {
-    let number = refusal::number(e);
+    let number = u32::from(e);
     let end = refused_line(buffer, 0, number);
     Listed {
         written: end,

@@ -1,14 +1,13 @@
 -- REQUIREMENTS 8, trace: each register's whole exponent, unreduced, minus signs kept.
-use Rattle.std.specs.Prelude.{Bool, true, cond, ◌&&◌, List, [], ◌∷◌, ℕ, suc, ◌-◌, ◌%◌, ◌^◌, ℤ, pos, negsuc, neg_ℤ, ◌+ℤ◌, ◌-ℤ◌, get_or, set, take}
+use Rattle.std.specs.Prelude.{Bool, true, cond, ◌&&◌, List, [], ◌∷◌, ℕ, suc, ◌-◌, ◌%◌, ◌^◌, ℤ, pos, negsuc, neg_ℤ, ◌+ℤ◌, ◌-ℤ◌, get_or, set, take, Result}
 use Rattle.std.specs.Int.Signed.{le_z}
+use Rattle.refusal.specs.declared.Refusal.{Refusal}
 use Rattle.refusal.specs.Refusals.{number_of}
-use Rattle.refusal.specs.Outcomes.{Outcome, refused, answered}
+use Rattle.refusal.specs.Outcomes.{Outcome, refused, answered, outcome_by}
 use Rattle.modular.specs.Inverses.{inverse}
 use Rattle.tape.specs.declared.Step.{Step}
 use Rattle.tape.specs.declared.Step.TheVariants.{Mul, Div, Swp}
 use Rattle.machine.specs.declared.Exponents.{Exponents}
-use Rattle.machine.specs.declared.ExponentsAnswer.{ExponentsAnswer}
-use Rattle.machine.specs.declared.ExponentsAnswer.TheVariants.{Answered, Refused}
 
 -- the four exponents of the code, by their registers' numbers
 abbrev pub exponents_of : Exponents → List ℤ
@@ -64,10 +63,9 @@ makes_in_range (Swp t s) z = true
 unfoldable pub shift_in_range : Step → List ℤ → List ℤ
 shift_in_range x z = cond (makes_in_range x z) (shift x z) z
 
--- the outcome that an `ExponentsAnswer` of the code stands for
-abbrev pub exponents_outcome_of : ExponentsAnswer → Outcome (List ℤ)
-exponents_outcome_of (Answered exponents) = answered (exponents_of exponents)
-exponents_outcome_of (Refused e) = refused (number_of e)
+-- the outcome that an answer of the code stands for
+abbrev pub exponents_outcome_of : Result Exponents Refusal → Outcome (List ℤ)
+exponents_outcome_of = outcome_by exponents_of
 
 -- a^e modulo p: for a negative exponent the inverse of the power with its sign turned
 unfoldable pub power_of : ℕ → ℕ → ℤ → ℕ

@@ -2,8 +2,6 @@
 // and laws of this layer, and the types that they name; it has no functions.
 #![tactic(auto)]
 
-use refusal::Refusal;
-
 // The registers 0 to 3 under the source's names.
 #[derive(Clone, Copy)]
 pub struct Registers {
@@ -20,13 +18,6 @@ pub struct Exponents {
     pub d: i64,
     pub e: i64,
     pub f: i64,
-}
-
-// Four whole exponents, or a refusal.
-#[derive(Clone, Copy)]
-pub enum ExponentsAnswer {
-    Answered(Exponents),
-    Refused(Refusal),
 }
 
 // How many of some steps are mul, div and swp.

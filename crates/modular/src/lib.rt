@@ -2,12 +2,12 @@
 #![tactic(auto)]
 
 ghost use Rattle.std.specs.Prelude.{◌≡◌, ◌*◌};
-ghost use Rattle.refusal.specs.Outcomes.{number_outcome_of};
+ghost use Rattle.refusal.specs.Outcomes.{outcome_of};
 ghost use Rattle.modular.specs.Residues.{remainder};
 ghost use Rattle.modular.specs.Primes.{is_prime};
 ghost use Rattle.modular.specs.Inverses.{inverse, nonzero, inverse_outcome};
 
-use refusal::{NumberAnswer, Refusal};
+use refusal::Refusal;
 
 // The product modulo m; modulo 0 it is 0.
 pub fn product(x: u32, y: u32, m: u32) -> u32
@@ -85,21 +85,21 @@ pub fn inverse_or_zero(x: u32, m: u32) -> u32
 }
 
 // The inverse service.
-pub fn inverse(k: u32, r: u32) -> NumberAnswer
-    ensures { number_outcome_of result ≡ inverse_outcome k r }
+pub fn inverse(k: u32, r: u32) -> Result<u64, Refusal>
+    ensures { outcome_of result ≡ inverse_outcome k r }
 {
     if r < 2 {
-        return NumberAnswer::Refused(Refusal::Order);
+        return Err(Refusal::Order);
     }
     if k == 0 {
-        return NumberAnswer::Refused(Refusal::Exponent);
+        return Err(Refusal::Exponent);
     }
     if r <= k {
-        return NumberAnswer::Refused(Refusal::Exponent);
+        return Err(Refusal::Exponent);
     }
     let value = inverse_or_zero(k, r);
     if value == 0 {
-        return NumberAnswer::Refused(Refusal::Exponent);
+        return Err(Refusal::Exponent);
     }
-    NumberAnswer::Answered(value as u64)
+    Ok(value as u64)
 }

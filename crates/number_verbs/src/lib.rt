@@ -12,7 +12,6 @@ use encoding::tape_bytes;
 use lines::bytes_line;
 use meanings::meaning;
 use printing::{answer, number, refuse};
-use refusal::NumberAnswer;
 use tape::MAX_WORDS;
 use tool::{ANSWERED, MAX_PARAMETERS, NumberVerb, Reply};
 use widths::{bytes, large, small};
@@ -69,14 +68,14 @@ pub fn build(own: u32, values: &[u64], text: &mut [u8]) -> Reply
     let k = small(values, 2);
     let answer = building::build(p, r, k, small(values, 3), &mut row);
     match answer {
-        NumberAnswer::Answered(n) => {
+        Ok(n) => {
             let count = n as usize;
             Reply {
                 status: ANSWERED,
                 length: tape_bytes(text, 0, &row[..count]),
             }
         }
-        NumberAnswer::Refused(e) => refuse(text, own, refusal::number(e)),
+        Err(e) => refuse(text, own, u32::from(e)),
     }
 }
 

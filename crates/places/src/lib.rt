@@ -2,11 +2,11 @@
 #![tactic(auto)]
 
 ghost use Rattle.std.specs.Prelude.{◌≡◌, ◌≤◌, ◌++◌, length, drop};
-ghost use Rattle.refusal.specs.Outcomes.{number_outcome_of};
+ghost use Rattle.refusal.specs.Outcomes.{outcome_of};
 ghost use Rattle.fibonacci.specs.Services.{places_outcome, places_buffer, number_outcome};
 
 use golden::fibonacci_or_zero;
-use refusal::{NumberAnswer, Refusal};
+use refusal::Refusal;
 use std::num::wrapping_add_u64;
 use zeckendorf::zeckendorf;
 
@@ -14,27 +14,27 @@ use zeckendorf::zeckendorf;
 const ABOVE_LAST: u32 = 94;
 
 // Number to list: the places of n, highest first, into the buffer; the bytes past them stay.
-pub fn places(n: u64, buffer: &mut [u8]) -> NumberAnswer
-    ensures result_value { number_outcome_of result ≡ places_outcome n (length buffer.old) }
+pub fn places(n: u64, buffer: &mut [u8]) -> Result<u64, Refusal>
+    ensures result_value { outcome_of result ≡ places_outcome n (length buffer.old) }
     ensures buffer_after { buffer.new ≡ places_buffer n buffer.old }
 {
     let form = zeckendorf(n);
     let list = form.places;
     let count = form.count;
     if buffer.len() < count {
-        return NumberAnswer::Refused(Refusal::Room);
+        return Err(Refusal::Room);
     }
     copy_to_front(&list[..count], buffer);
-    NumberAnswer::Answered(count as u64)
+    Ok(count as u64)
 }
 
 // List to number: the sum of the weights of its places, modulo 2^64. A sum past 64 bits leaves less than the weight of the highest place.
 // After a place 0 no place can follow, so only the last can be 0, and that is told after the loop.
-pub fn number_of_places(list: &[u8]) -> NumberAnswer
-    ensures { number_outcome_of result ≡ number_outcome list.now }
+pub fn number_of_places(list: &[u8]) -> Result<u64, Refusal>
+    ensures { outcome_of result ≡ number_outcome list.now }
 {
     if list.len() == 0 {
-        return NumberAnswer::Answered(0);
+        return Ok(0);
     }
     let mut above = ABOVE_LAST;
     let mut sum: u64 = 0;
@@ -42,19 +42,19 @@ pub fn number_of_places(list: &[u8]) -> NumberAnswer
     while i < list.len() {
         let place = list[i] as u32;
         if above < place + 2 {
-            return NumberAnswer::Refused(Refusal::Index);
+            return Err(Refusal::Index);
         }
         sum = wrapping_add_u64(sum, fibonacci_or_zero(place + 1));
         above = place;
         i += 1;
     }
     if above == 0 {
-        return NumberAnswer::Refused(Refusal::Index);
+        return Err(Refusal::Index);
     }
     if sum < fibonacci_or_zero(list[0] as u32 + 1) {
-        return NumberAnswer::Refused(Refusal::Range);
+        return Err(Refusal::Range);
     }
-    NumberAnswer::Answered(sum)
+    Ok(sum)
 }
 
 // Copies a list to the front of a buffer; the bytes past it stay.

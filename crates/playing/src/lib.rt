@@ -11,8 +11,9 @@ ghost use Rattle.sequencer.specs.Lists.{turned, after_all, numbers_all, turn_of,
 ghost use Rattle.sequencer.specs.Demand.{ChainEnds, RewindEnds};
 
 use parts::part;
+use refusal::Refusal;
 use running::run;
-use sequencer::{State, StateAnswer};
+use sequencer::State;
 
 // The words of a request in a list of runs.
 const REQUEST_WORDS: usize = 4;
@@ -56,24 +57,24 @@ fn turned(state: State, turn: u32) -> State
 }
 
 // Run of a tape that is a part of a row.
-fn run_part(tapes: &[u32], begin: u32, end: u32, given: State, goal: u32) -> StateAnswer
+fn run_part(tapes: &[u32], begin: u32, end: u32, given: State, goal: u32) -> Result<State, Refusal>
     ensures { state_outcome_of result ≡ run_outcome (part tapes.now begin end) (record_of given) goal }
 {
     run(part(tapes, begin, end), given, goal)
 }
 
 // The record after a run: a refused one leaves what it got.
-fn after_run(answer: StateAnswer, given: State) -> State
+fn after_run(answer: Result<State, Refusal>, given: State) -> State
     ensures { record_of result ≡ after (state_outcome_of answer) (record_of given) }
 {
     match answer {
-        StateAnswer::Answered(reached) => reached,
-        StateAnswer::Refused(e) => given,
+        Ok(reached) => reached,
+        Err(e) => given,
     }
 }
 
 // The number of a run, 0 or its refusal's, put into a row; past the row there is no place for it.
-fn note(numbers: &mut [u32], at: usize, answer: StateAnswer)
+fn note(numbers: &mut [u32], at: usize, answer: Result<State, Refusal>)
     ensures { numbers.new ≡ set numbers.old at (refusal_number (state_outcome_of answer)) }
 {
     if at < numbers.len() {
@@ -81,11 +82,11 @@ fn note(numbers: &mut [u32], at: usize, answer: StateAnswer)
     }
 }
 
-fn number_of(answer: StateAnswer) -> u32
+fn number_of(answer: Result<State, Refusal>) -> u32
     ensures { result ≡ refusal_number (state_outcome_of answer) }
 {
     match answer {
-        StateAnswer::Answered(state) => 0,
-        StateAnswer::Refused(e) => refusal::number(e),
+        Ok(state) => 0,
+        Err(e) => u32::from(e),
     }
 }

@@ -13,7 +13,8 @@ ghost use Rattle.sequencer.specs.Inner.Runs.{Inside};
 use decoding::operation_of;
 use machine::Counts;
 use parts::{part, steps};
-use sequencer::{Preview, PreviewAnswer, State, StateAnswer};
+use refusal::Refusal;
+use sequencer::{Preview, State};
 
 // The opcodes of mul and div; every other is swp's.
 const MUL: u32 = 0;
@@ -22,17 +23,14 @@ const DIV: u32 = 1;
 
 // The registers at position `to`, from where the record stands, and the steps on the way: run's refusals. The record comes as a copy, so
 // the caller's own stays.
-pub fn preview(tape: &[u32], state: State, to: u32) -> PreviewAnswer
+pub fn preview(tape: &[u32], state: State, to: u32) -> Result<Preview, Refusal>
     ensures { preview_outcome_of result ≡ preview_outcome tape.now (record_of state) to }
 {
-    match running::run(tape, state, to) {
-        StateAnswer::Refused(e) => PreviewAnswer::Refused(e),
-        StateAnswer::Answered(reached) => {
-            let registers = reached.registers;
-            let counts = count_way(steps(tape), state.position, to);
-            PreviewAnswer::Answered(Preview { registers, counts })
-        }
-    }
+    let reached = running::run(tape, state, to)?;
+    Ok(Preview {
+        registers: reached.registers,
+        counts: count_way(steps(tape), state.position, to),
+    })
 }
 
 // The steps that are done on the way from one position to another, by the words of a tape's steps. On the way back they are undone, and an

@@ -4,7 +4,7 @@
 mod results;
 
 ghost use Rattle.std.specs.Prelude.{[], ◌∷◌, ◌++◌};
-ghost use Rattle.refusal.specs.Outcomes.{number_outcome_of};
+ghost use Rattle.refusal.specs.Outcomes.{outcome_of};
 ghost use Rattle.text.specs.Text.{newline, number_line};
 ghost use Rattle.text.specs.Rows.{Put};
 ghost use Rattle.machine.specs.Exponents.{exponents_outcome_of};
@@ -15,14 +15,14 @@ ghost use Rattle.tool.specs.Texts.{exponents_line, table_lines, record_line, pre
 ghost use Rattle.tool.specs.Replies.{refuses, printed};
 ghost use Rattle.tool.specs.Rows.{Told};
 
-use machine::ExponentsAnswer;
+use machine::Exponents;
 use parsing::nth_word;
 use putting::{put, put_number, put_then};
-use refusal::{NumberAnswer, OWN_REASONS, REASONS};
+use refusal::{OWN_REASONS, REASONS, Refusal};
 pub use results::{number, record};
 use results::{exponents, power, preview, rows};
-use sequencer::{PreviewAnswer, StateAnswer};
-use tables::TableAnswer;
+use sequencer::{Preview, State};
+use tables::Table;
 use text::NEWLINE;
 use tool::{REFUSED, Reply};
 
@@ -53,61 +53,61 @@ fn put_reason(buffer: &mut [u8], at: usize, own: u32, number: u32) -> usize
 }
 
 // One number, or the refusal.
-pub fn answer(buffer: &mut [u8], own: u32, answer: NumberAnswer) -> Reply
-    ensures { Told buffer.old (printed own (number_outcome_of answer) number_line) result buffer.new }
+pub fn answer(buffer: &mut [u8], own: u32, answer: Result<u64, Refusal>) -> Reply
+    ensures { Told buffer.old (printed own (outcome_of answer) number_line) result buffer.new }
 {
     match answer {
-        NumberAnswer::Answered(n) => number(buffer, n),
-        NumberAnswer::Refused(e) => refuse(buffer, own, refusal::number(e)),
+        Ok(n) => number(buffer, n),
+        Err(e) => refuse(buffer, own, u32::from(e)),
     }
 }
 
 // A record, or the refusal.
-pub fn print_record(buffer: &mut [u8], own: u32, answer: StateAnswer) -> Reply
+pub fn print_record(buffer: &mut [u8], own: u32, answer: Result<State, Refusal>) -> Reply
     ensures { Told buffer.old (printed own (state_outcome_of answer) record_line) result buffer.new }
 {
     match answer {
-        StateAnswer::Answered(state) => record(buffer, state),
-        StateAnswer::Refused(e) => refuse(buffer, own, refusal::number(e)),
+        Ok(state) => record(buffer, state),
+        Err(e) => refuse(buffer, own, u32::from(e)),
     }
 }
 
 // The same, with register 1 on a line of its own before it.
-pub fn print_power(buffer: &mut [u8], own: u32, answer: StateAnswer) -> Reply
+pub fn print_power(buffer: &mut [u8], own: u32, answer: Result<State, Refusal>) -> Reply
     ensures { Told buffer.old (printed own (state_outcome_of answer) power_lines) result buffer.new }
 {
     match answer {
-        StateAnswer::Answered(state) => power(buffer, state),
-        StateAnswer::Refused(e) => refuse(buffer, own, refusal::number(e)),
+        Ok(state) => power(buffer, state),
+        Err(e) => refuse(buffer, own, u32::from(e)),
     }
 }
 
 // What a preview shows, or the refusal.
-pub fn print_preview(buffer: &mut [u8], own: u32, answer: PreviewAnswer) -> Reply
+pub fn print_preview(buffer: &mut [u8], own: u32, answer: Result<Preview, Refusal>) -> Reply
     ensures { Told buffer.old (printed own (preview_outcome_of answer) preview_lines) result buffer.new }
 {
     match answer {
-        PreviewAnswer::Answered(shown) => preview(buffer, shown),
-        PreviewAnswer::Refused(e) => refuse(buffer, own, refusal::number(e)),
+        Ok(shown) => preview(buffer, shown),
+        Err(e) => refuse(buffer, own, u32::from(e)),
     }
 }
 
 // Four exponents, or the refusal.
-pub fn print_exponents(buffer: &mut [u8], own: u32, answer: ExponentsAnswer) -> Reply
+pub fn print_exponents(buffer: &mut [u8], own: u32, answer: Result<Exponents, Refusal>) -> Reply
     ensures { Told buffer.old (printed own (exponents_outcome_of answer) exponents_line) result buffer.new }
 {
     match answer {
-        ExponentsAnswer::Answered(values) => exponents(buffer, values),
-        ExponentsAnswer::Refused(e) => refuse(buffer, own, refusal::number(e)),
+        Ok(values) => exponents(buffer, values),
+        Err(e) => refuse(buffer, own, u32::from(e)),
     }
 }
 
 // A table, a line for each register, or the refusal.
-pub fn print_table(buffer: &mut [u8], own: u32, answer: TableAnswer) -> Reply
+pub fn print_table(buffer: &mut [u8], own: u32, answer: Result<Table, Refusal>) -> Reply
     ensures { Told buffer.old (printed own (table_outcome_of answer) table_lines) result buffer.new }
 {
     match answer {
-        TableAnswer::Answered(table) => rows(buffer, table),
-        TableAnswer::Refused(e) => refuse(buffer, own, refusal::number(e)),
+        Ok(table) => rows(buffer, table),
+        Err(e) => refuse(buffer, own, u32::from(e)),
     }
 }

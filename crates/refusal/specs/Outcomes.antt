@@ -1,9 +1,7 @@
 -- What a call comes to: a refusal's number, or the values it answers. "One number comes back: the first that applies;
 -- where none applies, the call isn't refused."
-use Rattle.std.specs.Prelude.{◌≡◌, refl, Bool, true, false, ◌||◌, List, [], ◌∷◌, ◌++◌, ℕ, length, drop}
+use Rattle.std.specs.Prelude.{◌≡◌, refl, Bool, true, false, ◌||◌, List, [], ◌∷◌, ◌++◌, ℕ, length, drop, Result, Ok, Err}
 use Rattle.refusal.specs.declared.Refusal.{Refusal}
-use Rattle.refusal.specs.declared.NumberAnswer.{NumberAnswer}
-use Rattle.refusal.specs.declared.NumberAnswer.TheVariants.{Answered, Refused}
 use Rattle.refusal.specs.Refusals.{number_of}
 
 infix 10 ◌given_if◌
@@ -26,10 +24,20 @@ unfoldable pub applies : List Rule → Bool
 applies [] = false
 applies ((e given_if t) ∷ rules) = t || applies rules
 
--- the outcome that a `NumberAnswer` of the code stands for
-abbrev pub number_outcome_of : NumberAnswer → Outcome ℕ
-number_outcome_of (Answered n) = answered n
-number_outcome_of (Refused e) = refused (number_of e)
+-- the outcome that a `Result` of the code stands for
+abbrev pub outcome_of : {A : Type 0} → Result A Refusal → Outcome A
+outcome_of (Ok x) = answered x
+outcome_of (Err e) = refused (number_of e)
+
+-- the same, where the definitions see the value in another way
+abbrev pub outcome_by : {A B : Type 0} → (A → B) → Result A Refusal → Outcome B
+outcome_by see (Ok x) = answered (see x)
+outcome_by see (Err e) = refused (number_of e)
+
+-- the same of a test, which answers nothing; the definitions have 0 for that
+abbrev pub verdict_of : Result (Unit {0}) Refusal → Outcome ℕ
+verdict_of (Ok passed) = answered 0
+verdict_of (Err e) = refused (number_of e)
 
 -- the number that comes back: 0 where the call isn't refused
 abbrev pub refusal_number : {A : Type 0} → Outcome A → ℕ

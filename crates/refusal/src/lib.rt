@@ -1,11 +1,11 @@
-// REQUIREMENTS 7: the refusals, and the answer of a service whose result is one number.
+// REQUIREMENTS 7: the refusals, which are the errors of the services.
 #![tactic(auto)]
 
 ghost use Rattle.std.specs.Prelude.{◌≡◌};
 ghost use Rattle.refusal.specs.Refusals.{number_of};
 
 // The refusals in the order of their numbers. A comment gives the requirement's word where it differs from the name.
-#[derive(Clone, Copy)]
+#[derive(Clone, Copy, PartialEq, Eq)]
 pub enum Refusal {
     Modulus,
     Order,
@@ -26,32 +26,27 @@ pub enum Refusal {
     Count,
 }
 
-// What a service answers whose result is one number.
-#[derive(Clone, Copy)]
-pub enum NumberAnswer {
-    Answered(u64),
-    Refused(Refusal),
-}
-
 // The number of a refusal.
-pub fn number(refusal: Refusal) -> u32
-    ensures { result ≡ number_of refusal }
-{
-    match refusal {
-        Refusal::Modulus => 1,
-        Refusal::Order => 2,
-        Refusal::Exponent => 3,
-        Refusal::Variant => 4,
-        Refusal::Room => 5,
-        Refusal::Length => 6,
-        Refusal::Word => 7,
-        Refusal::Mismatch => 8,
-        Refusal::Register => 9,
-        Refusal::Position => 10,
-        Refusal::Base => 11,
-        Refusal::Range => 12,
-        Refusal::Index => 13,
-        Refusal::Count => 14,
+impl From<Refusal> for u32 {
+    ghost from_gives = { λ e n. n ≡ number_of e };
+
+    fn from(refusal: Refusal) -> u32 {
+        match refusal {
+            Refusal::Modulus => 1,
+            Refusal::Order => 2,
+            Refusal::Exponent => 3,
+            Refusal::Variant => 4,
+            Refusal::Room => 5,
+            Refusal::Length => 6,
+            Refusal::Word => 7,
+            Refusal::Mismatch => 8,
+            Refusal::Register => 9,
+            Refusal::Position => 10,
+            Refusal::Base => 11,
+            Refusal::Range => 12,
+            Refusal::Index => 13,
+            Refusal::Count => 14,
+        }
     }
 }
 

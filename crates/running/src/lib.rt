@@ -16,37 +16,33 @@ use conditions::{check_base, is_some_bad};
 use machine::Registers;
 use montgomery::modulus_of;
 use parts::{part, steps};
-use refusal::{NumberAnswer, Refusal};
+use refusal::Refusal;
 use register_forms::{forms_of, inverses, registers_of};
 use register_steps::do_steps;
-use sequencer::{State, StateAnswer};
-use tape::{Header, HeaderAnswer};
+use sequencer::State;
+use tape::Header;
 
 // No program has so many steps.
 const NO_POSITION: u32 = 4294967295;
 
 // The record to start from, (1, a, 1, 1) at position 0, for a base a: check's refusals, 9, and for named programs 11.
-pub fn load(tape: &[u32], base: u32) -> StateAnswer
+pub fn load(tape: &[u32], base: u32) -> Result<State, Refusal>
     ensures { state_outcome_of result ≡ load_outcome tape.now base }
 {
-    match accepting::accept(tape) {
-        HeaderAnswer::Refused(e) => StateAnswer::Refused(e),
-        HeaderAnswer::Answered(header) => load_accepted(tape, header, base),
-    }
+    let header = accepting::accept(tape)?;
+    load_accepted(tape, header, base)
 }
 
 // The record at position `to`, from where it stands: check's refusals, 9, 10.
-pub fn run(tape: &[u32], state: State, to: u32) -> StateAnswer
+pub fn run(tape: &[u32], state: State, to: u32) -> Result<State, Refusal>
     ensures { state_outcome_of result ≡ run_outcome tape.now (record_of state) to }
 {
-    match accepting::accept(tape) {
-        HeaderAnswer::Refused(e) => StateAnswer::Refused(e),
-        HeaderAnswer::Answered(header) => run_accepted(tape, header, state, to),
-    }
+    let header = accepting::accept(tape)?;
+    run_accepted(tape, header, state, to)
 }
 
 // The record one step on, or one step back: check's refusals, 9, 10, also for a step past either end.
-pub fn step(tape: &[u32], state: State, backward: bool) -> StateAnswer
+pub fn step(tape: &[u32], state: State, backward: bool) -> Result<State, Refusal>
     ensures { state_outcome_of result ≡ step_outcome tape.now (record_of state) backward }
 {
     let goal = step_goal(state.position, backward);
@@ -54,66 +50,60 @@ pub fn step(tape: &[u32], state: State, backward: bool) -> StateAnswer
 }
 
 // Load, then run to the step count: load's refusals. Of a named program, register 1 is then the power.
-pub fn forward(tape: &[u32], base: u32) -> StateAnswer
+pub fn forward(tape: &[u32], base: u32) -> Result<State, Refusal>
     ensures { state_outcome_of result ≡ forward_outcome tape.now base }
 {
-    match accepting::accept(tape) {
-        HeaderAnswer::Refused(e) => StateAnswer::Refused(e),
-        HeaderAnswer::Answered(header) => forward_accepted(tape, header, base),
-    }
+    let header = accepting::accept(tape)?;
+    forward_accepted(tape, header, base)
 }
 
 // Load on a program that is accepted: 9, 11.
-fn load_accepted(tape: &[u32], header: Header, base: u32) -> StateAnswer
+fn load_accepted(tape: &[u32], header: Header, base: u32) -> Result<State, Refusal>
     requires { accept_outcome tape.now ≡ answered header }
     ensures { state_outcome_of result ≡ load_outcome tape.now base }
 {
-    match check_base(header, base) {
-        NumberAnswer::Refused(e) => StateAnswer::Refused(e),
-        NumberAnswer::Answered(passed) => StateAnswer::Answered(State {
-            registers: Registers {
-                c: 1,
-                d: base,
-                e: 1,
-                f: 1,
-            },
-            position: 0,
-        }),
-    }
+    check_base(header, base)?;
+    Ok(State {
+        registers: Registers {
+            c: 1,
+            d: base,
+            e: 1,
+            f: 1,
+        },
+        position: 0,
+    })
 }
 
 // Run of a program that is accepted: 9, 10.
-fn run_accepted(tape: &[u32], header: Header, state: State, to: u32) -> StateAnswer
+fn run_accepted(tape: &[u32], header: Header, state: State, to: u32) -> Result<State, Refusal>
     requires { accept_outcome tape.now ≡ answered header }
     ensures { state_outcome_of result ≡ run_outcome tape.now (record_of state) to }
 {
     let registers = state.registers;
     let from = state.position;
     if is_some_bad(header.modulus, registers) {
-        return StateAnswer::Refused(Refusal::Register);
+        return Err(Refusal::Register);
     }
     if header.steps < from {
-        return StateAnswer::Refused(Refusal::Position);
+        return Err(Refusal::Position);
     }
     if header.steps < to {
-        return StateAnswer::Refused(Refusal::Position);
+        return Err(Refusal::Position);
     }
     let reached = run_steps(steps(tape), header.modulus, registers, from, to);
-    StateAnswer::Answered(State {
+    Ok(State {
         registers: reached,
         position: to,
     })
 }
 
 // Forward through a program that is accepted: load's refusals, and run has none left.
-fn forward_accepted(tape: &[u32], header: Header, base: u32) -> StateAnswer
+fn forward_accepted(tape: &[u32], header: Header, base: u32) -> Result<State, Refusal>
     requires { accept_outcome tape.now ≡ answered header }
     ensures { state_outcome_of result ≡ forward_outcome tape.now base }
 {
-    match load_accepted(tape, header, base) {
-        StateAnswer::Refused(e) => StateAnswer::Refused(e),
-        StateAnswer::Answered(state) => run_accepted(tape, header, state, header.steps),
-    }
+    let state = load_accepted(tape, header, base)?;
+    run_accepted(tape, header, state, header.steps)
 }
 
 // Where run is told to go for a step: the neighbouring position. Before 0 and behind the largest number there is none, and `NO_POSITION` is

@@ -1,7 +1,6 @@
 -- The state of a script as the code holds it: a row of words, and marks in it; for contracts.
-use Rattle.std.specs.Prelude.{◌≡◌, cond, List, [], ◌∷◌, ◌++◌, ℕ, min, ◌≤◌, length, take}
-use Rattle.refusal.specs.declared.NumberAnswer.{NumberAnswer}
-use Rattle.refusal.specs.declared.NumberAnswer.TheVariants.{Answered, Refused}
+use Rattle.std.specs.Prelude.{◌≡◌, cond, List, [], ◌∷◌, ◌++◌, ℕ, min, ◌≤◌, length, take, Result, Ok, Err}
+use Rattle.refusal.specs.declared.Refusal.{Refusal}
 use Rattle.text.specs.Rows.{Put}
 use Rattle.tool.specs.Verbs.{max_room}
 use Rattle.scripting.specs.declared.Marks.{Marks}
@@ -32,9 +31,9 @@ inside_of m capacity =
     record { begin = min m.begin end; end = end; room = min m.room max_room; roomed = m.roomed }
 
 -- the words that an answer counts
-abbrev pub count_in : NumberAnswer → ℕ
-count_in (Answered n) = n
-count_in (Refused e) = 0
+abbrev pub count_in : Result ℕ Refusal → ℕ
+count_in (Ok n) = n
+count_in (Err e) = 0
 
 -- what a line did: the state that the code left, and what it printed, which is never too long. Where the row of the text is shorter, what
 -- doesn't fit is dropped.

@@ -1,7 +1,8 @@
 -- Document 02, T-05: the preview. What a run makes of the registers, on a copy, and the mul, div and swp steps on its way.
-use Rattle.std.specs.Prelude.{List, ℕ}
+use Rattle.std.specs.Prelude.{List, ℕ, Result}
+use Rattle.refusal.specs.declared.Refusal.{Refusal}
 use Rattle.refusal.specs.Refusals.{number_of}
-use Rattle.refusal.specs.Outcomes.{Outcome, refused, answered, and_then}
+use Rattle.refusal.specs.Outcomes.{Outcome, refused, answered, and_then, outcome_by}
 use Rattle.tape.specs.declared.Header.{Header}
 use Rattle.tape.specs.declared.Step.{Step}
 use Rattle.tape.specs.Layout.{header_of, steps_of}
@@ -9,8 +10,6 @@ use Rattle.machine.specs.Machine.{values_of}
 use Rattle.machine.specs.Ways.{way, counts_of, count_numbers}
 use Rattle.program.specs.Door.{on_tape}
 use Rattle.sequencer.specs.declared.Preview.{Preview}
-use Rattle.sequencer.specs.declared.PreviewAnswer.{PreviewAnswer}
-use Rattle.sequencer.specs.declared.PreviewAnswer.TheVariants.{Answered, Refused}
 use Rattle.sequencer.specs.Records.{Record}
 use Rattle.sequencer.specs.Services.{goal_rules, record_at}
 use Rattle.sequencer.specs.Sessions.{on_session}
@@ -47,7 +46,6 @@ counts_outcome o = and_then o (λ w. answered w.counts)
 abbrev pub shown_of : Preview → Shown
 shown_of w = record { registers = values_of w.registers; counts = count_numbers w.counts }
 
--- the outcome that a `PreviewAnswer` of the code stands for
-abbrev pub preview_outcome_of : PreviewAnswer → Outcome Shown
-preview_outcome_of (Answered w) = answered (shown_of w)
-preview_outcome_of (Refused e) = refused (number_of e)
+-- the outcome that an answer of the code stands for
+abbrev pub preview_outcome_of : Result Preview Refusal → Outcome Shown
+preview_outcome_of = outcome_by shown_of

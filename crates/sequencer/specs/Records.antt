@@ -1,11 +1,10 @@
 -- Document 02, T-04: the register record, which holds the position beside the four registers.
-use Rattle.std.specs.Prelude.{List, [], ◌∷◌, ◌++◌, ℕ, get_or}
+use Rattle.std.specs.Prelude.{List, [], ◌∷◌, ◌++◌, ℕ, get_or, Result}
+use Rattle.refusal.specs.declared.Refusal.{Refusal}
 use Rattle.refusal.specs.Refusals.{number_of}
-use Rattle.refusal.specs.Outcomes.{Outcome, refused, answered, and_then}
+use Rattle.refusal.specs.Outcomes.{Outcome, refused, answered, and_then, outcome_by}
 use Rattle.machine.specs.Machine.{values_of}
 use Rattle.sequencer.specs.declared.State.{State}
-use Rattle.sequencer.specs.declared.StateAnswer.{StateAnswer}
-use Rattle.sequencer.specs.declared.StateAnswer.TheVariants.{Answered, Refused}
 
 pub record Record : Type 0 where
   pub registers : List ℕ
@@ -32,7 +31,6 @@ row_outcome o = and_then o (λ s. answered (row_of s))
 abbrev pub record_of : State → Record
 record_of s = record { registers = values_of s.registers; position = s.position }
 
--- the outcome that a `StateAnswer` of the code stands for
-abbrev pub state_outcome_of : StateAnswer → Outcome Record
-state_outcome_of (Answered s) = answered (record_of s)
-state_outcome_of (Refused e) = refused (number_of e)
+-- the outcome that an answer of the code stands for
+abbrev pub state_outcome_of : Result State Refusal → Outcome Record
+state_outcome_of = outcome_by record_of

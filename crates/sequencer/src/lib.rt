@@ -3,7 +3,6 @@
 #![tactic(auto)]
 
 use machine::{Counts, Registers};
-use refusal::Refusal;
 
 // Document 02's register record: the four registers and the position.
 #[derive(Clone, Copy)]
@@ -12,25 +11,11 @@ pub struct State {
     pub position: u32,
 }
 
-// What load, run and step answer: the register record, or a refusal.
-#[derive(Clone, Copy)]
-pub enum StateAnswer {
-    Answered(State),
-    Refused(Refusal),
-}
-
 // What a preview shows: the registers at its goal, and the mul, div and swp steps on the way there.
 #[derive(Clone, Copy)]
 pub struct Preview {
     pub registers: Registers,
     pub counts: Counts,
-}
-
-// What preview answers: what it shows, or a refusal.
-#[derive(Clone, Copy)]
-pub enum PreviewAnswer {
-    Answered(Preview),
-    Refused(Refusal),
 }
 
 // The most bases of a row.

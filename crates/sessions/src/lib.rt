@@ -9,7 +9,8 @@ ghost use Rattle.sequencer.specs.Sessions.{open_outcome, step_outcome, session_o
 ghost use Rattle.sequencer.specs.Previews.{preview_outcome, session_preview, preview_outcome_of};
 
 use machine::Registers;
-use sequencer::{PreviewAnswer, State, StateAnswer};
+use refusal::Refusal;
+use sequencer::{Preview, State};
 
 // The tape that a session was opened on, and the register record.
 #[derive(Clone, Copy)]
@@ -37,7 +38,7 @@ pub struct SteppedOnce {
 #[derive(Clone, Copy)]
 pub struct PreviewedOnce {
     pub opened: u32,
-    pub preview: PreviewAnswer,
+    pub preview: Result<Preview, Refusal>,
     pub state: State,
 }
 
@@ -92,7 +93,7 @@ pub fn step_once(tape: &[u32], state: State, backward: bool) -> SteppedOnce
 
 // What a run to a position makes of the session's registers, and the steps on the way; refused as that run. The session comes as a copy,
 // so the caller's own stays.
-pub fn preview<'a>(session: Session<'a>, to: u32) -> PreviewAnswer
+pub fn preview<'a>(session: Session<'a>, to: u32) -> Result<Preview, Refusal>
     ensures { preview_outcome_of result ≡ preview_outcome session.entry.tape.now (record_of session.entry.state) to }
 {
     previewing::preview(session.tape, session.state, to)
@@ -127,8 +128,8 @@ fn state_opened(tape: &[u32], state: State) -> Numbered
     ensures number_value { result.number ≡ refusal_number (open_outcome tape.now (record_of state)) }
 {
     match running::run(tape, state, state.position) {
-        StateAnswer::Answered(_) => Numbered { state, number: 0 },
-        StateAnswer::Refused(e) => Numbered {
+        Ok(_) => Numbered { state, number: 0 },
+        Err(e) => Numbered {
             state: State {
                 registers: Registers {
                     c: 1,
@@ -138,7 +139,7 @@ fn state_opened(tape: &[u32], state: State) -> Numbered
                 },
                 position: 0,
             },
-            number: refusal::number(e),
+            number: u32::from(e),
         },
     }
 }
@@ -159,13 +160,13 @@ fn state_stepped(tape: &[u32], state: State, backward: bool) -> Numbered
     ensures number_value { result.number ≡ refusal_number (step_outcome tape.now (record_of state) backward) }
 {
     match running::step(tape, state, backward) {
-        StateAnswer::Answered(reached) => Numbered {
+        Ok(reached) => Numbered {
             state: reached,
             number: 0,
         },
-        StateAnswer::Refused(e) => Numbered {
+        Err(e) => Numbered {
             state,
-            number: refusal::number(e),
+            number: u32::from(e),
         },
     }
 }

@@ -1,15 +1,14 @@
 -- Document 02, T-02: the exponent of each start value in each register, four by four whole numbers: a row for each register, a column for each
 -- start value, 0 to 3.
-use Rattle.std.specs.Prelude.{Bool, ◌&&◌, cond, List, [], ◌∷◌, ◌++◌, map, ℕ, ◌%◌, eqb, ℤ, pos, negsuc, set}
+use Rattle.std.specs.Prelude.{Bool, ◌&&◌, cond, List, [], ◌∷◌, ◌++◌, map, ℕ, ◌%◌, eqb, ℤ, pos, negsuc, set, Result}
+use Rattle.refusal.specs.declared.Refusal.{Refusal}
 use Rattle.refusal.specs.Refusals.{number_of}
-use Rattle.refusal.specs.Outcomes.{Outcome, refused, answered, and_then}
+use Rattle.refusal.specs.Outcomes.{Outcome, refused, answered, and_then, outcome_by}
 use Rattle.matrices.specs.Matrices.{Matrix, indices, transposed}
 use Rattle.modular.specs.Residues.{times}
 use Rattle.tape.specs.declared.Step.{Step}
 use Rattle.machine.specs.Exponents.{exponents_of, shift_all, stays_in_range, power_of}
 use Rattle.tables.specs.declared.Table.{Table}
-use Rattle.tables.specs.declared.TableAnswer.{TableAnswer}
-use Rattle.tables.specs.declared.TableAnswer.TheVariants.{Answered, Refused}
 
 -- the exponents of start value j before any step: 1 in register j, 0 in the others
 abbrev pub unit : ℕ → List ℤ
@@ -43,10 +42,9 @@ sign_of n = cond (eqb (n % 2) 0) (pos 1) (negsuc 0)
 abbrev pub matrix_of : Table → Matrix
 matrix_of table = exponents_of table.c ∷ exponents_of table.d ∷ exponents_of table.e ∷ exponents_of table.f ∷ []
 
--- the outcome that a `TableAnswer` of the code stands for
-abbrev pub table_outcome_of : TableAnswer → Outcome Matrix
-table_outcome_of (Answered table) = answered (matrix_of table)
-table_outcome_of (Refused e) = refused (number_of e)
+-- the outcome that an answer of the code stands for
+abbrev pub table_outcome_of : Result Table Refusal → Outcome Matrix
+table_outcome_of = outcome_by matrix_of
 
 -- a table as one list, row by row, as C has it
 abbrev pub row_by_row : Matrix → List ℤ

@@ -1,9 +1,8 @@
-// Document 02, T-02: the exponent of each start value in each register. The definitions and laws of this layer, and the types that they
+// Document 02, T-02: the exponent of each start value in each register. The definitions and laws of this layer, and the type that they
 // name; it has no functions.
 #![tactic(auto)]
 
 use machine::Exponents;
-use refusal::Refusal;
 
 // A row for each register under the source's names. In a row, `c` to `f` are the exponents of what those registers started from.
 #[derive(Clone, Copy)]
@@ -12,11 +11,4 @@ pub struct Table {
     pub d: Exponents,
     pub e: Exponents,
     pub f: Exponents,
-}
-
-// What the table at a position comes to: its rows, or a refusal.
-#[derive(Clone, Copy)]
-pub enum TableAnswer {
-    Answered(Table),
-    Refused(Refusal),
 }

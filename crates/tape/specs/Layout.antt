@@ -11,8 +11,6 @@ use Rattle.tape.specs.declared.Step.TheVariants.{Mul}
 use Rattle.tape.specs.declared.Decoded.{Decoded}
 use Rattle.tape.specs.declared.Decoded.TheVariants.{Heading, P, R, K, Action, End, Bad}
 use Rattle.tape.specs.declared.Header.{Header}
-use Rattle.tape.specs.declared.HeaderAnswer.{HeaderAnswer}
-use Rattle.tape.specs.declared.HeaderAnswer.TheVariants.{Answered, Refused}
 use Rattle.tape.specs.Words.{number_limit, variant_limit, decoded, encoded, step_word}
 
 -- ---- where things stand
@@ -151,10 +149,6 @@ read_outcome tape =
     ∷ [])
     (header_of tape)
 
--- the outcome that a `HeaderAnswer` of the code stands for
-abbrev pub header_outcome_of : HeaderAnswer → Outcome Header
-header_outcome_of (Answered header) = answered header
-header_outcome_of (Refused e) = refused (number_of e)
 
 -- ---- the words of a program
 

@@ -2,8 +2,6 @@
 // limits that they name; it has no functions.
 #![tactic(auto)]
 
-use refusal::Refusal;
-
 // A step with its target and its source register.
 #[derive(Clone, Copy)]
 pub enum Step {
@@ -40,13 +38,6 @@ pub struct Header {
     pub order: u32,
     pub exponent: u32,
     pub steps: u32,
-}
-
-// The answer to reading a tape.
-#[derive(Clone, Copy)]
-pub enum HeaderAnswer {
-    Answered(Header),
-    Refused(Refusal),
 }
 
 // The most words of a tape.

@@ -6,9 +6,9 @@ mod values;
 ghost use Rattle.std.specs.Prelude.{◌+◌, ◌/◌, ◌≤◌, ◌≡◌, length, get_or, take};
 ghost use Rattle.std.proofs.lemmas.List.Edits.{sets};
 ghost use Rattle.refusal.specs.Rows.{Wrote};
-ghost use Rattle.text.specs.Text.{numbers_line};
+ghost use Rattle.text.specs.Text.{number_line, numbers_line};
 ghost use Rattle.tape.specs.Layout.{steps_of};
-ghost use Rattle.program.specs.Services.{accept_outcome};
+ghost use Rattle.program.specs.Services.{accept_outcome, check_outcome};
 ghost use Rattle.sequencer.specs.Records.{record_numbers, row_of, record_in, record_of};
 ghost use Rattle.sequencer.specs.Services.{run_outcome, cut_outcome};
 ghost use Rattle.sequencer.specs.Sessions.{step_outcome, is_backward};
@@ -23,10 +23,9 @@ ghost use Rattle.tool.specs.Rows.{Told};
 use lines::numbers_line;
 use lister::list_tape;
 use printing::{
-    answer, print_exponents, print_power, print_preview, print_record, print_table, refuse,
+    number, print_exponents, print_power, print_preview, print_record, print_table, refuse,
 };
 use putting::put_words;
-use refusal::NumberAnswer;
 use sequencer::State;
 use sessions::{preview_once, step_once};
 use tool::{ANSWERED, MAX_PARAMETERS, Reply, TapeVerb};
@@ -49,7 +48,7 @@ pub fn on_tape(
 {
     let given = first(values);
     match verb {
-        TapeVerb::Check => answer(text, own, accepting::check(tape)),
+        TapeVerb::Check => check(own, tape, text),
         TapeVerb::Listing => list(tape, text),
         TapeVerb::Load => print_record(text, own, running::load(tape, parameter(given, 0))),
         TapeVerb::Run => run(own, given, tape, text),
@@ -61,6 +60,16 @@ pub fn on_tape(
         TapeVerb::Table => print_table(text, own, inspecting::table(tape, parameter(given, 0))),
         TapeVerb::Cut => cut(own, tape, parameter(given, 0), parameter(given, 1), text),
         TapeVerb::Play => play(given, tapes, text),
+    }
+}
+
+// Check, which answers 0 where the tape is accepted.
+fn check(own: u32, tape: &[u32], text: &mut [u8]) -> Reply
+    ensures { Told text.old (printed own (check_outcome tape.now) number_line) result text.new }
+{
+    match accepting::check(tape) {
+        Ok(()) => number(text, 0),
+        Err(e) => refuse(text, own, u32::from(e)),
     }
 }
 
@@ -126,8 +135,8 @@ fn raise_row(own: u32, bases: &mut [u32], tape: &[u32], text: &mut [u8]) -> Repl
     ensures { Told text.old (raised_all own bases.old tape.now) result text.new }
 {
     match raising::raise(tape, bases) {
-        NumberAnswer::Refused(e) => refuse(text, own, refusal::number(e)),
-        NumberAnswer::Answered(_) => Reply {
+        Err(e) => refuse(text, own, u32::from(e)),
+        Ok(_) => Reply {
             status: ANSWERED,
             length: numbers_line(text, 0, bases),
         },
@@ -138,14 +147,12 @@ fn raise_row(own: u32, bases: &mut [u32], tape: &[u32], text: &mut [u8]) -> Repl
 fn cut(own: u32, tape: &[u32], first: u32, last: u32, text: &mut [u8]) -> Reply
     ensures { Told text.old (printed own (cut_outcome tape.now first last) numbers_line) result text.new }
 {
-    let mut number: u32 = 0;
-    let part = inspecting::cut(tape, first, last, &mut number);
-    if number != 0 {
-        return refuse(text, own, number);
-    }
-    Reply {
-        status: ANSWERED,
-        length: numbers_line(text, 0, part),
+    match inspecting::cut(tape, first, last) {
+        Err(e) => refuse(text, own, u32::from(e)),
+        Ok(words) => Reply {
+            status: ANSWERED,
+            length: numbers_line(text, 0, words),
+        },
     }
 }
 

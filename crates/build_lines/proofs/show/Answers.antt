@@ -12,21 +12,21 @@ use Rattle.build_lines.proofs.show.Goals as goal
 
 pub returns-then-tapes-begin : goal.returns-then-tapes-begin
 returns-then-tapes-begin c =
-    let count = c.in-Answered.n in
-    let is = c.in-Answered.is in
+    let count = c.in-Ok.n in
+    let is = c.in-Ok.is in
     rw is
     (did_full c.requires.inside (take count c.args.row.now) _ (omega (arith, c.if-tapes-begin.true, length-take-le count c.args.row.now (rw is at c.requires.counted))) refl c.put_full.ensures)
 
 pub slice_bounds-put_words-end : goal.slice_bounds-put_words-end
-slice_bounds-put_words-end c = sym (length-take-le c.in-Answered.n c.args.row.now (rw c.in-Answered.is at c.requires.counted))
+slice_bounds-put_words-end c = sym (length-take-le c.in-Ok.n c.args.row.now (rw c.in-Ok.is at c.requires.counted))
 
 pub returns-else-tapes-begin : goal.returns-else-tapes-begin
 returns-else-tapes-begin c = let row = c.args.row.now in
-    rw c.in-Answered.is
-    (did_left c.requires.inside (take c.in-Answered.n row) _ (omega (arith, c.if-tapes-begin.false, c.requires.inside.begin, c.requires.inside.end, length-take-le c.in-Answered.n row (rw c.in-Answered.is at c.requires.counted))) c.put_words-end.ensures c.ending.ensures (puts_join c.number_line-next.ensures.put c.numbers_line.ensures.put)
-    (omega (arith, c.number_line-next.ensures.short, c.numbers_line.ensures.short, c.requires.short, length-append (number_line c.in-Answered.n) (numbers_line row))))
+    rw c.in-Ok.is
+    (did_left c.requires.inside (take c.in-Ok.n row) _ (omega (arith, c.if-tapes-begin.false, c.requires.inside.begin, c.requires.inside.end, length-take-le c.in-Ok.n row (rw c.in-Ok.is at c.requires.counted))) c.put_words-end.ensures c.ending.ensures (puts_join c.number_line-next.ensures.put c.numbers_line.ensures.put)
+    (omega (arith, c.number_line-next.ensures.short, c.numbers_line.ensures.short, c.requires.short, length-append (number_line c.in-Ok.n) (numbers_line row))))
 
-pub returns-in-Refused : goal.returns-in-Refused
-returns-in-Refused c = rw (c.in-Refused.is, ← c.number.ensures)
-    (did_print _ c.requires.inside refl (puts_join c.refuse-next.ensures.text c.numbers_line-in-Refused.ensures.put)
-    (omega (arith, c.refuse-next.ensures.short, c.numbers_line-in-Refused.ensures.short, c.requires.short, length-append (refusal_line c.args.own c.number.result) (numbers_line c.args.row.now))))
+pub returns-in-Err : goal.returns-in-Err
+returns-in-Err c = rw (c.in-Err.is, ← c.from.ensures)
+    (did_print _ c.requires.inside refl (puts_join c.refuse-next.ensures.text c.numbers_line-in-Err.ensures.put)
+    (omega (arith, c.refuse-next.ensures.short, c.numbers_line-in-Err.ensures.short, c.requires.short, length-append (refusal_line c.args.own c.from.result) (numbers_line c.args.row.now))))

@@ -1,29 +1,29 @@
 -- `table` meets its contract: it is refused where a column is, and else has the four as its columns.
-use mathlib.Core.Path.{sym, ap, ◌∙◌}
-use native.Mathlib.Omega.{arith}
+use Rattle.std.proofs.Common.{sym, ap, ◌∙◌, arith}
 use Rattle.refusal.specs.Outcomes.{answered}
-use Rattle.machine.specs.Exponents.{exponents_outcome_of}
+use Rattle.refusal.proofs.Laws.Exits.{exit_by}
+use Rattle.tables.specs.Tables.{matrix_of}
 use Rattle.tables.proofs.Laws.Outcomes.{columns_refused, columns_answered}
 use Rattle.columns.proofs.table.Goals as goal
 
-pub returns-in_default : goal.returns-in_default
-returns-in_default c = sym (columns_refused _ 0 (omega arith) (sym c.column.ensures ∙ ap exponents_outcome_of c.in_default.is))
+pub returns-in_err-first : goal.returns-in_err-first
+returns-in_err-first c = exit_by _ matrix_of _ c.from_residual.ensures.1 ∙ sym (columns_refused _ 0 (omega arith) (sym c.in_err-first.ensures))
 
-pub returns-in_default-column : goal.returns-in_default-column
-returns-in_default-column c = sym (columns_refused _ 1 (omega arith) (sym c.column-2.ensures ∙ ap exponents_outcome_of c.in_default-column.is))
+pub returns-in_err-second : goal.returns-in_err-second
+returns-in_err-second c = exit_by _ matrix_of _ c.from_residual-in_err-second.ensures.1 ∙ sym (columns_refused _ 1 (omega arith) (sym c.in_err-second.ensures))
 
-pub returns-in_default-column-2 : goal.returns-in_default-column-2
-returns-in_default-column-2 c = sym (columns_refused _ 2 (omega arith) (sym c.column-3.ensures ∙ ap exponents_outcome_of c.in_default-column-2.is))
+pub returns-in_err-third : goal.returns-in_err-third
+returns-in_err-third c = exit_by _ matrix_of _ c.from_residual-in_err-third.ensures.1 ∙ sym (columns_refused _ 2 (omega arith) (sym c.in_err-third.ensures))
 
-pub returns-in_default-column-3 : goal.returns-in_default-column-3
-returns-in_default-column-3 c = sym (columns_refused _ 3 (omega arith) (sym c.column-4.ensures ∙ ap exponents_outcome_of c.in_default-column-3.is))
+pub returns-in_err-fourth : goal.returns-in_err-fourth
+returns-in_err-fourth c = exit_by _ matrix_of _ c.from_residual-in_err-fourth.ensures.1 ∙ sym (columns_refused _ 3 (omega arith) (sym c.in_err-fourth.ensures))
 
 pub returns : goal.returns
 returns c =
     ap answered c.rows.ensures
     ∙ sym
     (columns_answered _
-    (sym c.column.ensures ∙ ap exponents_outcome_of c.in-Answered.is)
-    (sym c.column-2.ensures ∙ ap exponents_outcome_of c.in-Answered-column.is)
-    (sym c.column-3.ensures ∙ ap exponents_outcome_of c.in-Answered-column-2.is)
-    (sym c.column-4.ensures ∙ ap exponents_outcome_of c.in-Answered-column-3.is))
+    (sym c.in_ok-first.ensures)
+    (sym c.in_ok-second.ensures)
+    (sym c.in_ok-third.ensures)
+    (sym c.in_ok-fourth.ensures))

@@ -6,6 +6,7 @@ use native.Mathlib.Omega.{arith}
 use lib.ListN.{length, get_or, drop, drop_of_length-le}
 use lib.Seq.{drop-cons}
 use Rattle.refusal.specs.Outcomes.{outcome}
+use Rattle.refusal.proofs.Laws.Exits.{exit_verdict}
 use Rattle.tape.specs.declared.Header.{Header}
 use Rattle.sequencer.specs.Bases.{row_rules}
 use Rattle.sequencer.proofs.Laws.Bases.{row_refused, row_passed, row_none}
@@ -16,30 +17,29 @@ rest_is : (h : Header) (bases : List ℕ) (i : ℕ) → i < length bases
     → outcome {A = ℕ} (row_rules h (drop i bases)) 0 ≡ outcome (row_rules h (get_or bases i 0 ∷ drop (suc i) bases)) 0
 rest_is h bases i inside = ap (λ (l : List ℕ). outcome (row_rules h l) 0) (drop-cons bases i 0 inside)
 
-pub loop-i-init : goal.loop-i-init
-loop-i-init c = (omega arith, refl)
+pub loop-base-init : goal.loop-base-init
+loop-base-init c = refl
 
-pub returns-in-Refused : goal.returns-in-Refused
-returns-in-Refused c =
+pub returns-in_err-check_one : goal.returns-in_err-check_one
+returns-in_err-check_one c =
     let given = c.args in
-    sym
-    (sym c.loop-i.invariant.1
-    ∙ rest_is given.header given.bases.now c.loop-i.i (omega arith)
-    ∙ row_refused _ _ _ 0 (sym c.in-Refused.ensures))
+    exit_verdict _ _ c.from_residual.ensures.1
+    ∙ sym
+    (sym c.loop-base.invariant
+    ∙ rest_is given.header given.bases.now c.loop-base.base-index (omega arith)
+    ∙ row_refused _ _ _ 0 (sym c.in_err-check_one.ensures))
 
-pub loop-i-preserved : goal.loop-i-preserved
-loop-i-preserved c =
+pub loop-base-preserved : goal.loop-base-preserved
+loop-base-preserved c =
     let given = c.args in
-    let next : suc c.loop-i.i ≡ c.loop-i.i + 1 = omega arith in (
-      omega arith,
-      ap (λ (n : ℕ). outcome {A = ℕ} (row_rules given.header (drop n given.bases.now)) 0) (sym next)
-          ∙ sym (row_passed _ _ _ 0 (sym c.in-Answered.ensures))
-          ∙ sym (rest_is given.header given.bases.now c.loop-i.i (omega arith))
-          ∙ c.loop-i.invariant.1,
-    )
+    let next : suc c.loop-base.base-index ≡ c.loop-base.base-index + 1 = omega arith in
+    ap (λ (n : ℕ). outcome {A = ℕ} (row_rules given.header (drop n given.bases.now)) 0) (sym next)
+    ∙ sym (row_passed _ _ _ 0 (sym c.in_ok-check_one.ensures))
+    ∙ sym (rest_is given.header given.bases.now c.loop-base.base-index (omega arith))
+    ∙ c.loop-base.invariant
 
 pub returns : goal.returns
 returns c =
     let given = c.args in
-    let none : drop c.loop-i.i given.bases.now ≡ [] = drop_of_length-le given.bases.now {i = c.loop-i.i} (omega arith) in
-    sym (sym c.loop-i.invariant.1 ∙ ap (λ (l : List ℕ). outcome (row_rules given.header l) 0) none ∙ row_none given.header 0)
+    let none : drop c.loop-base.base-index given.bases.now ≡ [] = drop_of_length-le given.bases.now {i = c.loop-base.base-index} (omega arith) in
+    sym (sym c.loop-base.invariant ∙ ap (λ (l : List ℕ). outcome (row_rules given.header l) 0) none ∙ row_none given.header 0)

@@ -3,7 +3,7 @@ use Rattle.lister.proofs.list_refusal.Goals as goal
 
 pub returns : goal.returns
 returns c =
-    let n = c.number-number.ensures in
+    let n = c.from-number.ensures in
     record {
       put = rw n at c.refused_line-end.ensures;
       number_value = n;

@@ -26,7 +26,7 @@ fits c = put_inside c.list_bytes-made.ensures.put (omega arith)
 pub returns-then-lines-count : goal.returns-then-lines-count
 returns-then-lines-count c =
     let p = row_short c.args.bytes.now c.args.lines.now (omega (arith, c.if-lines-count.true, count (goal.at.returns-then-lines-count c).After-list_bytes-made)) in
-    rw c.number.ensures (record { value = p.0; lines_after = p.1 })
+    rw c.from.ensures (record { value = p.0; lines_after = p.1 })
 
 pub slice_bounds-text-end : goal.slice_bounds-text-end
 slice_bounds-text-end c = fits (goal.at.slice_bounds-text-end c).After-list_bytes-made

@@ -1,13 +1,14 @@
 -- Build by cases: the first test that fails gives the refusal and keeps the row; where all four pass, what is left is the room, which
 -- is tested where the words are written.
+use Rattle.std.specs.Prelude.{Result}
 use mathlib.Core.Path.{◌≡◌, sym, ap, ◌∙◌}
 use mathlib.Core.Bool.{true, false}
 use mathlib.Core.List.{List}
 use Prim.Native.Nat.{ℕ}
 use native.Mathlib.Omega.{arith}
 use lib.ListN.{length}
-use Rattle.refusal.specs.declared.NumberAnswer.{NumberAnswer}
-use Rattle.refusal.specs.Outcomes.{Outcome, refused, number_outcome_of, gives, passes, buffer_after, row_kept}
+use Rattle.refusal.specs.declared.Refusal.{Refusal}
+use Rattle.refusal.specs.Outcomes.{Outcome, refused, outcome_of, gives, passes, buffer_after, row_kept}
 use Rattle.modular.specs.Inverses.{bad_exponent}
 use Rattle.refusal.proofs.Laws.Tests.{by_test}
 use Rattle.modular.proofs.Laws.Inverses.{inverse_order}
@@ -46,8 +47,8 @@ module _ (p r k variant : ℕ) (row : List ℕ) where
         unfolding build_outcome
         variant_refused bad = kept (passes _ _ _ modulus ∙ passes _ _ _ order ∙ passes _ _ _ exponent ∙ gives _ _ _ bad)
 
-        pub left_to_room : bad_variant variant ≡ false → {answer : NumberAnswer} {after : List ℕ} → Built (named_words p r k variant) row answer after
-            → BuildContract (number_outcome_of answer) after
+        pub left_to_room : bad_variant variant ≡ false → {answer : Result ℕ Refusal} {after : List ℕ} → Built (named_words p r k variant) row answer after
+            → BuildContract (outcome_of answer) after
         unfolding build_outcome build_buffer room_outcome
         left_to_room is_named_lem b =
             let words : List ℕ = named_words p r k variant in

@@ -1,5 +1,6 @@
 -- A call whose result is a program's words: it is refused where the row is too short; else the tape is laid out in the row and the words
 -- of its steps are written, and that row is what the definition leaves.
+use Rattle.std.specs.Prelude.{Ok, Err}
 use mathlib.Core.Path.{◌≡◌, refl, sym, ap, ◌∙◌}
 use mathlib.Core.Logic.{inl}
 use mathlib.Core.List.{List, [], map}
@@ -11,7 +12,6 @@ use Rattle.refusal.proofs.Laws.Tests.{both}
 use borrow.Author.Tests.{leb-true, lt-ltb, le-ltb}
 use lib.ListN.{length, get_or, length-map}
 use Rattle.refusal.specs.declared.Refusal.TheVariants.{Room}
-use Rattle.refusal.specs.declared.NumberAnswer.TheVariants.{Answered, Refused}
 use Rattle.refusal.specs.Outcomes.{refused, answered, gives, passes, answers, row_kept, row_written}
 use Rattle.std.proofs.lemmas.List.Edits.{sets}
 use Rattle.modular.proofs.Laws.Inverses.{good_exponent_lem}
@@ -100,7 +100,7 @@ module _ {p r k variant : ℕ} {rows : FormRows} (w : Writable p r k variant) (g
     total_is : word_count h ≡ length (program_words q)
     total_is = ap word_count header_is ∙ sym (program_length q)
 
-    pub built_short : {row after : List ℕ} → has_place h (length row) ≡ false → after ≡ laid_buffer h row → Built (program_words q) row (Refused Room) after
+    pub built_short : {row after : List ℕ} → has_place h (length row) ≡ false → after ≡ laid_buffer h row → Built (program_words q) row (Err Room) after
     built_short {row} none is =
         elim (dec_lt (length row) (word_count h)) [
           | yes less ↦
@@ -119,7 +119,7 @@ module _ {p r k variant : ℕ} {rows : FormRows} (w : Writable p r k variant) (g
           rw (header_is, words_are, length-map (named_steps variant r k) step_word) (steps_fit q (named_lawful p r k variant w) row long)
 
       pub built_written : {laid after : List ℕ} {at n : ℕ} → at ≡ lay_begin h (length row) → laid ≡ laid_buffer h row
-          → after ≡ sets laid at (drawn_words rows) → n ≡ word_count h → Built (program_words q) row (Answered n) after
+          → after ≡ sets laid at (drawn_words rows) → n ≡ word_count h → Built (program_words q) row (Ok n) after
       built_written begin is drawn e =
           let done = enough (program_words q) (length row) long in
           record {

@@ -1,9 +1,8 @@
 -- What the functions under build and check are given and leave, for their contracts.
-use Rattle.std.specs.Prelude.{◌≡◌, true, false, not, List, [], ◌∷◌, ℕ, ◌<◌, length}
+use Rattle.std.specs.Prelude.{◌≡◌, true, false, not, List, [], ◌∷◌, ℕ, ◌<◌, length, Result}
 use Rattle.refusal.specs.declared.Refusal.{Refusal}
 use Rattle.refusal.specs.declared.Refusal.TheVariants.{Length, Word}
-use Rattle.refusal.specs.declared.NumberAnswer.{NumberAnswer}
-use Rattle.refusal.specs.Outcomes.{Outcome, outcome, number_outcome_of, ◌given_if◌, buffer_after}
+use Rattle.refusal.specs.Outcomes.{Outcome, outcome, outcome_of, ◌given_if◌, buffer_after}
 use Rattle.modular.specs.Inverses.{bad_exponent}
 use Rattle.tape.specs.declared.Header.{Header}
 use Rattle.tape.specs.Words.{number_limit}
@@ -19,8 +18,8 @@ pub record Writable (p r k variant : ℕ) : Type 0 where
   pub named : bad_variant variant ≡ false
 
 -- the answer and the row at exit of a call whose result is these words
-pub record Built (words row : List ℕ) (answer : NumberAnswer) (after : List ℕ) : Type 0 where
-  pub outcome_is : number_outcome_of answer ≡ room_outcome words (length row)
+pub record Built (words row : List ℕ) (answer : Result ℕ Refusal) (after : List ℕ) : Type 0 where
+  pub outcome_is : outcome_of answer ≡ room_outcome words (length row)
   pub row_is : after ≡ buffer_after (room_outcome words (length row)) words row
 
 -- a tape that is refused, unless the layout refuses it first

@@ -4,7 +4,7 @@ use mathlib.Core.Path.{sym, ap, ◌∙◌}
 use mathlib.Core.List.{List}
 use Prim.Native.Nat.{ℕ}
 use native.Mathlib.Omega.{arith}
-use Rattle.refusal.specs.Outcomes.{number_outcome_of}
+use Rattle.refusal.proofs.Laws.Exits.{exit_verdict}
 use Rattle.tape.specs.Inner.Operations.{raw_steps}
 use Rattle.lanes.specs.Inner.Lanes.{through_lanes}
 use Rattle.sequencer.proofs.Laws.Bases.{raise_free, raise_many, raise_row, raise_refused, raise_passed}
@@ -25,20 +25,19 @@ returns-then-bases-gt-MAX_BASES c =
       bases_after = told.1;
     }
 
-pub returns-in-Refused : goal.returns-in-Refused
-returns-in-Refused c =
+pub returns-in_err-check_bases : goal.returns-in_err-check_bases
+returns-in_err-check_bases c =
     let told = raise_refused _ _ _ c.requires
     (raise_row _ _ 0 c.if-header-eq0.false c.if-bases-gt-MAX_BASES.false
-    ∙ sym c.check_bases.ensures
-    ∙ ap number_outcome_of c.in-Refused.is) in record {
-      result_value = told.0;
+    ∙ sym c.in_err-check_bases.ensures) in record {
+      result_value = exit_verdict _ _ c.from_residual.ensures.1 ∙ told.0;
       bases_after = told.1;
     }
 
-pub returns-in-Answered : goal.returns-in-Answered
-returns-in-Answered c =
+pub returns : goal.returns
+returns c =
     let few = c.if-bases-gt-MAX_BASES.false in
-    let all = sym c.check_bases.ensures ∙ ap number_outcome_of c.in-Answered.is in
+    let all = sym c.in_ok-check_bases.ensures in
     let told = raise_passed _ _ _ c.requires _ (raise_row _ _ 0 c.if-header-eq0.false few ∙ all)
     (c.run_lanes.ensures
     ∙ ap (λ (l : List ℕ). through_lanes c.modulus_of.result (raw_steps l) c.args.bases.now) c.steps.ensures

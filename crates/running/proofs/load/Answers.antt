@@ -1,13 +1,14 @@
 -- `load` meets its contract: what check refuses, load refuses, and the rules past it are `load_accepted`'s.
-use mathlib.Core.Path.{sym, ap, ◌∙◌}
-use Rattle.tape.specs.Layout.{header_outcome_of}
+use Rattle.std.proofs.Common.{sym, ◌∙◌}
+use Rattle.refusal.proofs.Laws.Exits.{exit_by}
 use Rattle.program.proofs.Laws.Door.{tape_refused}
+use Rattle.sequencer.specs.Records.{record_of}
 use Rattle.sequencer.specs.Services.{load_outcome}
 use Rattle.running.proofs.load.Goals as goal
 
 pub load_accepted-requires : goal.load_accepted-requires
-load_accepted-requires c = sym c.accept.ensures ∙ ap header_outcome_of c.in-Answered.is
+load_accepted-requires c = sym c.in_ok-header.ensures
 
-pub returns-in-Refused : goal.returns-in-Refused
+pub returns-in_err-header : goal.returns-in_err-header
 unfolding load_outcome
-returns-in-Refused c = sym (tape_refused _ _ _ (sym c.accept.ensures ∙ ap header_outcome_of c.in-Refused.is))
+returns-in_err-header c = exit_by _ record_of _ c.from_residual.ensures.1 ∙ sym (tape_refused _ _ _ (sym c.in_err-header.ensures))

@@ -1,13 +1,14 @@
 -- `run` meets its contract: what check refuses, run refuses, and the rules past it are `run_accepted`'s.
-use mathlib.Core.Path.{sym, ap, ◌∙◌}
-use Rattle.tape.specs.Layout.{header_outcome_of}
+use Rattle.std.proofs.Common.{sym, ◌∙◌}
+use Rattle.refusal.proofs.Laws.Exits.{exit_by}
 use Rattle.program.proofs.Laws.Door.{tape_refused}
+use Rattle.sequencer.specs.Records.{record_of}
 use Rattle.sequencer.specs.Services.{run_outcome}
 use Rattle.running.proofs.run.Goals as goal
 
 pub run_accepted-requires : goal.run_accepted-requires
-run_accepted-requires c = sym c.accept.ensures ∙ ap header_outcome_of c.in-Answered.is
+run_accepted-requires c = sym c.in_ok-header.ensures
 
-pub returns-in-Refused : goal.returns-in-Refused
+pub returns-in_err-header : goal.returns-in_err-header
 unfolding run_outcome
-returns-in-Refused c = sym (tape_refused _ _ _ (sym c.accept.ensures ∙ ap header_outcome_of c.in-Refused.is))
+returns-in_err-header c = exit_by _ record_of _ c.from_residual.ensures.1 ∙ sym (tape_refused _ _ _ (sym c.in_err-header.ensures))

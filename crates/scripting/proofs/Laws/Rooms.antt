@@ -1,14 +1,14 @@
 -- Build's tape, and what is put into a buffer: what the code counts in its buffer are the words of the named program, and a part of a buffer whose
 -- elements are one number is a buffer of that number.
+use Rattle.std.specs.Prelude.{Result, Ok, Err}
 use mathlib.Core.Path.{◌≡◌, sym, ap, ◌∙◌}
 use mathlib.Core.List.{List, [], ◌∷◌, ◌++◌}
 use Prim.Native.Nat.{ℕ, ◌+◌, ◌-◌, ◌*◌, ◌≤◌}
 use native.Mathlib.Omega.{arith}
 use lib.ListN.{length, get_or, take, length-append, length-replicate, replicate-append-replicate}
 use lib.Seq.{take_at}
-use Rattle.refusal.specs.declared.NumberAnswer.{NumberAnswer}
-use Rattle.refusal.specs.declared.NumberAnswer.TheVariants.{Answered, Refused}
-use Rattle.refusal.specs.Outcomes.{number_outcome_of}
+use Rattle.refusal.specs.declared.Refusal.{Refusal}
+use Rattle.refusal.specs.Outcomes.{outcome_of}
 use Rattle.refusal.proofs.Laws.Rows.{wrote_length}
 use Rattle.text.specs.Text.{number_line, numbers_line}
 use Rattle.text.specs.Rows.{Put}
@@ -50,40 +50,40 @@ filled_part n room h =
 -- ---- build
 
 module _ (p r k variant : ℕ) (row : List ℕ) where
-  pub built_count : (answer : NumberAnswer) → number_outcome_of answer ≡ build_outcome p r k variant (length row) → count_in answer ≤ length row
-  built_count (Answered n) e = omega (arith, build_count p r k variant (length row) n (sym e))
-  built_count (Refused x) e = omega arith
+  pub built_count : (answer : Result ℕ Refusal) → outcome_of answer ≡ build_outcome p r k variant (length row) → count_in answer ≤ length row
+  built_count (Ok n) e = omega (arith, build_count p r k variant (length row) n (sym e))
+  built_count (Err x) e = omega arith
 
-  pub built_as_lem : (capacity : ℕ) (s : State) (answer : NumberAnswer) (refusal text : List ℕ) → number_outcome_of answer ≡ build_outcome p r k variant (length row)
-      → built_as capacity s (number_outcome_of answer) (take (count_in answer) (build_buffer p r k variant row)) refusal text
+  pub built_as_lem : (capacity : ℕ) (s : State) (answer : Result ℕ Refusal) (refusal text : List ℕ) → outcome_of answer ≡ build_outcome p r k variant (length row)
+      → built_as capacity s (outcome_of answer) (take (count_in answer) (build_buffer p r k variant row)) refusal text
       ≡ built_as capacity s (build_outcome p r k variant (length row)) (named_words p r k variant) refusal text
-  built_as_lem capacity s (Answered n) refusal text e =
+  built_as_lem capacity s (Ok n) refusal text e =
       rw (← e) (ap (λ (words : List ℕ). with_tape capacity s words text) (build_words p r k variant n row (sym e)))
-  built_as_lem capacity s (Refused x) refusal text e = rw (← e)
+  built_as_lem capacity s (Err x) refusal text e = rw (← e)
 
-  pub did_built_into : {before after row' : List ℕ} {x : Printed} (capacity own : ℕ) (v : List ℕ) (s : State) (answer : NumberAnswer)
-      → p ≡ at v 0 → r ≡ at v 1 → k ≡ at v 2 → variant ≡ at v 3 → number_outcome_of answer ≡ build_outcome p r k variant (length row)
+  pub did_built_into : {before after row' : List ℕ} {x : Printed} (capacity own : ℕ) (v : List ℕ) (s : State) (answer : Result ℕ Refusal)
+      → p ≡ at v 0 → r ≡ at v 1 → k ≡ at v 2 → variant ≡ at v 3 → outcome_of answer ≡ build_outcome p r k variant (length row)
       → Did
-      (built_as capacity s (number_outcome_of answer) (take (count_in answer) (build_buffer p r k variant row))
-      ((printed own (number_outcome_of answer) number_line).text ++ numbers_line (build_buffer p r k variant row))
-      ((printed own (number_outcome_of answer) number_line).text ++ numbers_line (build_buffer p r k variant row)))
+      (built_as capacity s (outcome_of answer) (take (count_in answer) (build_buffer p r k variant row))
+      ((printed own (outcome_of answer) number_line).text ++ numbers_line (build_buffer p r k variant row))
+      ((printed own (outcome_of answer) number_line).text ++ numbers_line (build_buffer p r k variant row)))
       before x row' after
       → Did (build_into capacity row own v s) before x row' after
   unfolding build_into
   did_built_into capacity own v s answer a b c d e did =
-      rw (← a, ← b, ← c, ← d) (rw e at (rw (built_as_lem capacity s answer ((printed own (number_outcome_of answer) number_line).text ++ numbers_line (build_buffer p r k variant row)) ((printed own (number_outcome_of answer) number_line).text ++ numbers_line (build_buffer p r k variant row)) e) at did))
+      rw (← a, ← b, ← c, ← d) (rw e at (rw (built_as_lem capacity s answer ((printed own (outcome_of answer) number_line).text ++ numbers_line (build_buffer p r k variant row)) ((printed own (outcome_of answer) number_line).text ++ numbers_line (build_buffer p r k variant row)) e) at did))
 
-  pub did_built_line : {before after row' : List ℕ} {x : Printed} (capacity own : ℕ) (v : List ℕ) (s : State) (answer : NumberAnswer) → length row ≡ max_words
-      → p ≡ at v 0 → r ≡ at v 1 → k ≡ at v 2 → variant ≡ at v 3 → number_outcome_of answer ≡ build_outcome p r k variant (length row)
+  pub did_built_line : {before after row' : List ℕ} {x : Printed} (capacity own : ℕ) (v : List ℕ) (s : State) (answer : Result ℕ Refusal) → length row ≡ max_words
+      → p ≡ at v 0 → r ≡ at v 1 → k ≡ at v 2 → variant ≡ at v 3 → outcome_of answer ≡ build_outcome p r k variant (length row)
       → Did
-      (built_as capacity s (number_outcome_of answer) (take (count_in answer) (build_buffer p r k variant row)) (printed own (number_outcome_of answer) number_line).text
+      (built_as capacity s (outcome_of answer) (take (count_in answer) (build_buffer p r k variant row)) (printed own (outcome_of answer) number_line).text
       (numbers_line (take (count_in answer) (build_buffer p r k variant row))))
       before x row' after
       → Did (build_line capacity own v s) before x row' after
   unfolding build_line
-  did_built_line capacity own v s (Answered n) size a b c d e did =
+  did_built_line capacity own v s (Ok n) size a b c d e did =
       rw (← a, ← b, ← c, ← d, ← size, ← e) (rw (build_words p r k variant n row (sym e)) at did)
-  did_built_line capacity own v s (Refused x) size a b c d e did = rw (← a, ← b, ← c, ← d, ← size, ← e) did
+  did_built_line capacity own v s (Err x) size a b c d e did = rw (← a, ← b, ← c, ← d, ← size, ← e) did
 
 -- ---- in a room
 
@@ -107,14 +107,14 @@ pub put_list_in : {before after : List ℕ} {next : ℕ} (room : ℕ) (tape row 
 unfolding list_in
 put_list_in room tape row bytes e f p = rw f at (rw e at p)
 
-pub put_places_into : {before mid after : List ℕ} {told : Reply} {next : ℕ} (row : List ℕ) (n own : ℕ) (found : NumberAnswer)
+pub put_places_into : {before mid after : List ℕ} {told : Reply} {next : ℕ} (row : List ℕ) (n own : ℕ) (found : Result ℕ Refusal)
     → length (places_buffer n row) ≤ max_room
-    → number_outcome_of found ≡ places_outcome n (length row) → Told before (printed own (number_outcome_of found) number_line) told mid
+    → outcome_of found ≡ places_outcome n (length row) → Told before (printed own (outcome_of found) number_line) told mid
     → Put mid told.length (numbers_line (places_buffer n row)) next after → length (numbers_line (places_buffer n row)) ≤ 4 * length (places_buffer n row) + 1
     → Prints before (places_into row own (n ∷ [])) next after
 unfolding places_into
 put_places_into row n own found size e told w few =
-    let text = (printed own (number_outcome_of found) number_line).text in
+    let text = (printed own (outcome_of found) number_line).text in
     rw (← e)
     (puts_join told.text w, omega (arith, length-append text (numbers_line (places_buffer n row)), told.short))
 

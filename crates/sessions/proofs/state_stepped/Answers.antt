@@ -3,14 +3,14 @@ use mathlib.Core.Path.{sym, ap, ◌∙◌}
 use Rattle.sequencer.specs.Records.{state_outcome_of}
 use Rattle.sessions.proofs.state_stepped.Goals as goal
 
-pub returns-in-Answered : goal.returns-in-Answered
-returns-in-Answered c = let e = sym c.step.ensures ∙ ap state_outcome_of c.in-Answered.is in record {
+pub returns-in-Ok : goal.returns-in-Ok
+returns-in-Ok c = let e = sym c.step.ensures ∙ ap state_outcome_of c.in-Ok.is in record {
   state_value = rw e;
   number_value = rw e;
 }
 
-pub returns-in-Refused : goal.returns-in-Refused
-returns-in-Refused c = let e = sym c.step.ensures ∙ ap state_outcome_of c.in-Refused.is in record {
+pub returns-in-Err : goal.returns-in-Err
+returns-in-Err c = let e = sym c.step.ensures ∙ ap state_outcome_of c.in-Err.is in record {
   state_value = rw e;
-  number_value = rw e c.number.ensures;
+  number_value = rw e c.from.ensures;
 }

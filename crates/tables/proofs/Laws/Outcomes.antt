@@ -6,7 +6,6 @@ use Prim.Native.Nat.{ℕ, ◌<◌}
 use borrow.Author.Tests.{not-true, not-false}
 use lib.IntN.{ℤ}
 use Rattle.refusal.specs.declared.Refusal.TheVariants.{Range}
-use Rattle.refusal.specs.Refusals.{number_of}
 use Rattle.refusal.specs.Outcomes.{refused, answered, gives, passes, answers}
 use Rattle.refusal.proofs.Laws.Rules.{passed, refused_by, answer_is}
 use Rattle.matrices.specs.Matrices.{transposed}
@@ -18,9 +17,9 @@ use Rattle.tables.specs.Inner.Columns.{column_outcome, columns_outcome}
 use Rattle.tables.proofs.Laws.Ranges.{column_leaves, stays_columns}
 
 module _ (xs : List Step) where
-  pub columns_refused : (j : ℕ) {n : ℕ} → j < 4 → column_outcome xs j ≡ refused n → columns_outcome xs ≡ refused (number_of Range)
+  pub columns_refused : (j : ℕ) {n : ℕ} → j < 4 → column_outcome xs j ≡ refused n → columns_outcome xs ≡ refused n
   unfolding column_outcome columns_outcome
-  columns_refused j h e = gives _ _ _ (ap not (column_leaves xs j h (not-true _ (refused_by _ Range _ e).0)))
+  columns_refused j h e = let by = refused_by _ Range _ e in gives _ _ _ (ap not (column_leaves xs j h (not-true _ by.0))) ∙ ap refused by.1
 
   module _ (j : ℕ) {z : List ℤ} (e : column_outcome xs j ≡ answered z) where
     column_stays : stays_in_range xs (unit j) ≡ true

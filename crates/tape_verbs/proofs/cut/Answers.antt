@@ -1,17 +1,14 @@
--- `cut` meets its contract: its number isn't 0 exactly where it is refused, and a part has no more words than a tape.
-use mathlib.Core.Path.{◌∙◌, sym}
-use Rattle.refusal.proofs.Laws.Rules.{by_number}
-use Rattle.sequencer.specs.Services.{cut_outcome}
+-- `cut` meets its contract: a refusal is told, and a part has no more words than a tape.
+use Rattle.std.proofs.Common.{sym, ap}
+use Rattle.refusal.specs.Outcomes.{refusal_number}
+use Rattle.sequencer.specs.Services.{cut_part}
 use Rattle.tool.proofs.Laws.Cuts.{cut_told}
 use Rattle.tape_verbs.proofs.cut.Goals as goal
 
-pub returns-then-number-ne0 : goal.returns-then-number-ne0
-returns-then-number-ne0 c =
-    let a = c.args in
-    let number = c.cut-part.ensures.number_after in
-    rw (by_number (cut_outcome a.tape.now a.first a.last) (λ zero. c.if-number-ne0.true (number ∙ zero)), ← number) c.refuse.ensures
+pub returns-in-Err : goal.returns-in-Err
+returns-in-Err c = rw (sym c.in-Err.ensures, ← c.from.ensures) c.refuse.ensures
 
-pub returns : goal.returns
-returns c =
+pub returns-in-Ok : goal.returns-in-Ok
+returns-in-Ok c =
     let a = c.args in
-    cut_told a.own a.tape.now a.first a.last c.cut-part.ensures.result_value (sym c.cut-part.ensures.number_after ∙ c.if-number-ne0.false) c.numbers_line.ensures.put c.numbers_line.ensures.short
+    cut_told a.own a.tape.now a.first a.last (ap cut_part c.in-Ok.ensures) (ap refusal_number (sym c.in-Ok.ensures)) c.numbers_line.ensures.put c.numbers_line.ensures.short

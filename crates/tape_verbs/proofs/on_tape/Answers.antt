@@ -22,7 +22,7 @@ play-requires c = few_2 c
 
 pub returns-in-Check : goal.returns-in-Check
 unfolding tape_reply
-returns-in-Check c = rw c.in-Check.is (rw c.check.ensures at c.answer.ensures)
+returns-in-Check c = rw c.in-Check.is c.check.ensures
 
 pub returns-in-Listing : goal.returns-in-Listing
 unfolding tape_reply

@@ -3,13 +3,13 @@ use mathlib.Core.Path.{refl}
 use native.Mathlib.Omega.{arith}
 use Rattle.tape_verbs.proofs.raise_row.Goals as goal
 
-pub returns-in-Refused : goal.returns-in-Refused
-returns-in-Refused c =
+pub returns-in-Err : goal.returns-in-Err
+returns-in-Err c =
     let raise = c.raise in
-    rw (← raise.ensures.result_value, c.in-Refused.is, ← c.number.ensures)
+    rw (← raise.ensures.result_value, c.in-Err.is, ← c.from.ensures)
     c.refuse.ensures
 
-pub returns-in-Answered : goal.returns-in-Answered
-returns-in-Answered c =
-    rw (← c.raise.ensures.result_value, c.in-Answered.is, ← c.raise.ensures.bases_after)
+pub returns-in-Ok : goal.returns-in-Ok
+returns-in-Ok c =
+    rw (← c.raise.ensures.result_value, c.in-Ok.is, ← c.raise.ensures.bases_after)
     (record { status = refl; text = c.numbers_line.ensures.put; short = omega (arith, c.numbers_line.ensures.short, c.raise.auto.bases, c.requires) })
