@@ -1,11 +1,15 @@
 -- `build` meets its contract: each return is a case of build (Laws/Answering), and what the four tests leave is what `forms` and `write` ask.
-use Rattle.std.proofs.Common.{◌≡◌, sym, ◌∙◌, false, arith}
+use Rattle.std.proofs.Common.{◌≡◌, sym, ap, ◌∙◌, false, arith}
+use Rattle.refusal.specs.declared.Refusal.{Refusal}
+use Rattle.refusal.specs.Refusals.{number_of}
+use Rattle.refusal.specs.Outcomes.{refused}
+use Rattle.refusal.proofs.Laws.Exits.{exit_of}
 use Rattle.modular.specs.Inverses.{bad_exponent}
 use Rattle.named.specs.Parameters.{bad_modulus, bad_order, bad_variant}
 use Rattle.named.proofs.Laws.Parameters.{good_modulus_lem, variant_named}
 use Rattle.program.proofs.Laws.Answering.{modulus_refused, order_refused, exponent_refused, variant_refused, left_to_room, no_inverse, some_inverse, invertible, writable}
 use Rattle.building.proofs.build.Goals as goal
-use Rattle.building.proofs.build.Goals.{Else-is_bad_modulus, Else-is_bad_order, Else-inverse-eq0, In-Ok}
+use Rattle.building.proofs.build.Goals.{Else-is_bad_modulus, Else-is_bad_order, Else-inverse-eq0, In_ok-named}
 
 pub returns-then-is_bad_modulus : goal.returns-then-is_bad_modulus
 returns-then-is_bad_modulus c = let both = modulus_refused _ _ _ _ _ (sym c.is_bad_modulus.ensures ∙ c.if-is_bad_modulus.true) in record { result_value = both.0; buffer_after = both.1 }
@@ -35,30 +39,31 @@ returns-then-inverse-eq0 c =
     let both = exponent_refused _ _ _ _ _ (modulus at.Else-is_bad_modulus) (order at.Else-is_bad_order) (no_inverse _ _ (sym c.good_inverse-inverse.ensures ∙ c.if-inverse-eq0.true)) in
     record { result_value = both.0; buffer_after = both.1 }
 
-pub returns-in_default : goal.returns-in_default
-returns-in_default c =
-    let at = goal.at.returns-in_default c in
-    let both = variant_refused _ _ _ _ _ (modulus at.Else-is_bad_modulus) (order at.Else-is_bad_order) (exponent at.Else-inverse-eq0) c.in_default.ensures.0 in
-    record { result_value = both.0; buffer_after = both.1 }
+pub returns-in_err-named : goal.returns-in_err-named
+returns-in_err-named c =
+    let at = goal.at.returns-in_err-named c in
+    let none = c.in_err-named.ensures in
+    let both = variant_refused _ _ _ _ _ (modulus at.Else-is_bad_modulus) (order at.Else-is_bad_order) (exponent at.Else-inverse-eq0) none.0 in
+    record { result_value = exit_of _ _ c.from_residual.ensures.1 ∙ ap (λ (e : Refusal). refused (number_of e)) none.1 ∙ both.0; buffer_after = both.1 }
 
 pub forms-requires : goal.forms-requires
 forms-requires c =
     let at = goal.at.forms-requires c in
     invertible _ _ _ (modulus at.Else-is_bad_modulus) (order at.Else-is_bad_order) (exponent at.Else-inverse-eq0) c.good_inverse-inverse.ensures
 
-variant : (c : In-Ok) → bad_variant c.args.variant ≡ false
-variant c = rw c.in-Ok.ensures (variant_named c.in-Ok.named)
+variant : (c : In_ok-named) → bad_variant c.args.variant ≡ false
+variant c = rw c.in_ok-named.ensures (variant_named c.in_ok-named.named)
 
 pub write-requires : goal.write-requires
 write-requires c =
     let at = goal.at.write-requires c in
     record {
-      writable = writable _ _ _ (modulus at.Else-is_bad_modulus) (order at.Else-is_bad_order) (exponent at.Else-inverse-eq0) _ (variant at.In-Ok);
-      rows_from_table = rw c.in-Ok.ensures c.forms.ensures;
+      writable = writable _ _ _ (modulus at.Else-is_bad_modulus) (order at.Else-is_bad_order) (exponent at.Else-inverse-eq0) _ (variant at.In_ok-named);
+      rows_from_table = rw c.in_ok-named.ensures c.forms.ensures;
     }
 
 pub returns : goal.returns
 returns c =
     let at = goal.at.returns c in
-    let both = left_to_room _ _ _ _ _ (modulus at.Else-is_bad_modulus) (order at.Else-is_bad_order) (exponent at.Else-inverse-eq0) (variant at.In-Ok) c.write.ensures in
+    let both = left_to_room _ _ _ _ _ (modulus at.Else-is_bad_modulus) (order at.Else-is_bad_order) (exponent at.Else-inverse-eq0) (variant at.In_ok-named) c.write.ensures in
     record { result_value = both.0; buffer_after = both.1 }
