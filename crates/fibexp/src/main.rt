@@ -2,7 +2,7 @@
 // reply.
 #![tactic(auto)]
 
-ghost use Rattle.std.specs.Prelude.{◌≡◌, ◌≤◌, length, take};
+ghost use Rattle.std.specs.Prelude.{◌≡◌, ◌≤◌, length, take, IfOk, IfSome};
 ghost use Rattle.text.specs.Reading.{split_words};
 ghost use Rattle.tool.specs.Replies.{reply};
 ghost use Rattle.tool.specs.Rows.{max_text};
@@ -19,73 +19,42 @@ use tool::{ANSWERED, MAX_TEXT, Reply};
 // One word more than a tape has is enough to see that there are too many.
 const MAX_READ: usize = MAX_BYTES + WORD_BYTES;
 
-// The words of a command line, a zero byte after each.
-const MAX_ARGUMENTS: usize = 4096;
+// The most bytes of a command line's words, a zero byte after each.
+const MAX_ARGUMENTS: usize = 4095;
 
 fn main(rt: HostRuntime) {
     let mut arguments = [0u8; MAX_ARGUMENTS];
-    let count = gather(rt, &mut arguments);
-    if count == MAX_ARGUMENTS {
+    let Some(count) = gather(rt, &mut arguments) else {
         let _told = write_error(rt, b"fibexp: a command line of more than 4095 bytes\n");
         return;
-    }
+    };
     answer(rt, &arguments[..count]);
 }
 
-// Puts the words after the program's name into the row; the row is full where they don't fit.
-fn gather(rt: HostRuntime, row: &mut [u8]) -> usize
-    ensures { result ≤ length row.new }
+// Puts the words after the program's name into the row, and answers how many bytes they take; none where they don't fit.
+fn gather(rt: HostRuntime, row: &mut [u8]) -> Option<usize>
+    ensures { IfSome result (λ count. count ≤ length row.new) }
 {
     let mut at: usize = 0;
-    let mut i: usize = 1;
-    while at < row.len() {
-        let added = add(rt, row, at, i);
-        if added.last {
-            return at;
+    // Each word takes a byte or more of the row.
+    for i in 1..MAX_ARGUMENTS + 2 {
+        match add(rt, i, &mut row[at..]) {
+            Ok(count) => at += count,
+            Err(FillError::NotPresent) => return Some(at),
+            Err(FillError::TooLong) => return None,
         }
-        let next = added.end;
-        if row.len() <= next {
-            return row.len();
-        }
-        row[next] = 0;
-        at = next + 1;
-        i += 1;
     }
-    at
+    None
 }
 
-// The index past an argument, the row's length where it doesn't fit; or that there is no argument more.
-#[derive(Clone, Copy)]
-struct Added {
-    end: usize,
-    last: bool,
-}
-
-// Puts argument i from `at` on.
-fn add(rt: HostRuntime, row: &mut [u8], at: usize, i: usize) -> Added
-    ensures within { result.end ≤ length row.new }
-    ensures onward { at ≤ length row.old → at ≤ result.end }
+// Puts argument i and a zero byte at the row's start, and answers how many bytes they take.
+fn add(rt: HostRuntime, i: usize, row: &mut [u8]) -> Result<usize, FillError>
+    ensures { IfOk result (λ count. count ≤ length row.new) }
 {
-    if row.len() <= at {
-        return Added {
-            end: row.len(),
-            last: false,
-        };
-    }
-    match rt.arg(i, &mut row[at..]) {
-        Ok(length) => Added {
-            end: at + length,
-            last: false,
-        },
-        Err(FillError::NotPresent) => Added {
-            end: at,
-            last: true,
-        },
-        Err(FillError::TooLong) => Added {
-            end: row.len(),
-            last: false,
-        },
-    }
+    let length = rt.arg(i, row)?;
+    let end = row.get_mut(length).ok_or(FillError::TooLong)?;
+    *end = 0;
+    Ok(length + 1)
 }
 
 // Reads standard input only where the verb takes it, so that no other waits for it.
@@ -99,21 +68,18 @@ fn answer(rt: HostRuntime, arguments: &[u8]) {
         return;
     }
     let mut bytes = [0u8; MAX_READ];
-    let input = read_input(rt, &mut bytes);
-    if input.failed {
-        return;
+    if let Ok(count) = read_input(rt, &mut bytes) {
+        write(rt, arguments, &bytes[..count]);
     }
-    let count = input.count;
-    write(rt, arguments, &bytes[..count]);
 }
 
 // Writes the reply to the stream that its status names.
 fn write(rt: HostRuntime, arguments: &[u8], input: &[u8]) {
     let mut text = [0u8; MAX_TEXT];
     let made = whole_reply(arguments, input, &mut text);
-    let count = made.length;
+    let text = &text[..made.length];
     if made.status != ANSWERED {
-        let _told = write_error(rt, &text[..count]);
+        let _told = write_error(rt, text);
         return;
     }
     if is_tape_to_terminal(rt, arguments) {
@@ -123,7 +89,7 @@ fn write(rt: HostRuntime, arguments: &[u8], input: &[u8]) {
         );
         return;
     }
-    let _taken = write_output(rt, &text[..count]);
+    let _taken = write_output(rt, text);
 }
 
 // The reply in a row that no reply is too long for: nothing of it is dropped.
@@ -138,8 +104,5 @@ fn whole_reply(arguments: &[u8], input: &[u8], text: &mut [u8]) -> Reply
 
 // A tape isn't written to a terminal.
 fn is_tape_to_terminal(rt: HostRuntime, arguments: &[u8]) -> bool {
-    if !rt.stdout().is_terminal() {
-        return false;
-    }
-    writes_tape(arguments)
+    rt.stdout().is_terminal() && writes_tape(arguments)
 }

@@ -11,13 +11,10 @@ const MAX_READ: usize = MAX_BYTES + 1;
 
 fn main(rt: HostRuntime) {
     let mut bytes = [0u8; MAX_READ];
-    let input = read_input(rt, &mut bytes);
-    if input.failed {
+    let Ok(count) = read_input(rt, &mut bytes) else {
         return;
-    }
-    let count = input.count;
+    };
     let mut lines = [0u8; MAX_WRITTEN];
     let listed = listing(&bytes[..count], &mut lines);
-    let written = listed.written;
-    write_output(rt, &lines[..written]);
+    let _taken = write_output(rt, &lines[..listed.written]);
 }

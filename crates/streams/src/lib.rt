@@ -1,79 +1,44 @@
 // Standard input and output of the programs. What can't be read or written is told on standard error.
 #![tactic(auto)]
 
-ghost use Rattle.std.specs.Prelude.{◌+◌, ◌≤◌, length};
+ghost use Rattle.std.specs.Prelude.{◌≤◌, length, IfOk};
 
 use std::io;
 use std::io::{Read, Write};
 
-// How many bytes were read; none where the reading failed.
+// Something can't be read or written, which is told.
 #[derive(Clone, Copy)]
-pub struct Input {
-    pub failed: bool,
-    pub count: usize,
-}
+pub struct Told;
 
-// Reads standard input into the row, from its start, until the input ends or the row is full.
-pub fn read_input(rt: HostRuntime, row: &mut [u8]) -> Input
-    ensures { result.count ≤ length row.new }
+// Reads standard input into the row, from its start, until the input ends or the row is full, and answers how many bytes were read.
+pub fn read_input(rt: HostRuntime, row: &mut [u8]) -> Result<usize, Told>
+    ensures { IfOk result (λ count. count ≤ length row.new) }
 {
     let mut done: usize = 0;
     while done < row.len() {
-        let more = read_from(rt, row, done);
-        let count = more.count;
-        if more.failed {
-            return more;
-        }
+        let count = read_piece(rt, &mut row[done..])?;
         if count == 0 {
-            return Input {
-                failed: false,
-                count: done,
-            };
+            break;
         }
         done += count;
     }
-    Input {
-        failed: false,
-        count: done,
-    }
+    Ok(done)
 }
 
-// Reads once, from `at` on.
-fn read_from(rt: HostRuntime, row: &mut [u8], at: usize) -> Input
-    requires { at ≤ length row.old }
-    ensures { at + result.count ≤ length row.new }
+// Reads once, into the row's start, and answers how many bytes were read.
+pub fn read_piece(rt: HostRuntime, row: &mut [u8]) -> Result<usize, Told>
+    ensures { IfOk result (λ count. count ≤ length row.new) }
 {
-    read_piece(rt, &mut row[at..])
+    rt.stdin()
+        .read(row)
+        .map_err(|error| tell(rt, "fibexp: standard input", &error))
 }
 
-// Reads once, into the row's start.
-pub fn read_piece(rt: HostRuntime, row: &mut [u8]) -> Input
-    ensures { result.count ≤ length row.new }
-{
-    match rt.stdin().read(row) {
-        Ok(count) => Input {
-            failed: false,
-            count,
-        },
-        Err(error) => {
-            tell(rt, "fibexp: standard input", &error);
-            Input {
-                failed: true,
-                count: 0,
-            }
-        }
-    }
-}
-
-// Writes a text to standard output, and answers whether all of it was taken.
-pub fn write_output(rt: HostRuntime, text: &[u8]) -> bool {
-    match rt.stdout().write_all(text) {
-        Ok(()) => true,
-        Err(error) => {
-            tell(rt, "fibexp: standard output", &error);
-            false
-        }
-    }
+// Writes a text to standard output.
+pub fn write_output(rt: HostRuntime, text: &[u8]) -> Result<(), Told> {
+    rt.stdout()
+        .write_all(text)
+        .map_err(|error| tell(rt, "fibexp: standard output", &error))
 }
 
 // Writes a text to standard error, and answers whether all of it was taken.
@@ -82,22 +47,19 @@ pub fn write_error(rt: HostRuntime, text: &[u8]) -> bool {
 }
 
 // Tells what failed and why, as C's perror does. Where memory for the reason is lacking, it tells what failed.
-fn tell(rt: HostRuntime, what: &str, error: &io::Error) {
+fn tell(rt: HostRuntime, what: &str, error: &io::Error) -> Told {
     let _told = match format!(in rt.alloc(); "{error}") {
-        Ok(text) => tell_reason(rt, what, text.as_str()),
+        Ok(text) => {
+            let reason = without_number(text.as_str());
+            eprintln!(rt; "{what}: {reason}").is_ok()
+        }
         Err(_) => eprintln!(rt; "{what}").is_ok(),
     };
-}
-
-fn tell_reason(rt: HostRuntime, what: &str, text: &str) -> bool {
-    let reason = without_number(text);
-    eprintln!(rt; "{what}: {reason}").is_ok()
+    Told
 }
 
 // The reason without the system's number, in which the error's text ends.
 fn without_number(text: &str) -> &str {
-    match text.split_once(" (os error ") {
-        Some((reason, _)) => reason,
-        None => text,
-    }
+    text.split_once(" (os error ")
+        .map_or(text, |(reason, _)| reason)
 }

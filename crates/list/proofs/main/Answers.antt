@@ -5,9 +5,6 @@ use lib.Seq.{length-take-le}
 use Rattle.listing.proofs.Laws.Cases.{written_fits}
 use Rattle.list.proofs.main.Goals as goal
 
-pub slice_bounds-listing-end : goal.slice_bounds-listing-end
-slice_bounds-listing-end c = sym (length-take-le _ _ c.read_input-input.ensures)
-
 pub slice_bounds-lines-end : goal.slice_bounds-lines-end
 slice_bounds-lines-end c = omega (arith, written_fits _ _ _ c.listing-listed.ensures.value, c.listing-listed.auto.lines)
 
