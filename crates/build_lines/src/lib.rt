@@ -2,7 +2,7 @@
 // of it is seen.
 #![tactic(auto)]
 
-ghost use Rattle.std.specs.Prelude.{◌≡◌, ◌++◌, length, take, drop};
+ghost use Rattle.std.specs.Prelude.{◌≡◌, ◌++◌, ◌≤◌, length, take, drop};
 ghost use Rattle.refusal.specs.Outcomes.{outcome_of};
 ghost use Rattle.text.specs.Text.{number_line, numbers_line};
 ghost use Rattle.tape.specs.Layout.{max_words};
@@ -19,7 +19,7 @@ use putting::put_words;
 use refusal::Refusal;
 use scripting::{MAX_ROOM, MAX_TAPES, Marks, Printed};
 use tape::MAX_WORDS;
-use tape_row::{ending, inside, least, put_full};
+use tape_row::{inside, put_full};
 use widths::small;
 
 // What a word of a buffer holds before a call.
@@ -31,7 +31,7 @@ pub fn build(own: u32, values: &[u64], tapes: &mut [u32], marks: Marks, text: &m
     ensures did { Did (build_by (capacity_of tapes.old) (room_in (inside_of marks (capacity_of tapes.old))) own (held_to largest32 values.now) (state_in (inside_of marks (capacity_of tapes.old)) tapes.old)) text.old result (take (capacity_of tapes.old) tapes.new) text.new }
     ensures tapes_unchanged { drop (capacity_of tapes.old) tapes.new ≡ drop (capacity_of tapes.old) tapes.old }
 {
-    let capacity = least(tapes.len(), MAX_TAPES);
+    let capacity = tapes.len().min(MAX_TAPES);
     build_inside(
         own,
         values,
@@ -52,10 +52,10 @@ fn build_inside(
     requires { Inside marks tapes.old }
     ensures { Did (build_by (length tapes.old) (room_in marks) own (held_to largest32 values.now) (state_in marks tapes.old)) text.old result tapes.new text.new }
 {
-    if marks.roomed {
-        return build_in(own, values, tapes, marks, text);
+    match marks.room {
+        Some(room) => build_in(own, values, room, tapes, marks, text),
+        None => build_line(own, values, tapes, marks, text),
     }
-    build_line(own, values, tapes, marks, text)
 }
 
 // Build's tape at hand, and its words.
@@ -109,18 +109,25 @@ fn leave(words: &[u32], tapes: &mut [u32], marks: Marks, text: &mut [u8]) -> Pri
     }
     let end = put_words(tapes, begin, words);
     Printed {
-        marks: ending(marks, end),
+        marks: Marks { end, ..marks },
         length: numbers_line(text, 0, words),
     }
 }
 
 // Build into a buffer: the count of words or the refusal, and the buffer. Its tape is at hand then.
-fn build_in(own: u32, values: &[u64], tapes: &mut [u32], marks: Marks, text: &mut [u8]) -> Printed
-    requires { Inside marks tapes.old }
-    ensures { Did (build_in (length tapes.old) marks.room own (held_to largest32 values.now) (state_in marks tapes.old)) text.old result tapes.new text.new }
+fn build_in(
+    own: u32,
+    values: &[u64],
+    room: usize,
+    tapes: &mut [u32],
+    marks: Marks,
+    text: &mut [u8],
+) -> Printed
+    requires inside { Inside marks tapes.old }
+    requires room_in_bounds { room ≤ max_room }
+    ensures { Did (build_in (length tapes.old) room own (held_to largest32 values.now) (state_in marks tapes.old)) text.old result tapes.new text.new }
 {
     let mut row = [HELD; MAX_ROOM];
-    let room = marks.room;
     build_into(own, values, &mut row[..room], tapes, marks, text)
 }
 
@@ -167,7 +174,7 @@ fn show(
             let end = put_words(tapes, begin, &row[..count]);
             let next = number_line(text, 0, n);
             Printed {
-                marks: ending(marks, end),
+                marks: Marks { end, ..marks },
                 length: numbers_line(text, next, row),
             }
         }

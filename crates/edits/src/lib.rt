@@ -13,7 +13,7 @@ ghost use Rattle.scripting.specs.Inner.Leaving.{Placed};
 use lines::number_line;
 use putting::{put_byte, put_then};
 use scripting::{MAX_ROOM, MAX_TAPES, Marks, Printed};
-use tape_row::{ending, inside, least, put_full};
+use tape_row::{inside, put_full};
 use text::NEWLINE;
 use tool::ScriptVerb;
 use widths::{small, words};
@@ -30,7 +30,7 @@ pub fn edit(
     ensures did { Did (in_script (capacity_of tapes.old) verb (held_to (limit_in verb) values.now) (state_in (inside_of marks (capacity_of tapes.old)) tapes.old)) text.old result (take (capacity_of tapes.old) tapes.new) text.new }
     ensures tapes_unchanged { drop (capacity_of tapes.old) tapes.new ≡ drop (capacity_of tapes.old) tapes.old }
 {
-    let capacity = least(tapes.len(), MAX_TAPES);
+    let capacity = tapes.len().min(MAX_TAPES);
     edit_inside(
         verb,
         values,
@@ -72,7 +72,11 @@ fn put_words(values: &[u64], tapes: &mut [u32], marks: Marks, at: usize, text: &
         };
     }
     words(values, tapes, at);
-    count_words(ending(marks, at + values.len()), text)
+    let next = Marks {
+        end: at + values.len(),
+        ..marks
+    };
+    count_words(next, text)
 }
 
 // How many words the tape at hand has.
@@ -108,11 +112,12 @@ fn drop_words(values: &[u64], tapes: &[u32], marks: Marks, text: &mut [u8]) -> P
     requires { Inside marks tapes.now }
     ensures { Did (in_script (length tapes.now) ScriptVerb.Drop (held_to largest32 values.now) (state_in marks tapes.now)) text.old result tapes.now text.new }
 {
-    let count = small(values, 0) as usize;
-    if marks.end - marks.begin < count {
-        return count_words(ending(marks, marks.begin), text);
-    }
-    count_words(ending(marks, marks.end - count), text)
+    let count = (small(values, 0) as usize).min(marks.end - marks.begin);
+    let next = Marks {
+        end: marks.end - count,
+        ..marks
+    };
+    count_words(next, text)
 }
 
 // Another tape behind this one, of no words.
@@ -122,9 +127,7 @@ fn behind(tapes: &[u32], marks: Marks, text: &mut [u8]) -> Printed
 {
     let next = Marks {
         begin: marks.end,
-        end: marks.end,
-        room: marks.room,
-        roomed: marks.roomed,
+        ..marks
     };
     count_words(next, text)
 }
@@ -134,26 +137,21 @@ fn room(values: &[u64], tapes: &[u32], marks: Marks, text: &mut [u8]) -> Printed
     requires { Inside marks tapes.now }
     ensures { Did (in_script (length tapes.now) ScriptVerb.Room (held_to max_room values.now) (state_in marks tapes.now)) text.old result tapes.now text.new }
 {
-    if values.len() == 0 {
+    let Some(first) = values.first() else {
         return Printed {
-            marks: with_room(marks, 0, false),
+            marks: Marks {
+                room: None,
+                ..marks
+            },
             length: put_byte(text, 0, NEWLINE),
         };
-    }
-    let room = least(values[0] as usize, MAX_ROOM);
+    };
+    let room = (*first as usize).min(MAX_ROOM);
     Printed {
-        marks: with_room(marks, room, true),
+        marks: Marks {
+            room: Some(room),
+            ..marks
+        },
         length: number_line(text, 0, room as u64),
-    }
-}
-
-fn with_room(marks: Marks, room: usize, roomed: bool) -> Marks
-    ensures { result ≡ record { begin = marks.begin; end = marks.end; room = room; roomed = roomed } }
-{
-    Marks {
-        begin: marks.begin,
-        end: marks.end,
-        room,
-        roomed,
     }
 }

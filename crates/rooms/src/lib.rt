@@ -1,7 +1,7 @@
 // Places and list into a buffer of the script's room. The whole buffer is printed, so that what a call left of it is seen.
 #![tactic(auto)]
 
-ghost use Rattle.std.specs.Prelude.{◌≡◌, [], ◌∷◌, min, ◌≤◌, length, get_or, take};
+ghost use Rattle.std.specs.Prelude.{◌≡◌, [], ◌∷◌, min, ◌≤◌, length, take};
 ghost use Rattle.text.specs.Rows.{Put};
 ghost use Rattle.tool.specs.Verbs.{max_room};
 ghost use Rattle.scripting.specs.Script.{max_commanded, places_into, list_into, places_in, list_in};
@@ -11,7 +11,6 @@ use encoding::{WORD_BYTES, tape_bytes};
 use lines::{bytes_line, numbers_line};
 use printing::answer;
 use scripting::{MAX_ROOM, MAX_TAPES};
-use tape_row::least;
 
 // What a byte of a buffer holds before a call.
 const HELD: u8 = 255;
@@ -24,19 +23,10 @@ pub fn places_in(own: u32, values: &[u64], room: usize, text: &mut [u8]) -> usiz
     ensures put { Put text.old 0 (places_in (min room max_room) own values.now) result text.new }
     ensures short { length (places_in (min room max_room) own values.now) ≤ max_commanded }
 {
-    let held = least(room, MAX_ROOM);
+    let held = room.min(MAX_ROOM);
     let mut row = [HELD; MAX_ROOM];
-    places_into(own, first(values), &mut row[..held], text)
-}
-
-// The first parameter, 0 where there is none.
-fn first(values: &[u64]) -> u64
-    ensures { result ≡ get_or values.now 0 0 }
-{
-    if values.len() == 0 {
-        return 0;
-    }
-    values[0]
+    let n = values.first().copied().unwrap_or(0);
+    places_into(own, n, &mut row[..held], text)
 }
 
 fn places_into(own: u32, n: u64, row: &mut [u8], text: &mut [u8]) -> usize
@@ -54,8 +44,8 @@ pub fn list_in(tape: &[u32], room: usize, text: &mut [u8]) -> usize
     ensures put { Put text.old 0 (list_in (min room max_room) (take (capacity_of tape.now) tape.now)) result text.new }
     ensures short { length (list_in (min room max_room) (take (capacity_of tape.now) tape.now)) ≤ max_commanded }
 {
-    let words = least(tape.len(), MAX_TAPES);
-    let held = least(room, MAX_ROOM);
+    let words = tape.len().min(MAX_TAPES);
+    let held = room.min(MAX_ROOM);
     let mut bytes = [0u8; MAX_TAPE_BYTES];
     let count = tape_bytes(&mut bytes, 0, &tape[..words]);
     let mut row = [HELD; MAX_ROOM];

@@ -25,25 +25,20 @@ pub(crate) fn commanded(
 {
     let line = understand(arguments, true);
     let call = line.call;
-    let values = line.values;
-    let count = count_in(call);
-    let act = act_of(call, marks.roomed);
-    match act {
+    let values = &line.values[..count_in(call)];
+    let room = marks.room.unwrap_or(0);
+    match act_of(call, marks.room.is_some()) {
         Act::Reply => as_tool(arguments, tapes, marks, text),
-        Act::Edit(verb) => edit(verb, &values[..count], tapes, marks, text),
-        Act::BuildTape(own) => build(own, &values[..count], tapes, marks, text),
+        Act::Edit(verb) => edit(verb, values, tapes, marks, text),
+        Act::BuildTape(own) => build(own, values, tapes, marks, text),
         Act::PlacesInRoom(own) => Printed {
             marks,
-            length: places_in(own, &values[..count], marks.room, text),
+            length: places_in(own, values, room, text),
         },
-        Act::ListInRoom => {
-            let begin = marks.begin;
-            let end = marks.end;
-            Printed {
-                marks,
-                length: list_in(&tapes[begin..end], marks.room, text),
-            }
-        }
+        Act::ListInRoom => Printed {
+            marks,
+            length: list_in(&tapes[marks.begin..marks.end], room, text),
+        },
     }
 }
 
@@ -52,14 +47,12 @@ fn as_tool(arguments: &[u8], tapes: &[u32], marks: Marks, text: &mut [u8]) -> Pr
     requires { Inside marks tapes.now }
     ensures { Did (replied (asked_by true (split_words arguments.now)) (state_in marks tapes.now)) text.old result tapes.now text.new }
 {
-    let begin = marks.begin;
-    let end = marks.end;
     let reply = reply_on(
         arguments,
         true,
         true,
-        &tapes[begin..end],
-        &tapes[..end],
+        &tapes[marks.begin..marks.end],
+        &tapes[..marks.end],
         text,
     );
     Printed {

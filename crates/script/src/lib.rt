@@ -9,7 +9,7 @@ ghost use Rattle.scripting.specs.Script.{line_done};
 ghost use Rattle.scripting.specs.States.{capacity_of, state_in, inside_of, DidLine};
 
 use scripting::{MAX_TAPES, Marks, Printed};
-use tape_row::{inside, least};
+use tape_row::inside;
 use whole_line::done;
 
 // Does a line on a row of tapes, of which the first `MAX_TAPES` words are used. What it prints is put from the start of its row; in a
@@ -18,6 +18,6 @@ pub fn line(line: &[u8], tapes: &mut [u32], marks: Marks, text: &mut [u8]) -> Pr
     ensures did_line { DidLine (line_done (capacity_of tapes.old) line.now (state_in (inside_of marks (capacity_of tapes.old)) tapes.old)) text.old result (take (capacity_of tapes.old) tapes.new) text.new }
     ensures tapes_unchanged { drop (capacity_of tapes.old) tapes.new ≡ drop (capacity_of tapes.old) tapes.old }
 {
-    let capacity = least(tapes.len(), MAX_TAPES);
+    let capacity = tapes.len().min(MAX_TAPES);
     done(line, &mut tapes[..capacity], inside(marks, capacity), text)
 }

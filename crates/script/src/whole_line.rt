@@ -37,11 +37,9 @@ fn judge(line: &[u8], at: usize, tapes: &mut [u32], marks: Marks, text: &mut [u8
 {
     let mut space = [0u8; MAX_PRINTED];
     let made = command(&line[..at], tapes, marks, &mut space);
-    let left = made.marks;
-    let count = made.length;
     Printed {
-        marks: left,
-        length: put_judged(text, &space[..count], line, at),
+        length: put_judged(text, &space[..made.length], line, at),
+        ..made
     }
 }
 

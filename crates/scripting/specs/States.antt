@@ -1,5 +1,5 @@
 -- The state of a script as the code holds it: a row of words, and marks in it; for contracts.
-use Rattle.std.specs.Prelude.{◌≡◌, cond, List, [], ◌∷◌, ◌++◌, ℕ, min, ◌≤◌, length, take, Result, Ok, Err}
+use Rattle.std.specs.Prelude.{◌≡◌, List, [], ◌∷◌, ◌++◌, ℕ, min, ◌≤◌, length, take, IfSome, option_map, option_to_list, Result, Ok, Err}
 use Rattle.refusal.specs.declared.Refusal.{Refusal}
 use Rattle.text.specs.Rows.{Put}
 use Rattle.tool.specs.Verbs.{max_room}
@@ -8,7 +8,7 @@ use Rattle.scripting.specs.declared.Printed.{Printed}
 use Rattle.scripting.specs.Script.{State, Done, line_done, max_tapes, max_printed, max_commanded}
 
 abbrev pub room_in : Marks → List ℕ
-room_in m = cond m.roomed (m.room ∷ []) []
+room_in m = option_to_list m.room
 
 -- the state that marks in a row stand for, where they stand in it
 abbrev pub state_in : Marks → List ℕ → State
@@ -18,7 +18,7 @@ pub record Inside (m : Marks) (row : List ℕ) : Type 0 where
   pub size : length row ≤ max_tapes
   pub begin : m.begin ≤ m.end
   pub end : m.end ≤ length row
-  pub room : m.room ≤ max_room
+  pub room : IfSome m.room (λ n. n ≤ max_room)
 
 -- how many words of a row are used
 abbrev pub capacity_of : List ℕ → ℕ
@@ -28,7 +28,7 @@ capacity_of row = min (length row) max_tapes
 unfoldable pub inside_of : Marks → ℕ → Marks
 inside_of m capacity =
     let end = min m.end capacity in
-    record { begin = min m.begin end; end = end; room = min m.room max_room; roomed = m.roomed }
+    record { begin = min m.begin end; end = end; room = option_map (λ n. min n max_room) m.room }
 
 -- the words that an answer counts
 abbrev pub count_in : Result ℕ Refusal → ℕ

@@ -4,13 +4,12 @@
 
 use tool::ScriptVerb;
 
-// Where the tape at hand begins in the row of tapes, where it ends, and the room that build, places and list get where `roomed` says so.
+// Where the tape at hand begins in the row of tapes, where it ends, and the room that build, places and list get, if any.
 #[derive(Clone, Copy)]
 pub struct Marks {
     pub begin: usize,
     pub end: usize,
-    pub room: usize,
-    pub roomed: bool,
+    pub room: Option<usize>,
 }
 
 // The marks that a line left, and how many bytes of what it printed stand in their row.
@@ -47,6 +46,5 @@ pub const MAX_ROOM: usize = 4096;
 pub const START: Marks = Marks {
     begin: 0,
     end: 0,
-    room: 0,
-    roomed: false,
+    room: None,
 };

@@ -1,7 +1,7 @@
 // The row of tapes of a script: marks brought into it, and what is said where it is full.
 #![tactic(auto)]
 
-ghost use Rattle.std.specs.Prelude.{◌≡◌, min};
+ghost use Rattle.std.specs.Prelude.{◌≡◌};
 ghost use Rattle.text.specs.Rows.{Put};
 ghost use Rattle.scripting.specs.Script.{full_line};
 ghost use Rattle.scripting.specs.States.{inside_of};
@@ -11,36 +11,15 @@ use scripting::{MAX_ROOM, Marks};
 use text::NEWLINE;
 
 // Marks that stand in the row.
+#[tactic(auto, unfolding(scripting::specs::States::inside_of))]
 pub fn inside(marks: Marks, capacity: usize) -> Marks
     ensures { result ≡ inside_of marks capacity }
 {
-    let end = least(marks.end, capacity);
+    let end = marks.end.min(capacity);
     Marks {
-        begin: least(marks.begin, end),
+        begin: marks.begin.min(end),
         end,
-        room: least(marks.room, MAX_ROOM),
-        roomed: marks.roomed,
-    }
-}
-
-pub fn least(a: usize, b: usize) -> usize
-    ensures { result ≡ min a b }
-{
-    if a < b {
-        return a;
-    }
-    b
-}
-
-// The marks with another end.
-pub fn ending(marks: Marks, end: usize) -> Marks
-    ensures { result ≡ record { begin = marks.begin; end = end; room = marks.room; roomed = marks.roomed } }
-{
-    Marks {
-        begin: marks.begin,
-        end,
-        room: marks.room,
-        roomed: marks.roomed,
+        room: marks.room.map(|room| room.min(MAX_ROOM)),
     }
 }
 

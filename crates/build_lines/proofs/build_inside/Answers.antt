@@ -2,8 +2,11 @@
 use Rattle.scripting.proofs.Laws.Commands.{build_free, build_room}
 use Rattle.build_lines.proofs.build_inside.Goals as goal
 
-pub returns-then-marks : goal.returns-then-marks
-returns-then-marks c = rw (build_room _ _ _ c.args.marks _ c.if-marks.true) c.build_in.ensures
+pub build_in-requires-clause-room_in_bounds : goal.build_in-requires-clause-room_in_bounds
+build_in-requires-clause-room_in_bounds c = rw c.in-Some.is at c.requires.room
 
-pub returns : goal.returns
-returns c = rw (build_free _ _ _ c.args.marks _ c.if-marks.false) c.build_line.ensures
+pub returns-in-Some : goal.returns-in-Some
+returns-in-Some c = rw (build_room _ _ _ c.args.marks _ c.in-Some.is) c.build_in.ensures
+
+pub returns-in-None : goal.returns-in-None
+returns-in-None c = rw (build_free _ _ _ c.args.marks _ c.in-None.is) c.build_line.ensures

@@ -10,4 +10,4 @@ returns-then-tapes-begin c =
     did_full c.requires.inside c.args.words.now _ (omega (arith, c.if-tapes-begin.true)) refl c.put_full.ensures
 
 pub returns : goal.returns
-returns c = did_left c.requires.inside c.args.words.now _ (omega (arith, c.if-tapes-begin.false, c.requires.inside.begin, c.requires.inside.end)) c.put_words-end.ensures c.ending.ensures c.numbers_line.ensures.put (omega (arith, c.numbers_line.ensures.short, c.requires.short))
+returns c = did_left c.requires.inside c.args.words.now _ (omega (arith, c.if-tapes-begin.false, c.requires.inside.begin, c.requires.inside.end)) c.put_words-end.ensures refl c.numbers_line.ensures.put (omega (arith, c.numbers_line.ensures.short, c.requires.short))

@@ -23,7 +23,7 @@ slice_bounds-put_words-end c = sym (length-take-le c.in-Ok.n c.args.row.now (rw 
 pub returns-else-tapes-begin : goal.returns-else-tapes-begin
 returns-else-tapes-begin c = let row = c.args.row.now in
     rw c.in-Ok.is
-    (did_left c.requires.inside (take c.in-Ok.n row) _ (omega (arith, c.if-tapes-begin.false, c.requires.inside.begin, c.requires.inside.end, length-take-le c.in-Ok.n row (rw c.in-Ok.is at c.requires.counted))) c.put_words-end.ensures c.ending.ensures (puts_join c.number_line-next.ensures.put c.numbers_line.ensures.put)
+    (did_left c.requires.inside (take c.in-Ok.n row) _ (omega (arith, c.if-tapes-begin.false, c.requires.inside.begin, c.requires.inside.end, length-take-le c.in-Ok.n row (rw c.in-Ok.is at c.requires.counted))) c.put_words-end.ensures refl (puts_join c.number_line-next.ensures.put c.numbers_line.ensures.put)
     (omega (arith, c.number_line-next.ensures.short, c.numbers_line.ensures.short, c.requires.short, length-append (number_line c.in-Ok.n) (numbers_line row))))
 
 pub returns-in-Err : goal.returns-in-Err

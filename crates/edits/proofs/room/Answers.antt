@@ -1,20 +1,26 @@
 -- `room` meets its contract: no parameter is no room, and the first one is the room, held to the most.
-use mathlib.Core.Path.{◌≡◌, sym, ◌∙◌}
-use native.Mathlib.Omega.{arith}
-use lib.ListN.{get_or}
+use Rattle.std.proofs.Common.{◌≡◌, ℕ, List, [], ◌∷◌, None, slice_get, length, get_or, min, refl, sym, ap, ◌∙◌, arith}
+use Rattle.std.proofs.lemmas.Option.{slice_get_within, get_or_from_slice_get}
 use Rattle.tool.specs.Verbs.{max_room}
 use Rattle.tool.specs.Inner.Held.{held_to}
 use Rattle.tool.proofs.Laws.Held.{held_length, held_at}
 use Rattle.scripting.proofs.Laws.Edits.{did_unroom, did_room}
 use Rattle.edits.proofs.room.Goals as goal
 
-pub returns-then-values-eq0 : goal.returns-then-values-eq0
-returns-then-values-eq0 c =
+empty : (values : List ℕ) → None ≡ slice_get values 0 → length values ≡ 0
+empty [] e = refl
+empty (n ∷ values) e = cc
+
+pub returns-in_default : goal.returns-in_default
+returns-in_default c =
     let values = c.args.values.now in
-    did_unroom c.requires (held_to max_room values) (held_length max_room values ∙ c.if-values-eq0.true) c.with_room.ensures c.put_byte.ensures
+    did_unroom c.requires (held_to max_room values) (held_length max_room values ∙ empty values (rw c.in_default.is at c.first.ensures.value)) refl c.put_byte.ensures
 
 pub returns : goal.returns
 returns c =
     let values = c.args.values.now in
-    let held : c.least-room.result ≡ get_or (held_to max_room values) 0 0 = c.least-room.ensures ∙ sym (held_at max_room values 0) in
-    did_room c.requires (held_to max_room values) (omega (arith, held_length max_room values, c.if-values-eq0.false)) (omega (arith, held_at max_room values 0)) (rw held at c.with_room-2.ensures) (rw held at c.number_line.ensures.put)
+    let is = sym c.in-Some.ensures.value in
+    let held : c.min-room.result ≡ get_or (held_to max_room values) 0 0 =
+    c.min-room.ensures ∙ ap (λ (n : ℕ). min n max_room) (sym (get_or_from_slice_get values 0 c.in-Some.first.now 0 is)) ∙ sym (held_at max_room values 0) in
+    did_room c.requires (held_to max_room values) (omega (arith, held_length max_room values, slice_get_within values 0 c.in-Some.first.now is))
+    (omega (arith, held_at max_room values 0)) (rw held) (rw held at c.number_line.ensures.put)

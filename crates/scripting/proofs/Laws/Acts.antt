@@ -1,7 +1,8 @@
 -- What a command line does in a script is what its call comes to there: each call and each verb is a case of both definitions.
+use Rattle.std.specs.Prelude.{Option, Some, None, is_some, unwrap_or, option_to_list}
 use mathlib.Core.Path.{◌≡◌, refl}
 use mathlib.Core.Bool.{Bool, true, false, cond}
-use mathlib.Core.List.{List, [], ◌∷◌}
+use mathlib.Core.List.{List}
 use Prim.Native.Nat.{ℕ, ◌≤◌}
 use native.Mathlib.Omega.{arith}
 use lib.ListN.{take}
@@ -29,27 +30,27 @@ by_act capacity (BuildTape own) asked v room s = build_by capacity s.room own v 
 by_act capacity (PlacesInRoom own) asked v room s = prints s (places_in room own v)
 by_act capacity ListInRoom asked v room s = prints s (list_in room (at_hand s))
 
-module _ (capacity : ℕ) (row : Row) (v : List ℕ) (room : ℕ) (s : State) where
+module _ (capacity : ℕ) (row : Row) (v : List ℕ) (s : State) where
   -- a verb that looks at the room: whether it is the one, and whether there is a room
-  numbers_act : (one roomed : Bool) → cond one (places_line (cond roomed (room ∷ []) []) row v s) (replied (known row v) s)
-      ≡ by_act capacity (cond one (cond roomed (PlacesInRoom row.own) Reply) Reply) (known row v) v room s
-  numbers_act true true = refl
-  numbers_act true false = refl
-  numbers_act false roomed = refl
+  numbers_act : (one : Bool) (room : Option ℕ) → cond one (places_line (option_to_list room) row v s) (replied (known row v) s)
+      ≡ by_act capacity (cond one (cond (is_some room) (PlacesInRoom row.own) Reply) Reply) (known row v) v (unwrap_or room 0) s
+  numbers_act true (Some n) = refl
+  numbers_act true None = refl
+  numbers_act false room = refl
 
-  tape_act : (one roomed : Bool) → cond one (list_line (cond roomed (room ∷ []) []) row v s) (replied (known row v) s)
-      ≡ by_act capacity (cond one (cond roomed ListInRoom Reply) Reply) (known row v) v room s
-  tape_act true true = refl
-  tape_act true false = refl
-  tape_act false roomed = refl
+  tape_act : (one : Bool) (room : Option ℕ) → cond one (list_line (option_to_list room) row v s) (replied (known row v) s)
+      ≡ by_act capacity (cond one (cond (is_some room) ListInRoom Reply) Reply) (known row v) v (unwrap_or room 0) s
+  tape_act true (Some n) = refl
+  tape_act true None = refl
+  tape_act false room = refl
 
 module _ (capacity : ℕ) (m : Marks) (tapes : List ℕ) where
   verb_act : (verb : Verb) (row : Row) (v : List ℕ)
-      → by_verb capacity verb row v (state_in m tapes) ≡ by_act capacity (act_by verb m.roomed row.own) (known row v) v m.room (state_in m tapes)
+      → by_verb capacity verb row v (state_in m tapes) ≡ by_act capacity (act_by verb (is_some m.room) row.own) (known row v) v (unwrap_or m.room 0) (state_in m tapes)
   verb_act (InScript verb) row v = refl
   verb_act Build row v = refl
-  verb_act (OnNumbers verb) row v = numbers_act capacity row v m.room (state_in m tapes) (is_places verb) m.roomed
-  verb_act (OnTape verb) row v = tape_act capacity row v m.room (state_in m tapes) (is_listing verb) m.roomed
+  verb_act (OnNumbers verb) row v = numbers_act capacity row v (state_in m tapes) (is_places verb) m.room
+  verb_act (OnTape verb) row v = tape_act capacity row v (state_in m tapes) (is_listing verb) m.room
   verb_act Unknown row v = refl
   verb_act Script row v = refl
   verb_act Help row v = refl
@@ -57,7 +58,7 @@ module _ (capacity : ℕ) (m : Marks) (tapes : List ℕ) where
 
   call_act : (call : Call) (words : List (List ℕ)) (values : List ℕ)
       → commanded capacity (asked_for call words values) (state_in m tapes)
-      ≡ by_act capacity (act_of call m.roomed) (asked_for call words values) (take (count_of call) values) m.room (state_in m tapes)
+      ≡ by_act capacity (act_of call (is_some m.room)) (asked_for call words values) (take (count_of call) values) (unwrap_or m.room 0) (state_in m tapes)
   unfolding commanded
   call_act (Known row count) words values = verb_act row.verb row (take count values)
   call_act NoWord words values = refl
@@ -66,8 +67,8 @@ module _ (capacity : ℕ) (m : Marks) (tapes : List ℕ) where
   call_act (Unread row index) words values = refl
 
   pub commanded_act : {asked : Asked} {act : Act} (call : Call) (words : List (List ℕ)) (values : List ℕ) → asked_for call words values ≡ asked
-      → act_of call m.roomed ≡ act
-      → commanded capacity asked (state_in m tapes) ≡ by_act capacity act asked (take (count_of call) values) m.room (state_in m tapes)
+      → act_of call (is_some m.room) ≡ act
+      → commanded capacity asked (state_in m tapes) ≡ by_act capacity act asked (take (count_of call) values) (unwrap_or m.room 0) (state_in m tapes)
   commanded_act call words values e f = rw (← e, ← f) (call_act call words values)
 
 -- ---- the parameters

@@ -1,7 +1,7 @@
 -- The tape at hand as a part of the row, and what build does by the room.
+use Rattle.std.specs.Prelude.{Option, Some, None, option_to_list}
 use mathlib.Core.Path.{◌≡◌, sym, ap}
-use mathlib.Core.Bool.{Bool, true, false, cond}
-use mathlib.Core.List.{List, [], ◌∷◌}
+use mathlib.Core.List.{List}
 use Prim.Native.Nat.{ℕ, min, ◌-◌, ◌≤◌}
 use native.Mathlib.Nat.{min-eq_left}
 use native.Mathlib.Omega.{arith}
@@ -19,25 +19,19 @@ unfolding at_hand
 at_hand_lem m row = sym (slice_from m.begin m.end row)
 
 -- it is no longer than what is used of a tape, and a room no larger than the most
-pub list_whole : {m : Marks} {row : List ℕ} → Inside m row
+pub list_whole : {m : Marks} {row : List ℕ} (room : ℕ) → Inside m row → room ≤ max_room
     → let tape = take (m.end - m.begin) (drop m.begin row) in
-    list_in (min m.room max_room) (take (capacity_of tape) tape) ≡ list_in m.room (at_hand (state_in m row))
-list_whole {m} {row} inside =
+    list_in (min room max_room) (take (capacity_of tape) tape) ≡ list_in room (at_hand (state_in m row))
+list_whole {m} {row} room inside most =
     let tape = take (m.end - m.begin) (drop m.begin row) in
     let few : length tape ≤ capacity_of tape = omega (arith, inside.size, inside.end, length-take (m.end - m.begin) (drop m.begin row)) in
-    rw (min-eq_left inside.room, take_all (capacity_of tape) tape few, at_hand_lem m row)
+    rw (min-eq_left most, take_all (capacity_of tape) tape few, at_hand_lem m row)
 
 -- ---- the room
 
-room_free : (m : Marks) → m.roomed ≡ false → room_in m ≡ []
-room_free m e = ap (λ (b : Bool). cond b (m.room ∷ []) []) e
-
-room_set : (m : Marks) → m.roomed ≡ true → room_in m ≡ m.room ∷ []
-room_set m e = ap (λ (b : Bool). cond b (m.room ∷ []) []) e
-
 module _ (capacity own : ℕ) (v : List ℕ) (m : Marks) (s : State) where
-  pub build_free : m.roomed ≡ false → build_by capacity (room_in m) own v s ≡ build_line capacity own v s
-  build_free e = ap (λ (room : List ℕ). build_by capacity room own v s) (room_free m e)
+  pub build_free : m.room ≡ None → build_by capacity (room_in m) own v s ≡ build_line capacity own v s
+  build_free e = ap (λ (room : Option ℕ). build_by capacity (option_to_list room) own v s) e
 
-  pub build_room : m.roomed ≡ true → build_by capacity (room_in m) own v s ≡ build_in capacity m.room own v s
-  build_room e = ap (λ (room : List ℕ). build_by capacity room own v s) (room_set m e)
+  pub build_room : {room : ℕ} → m.room ≡ Some room → build_by capacity (room_in m) own v s ≡ build_in capacity room own v s
+  build_room e = ap (λ (room : Option ℕ). build_by capacity (option_to_list room) own v s) e

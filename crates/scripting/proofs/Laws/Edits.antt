@@ -1,6 +1,5 @@
 -- What each verb of a script does to the row and its marks: the tape it leaves is the definition's, word by word.
 use mathlib.Core.Path.{◌≡◌, refl, sym, ap, ◌∙◌}
-use mathlib.Core.Bool.{true, false}
 use mathlib.Core.List.{List, [], ◌∷◌, ◌++◌}
 use Prim.Native.Nat.{ℕ, ◌+◌, ◌-◌, ◌≤◌, ◌<◌}
 use native.Mathlib.Omega.{arith}
@@ -9,6 +8,7 @@ use lib.Seq.{length-take-le}
 use borrow.Author.Tests.{lt-ltb, le-ltb}
 use Rattle.refusal.specs.Rows.{Wrote}
 use Rattle.refusal.proofs.Laws.Rows.{wrote_length}
+use Rattle.std.specs.Prelude.{Some, None}
 use Rattle.text.specs.Text.{number_line, newline, line}
 use Rattle.text.specs.Rows.{Put}
 use Rattle.tool.specs.Verbs.{max_room}
@@ -88,11 +88,11 @@ module _ {m : Marks} {row : List ℕ} (inside : Inside m row) {before after : Li
       (ap (λ (x : ℕ). take x row) e ∙ words_dropped row m.begin m.end n (omega (arith, inside.begin))) marks p)
 
   -- another tape behind
-  pub did_behind : (v : List ℕ) {k : Marks} → k ≡ record { begin = m.end; end = m.end; room = m.room; roomed = m.roomed }
+  pub did_behind : (v : List ℕ) {k : Marks} → k ≡ record { begin = m.end; end = m.end; room = m.room }
       → (r.marks ≡ k) × Put before 0 (number_line (k.end - k.begin)) r.length after → Did (in_script (length row) Behind v (state_in m row)) before r row after
   unfolding in_script
   did_behind v {k} e p =
-      let marks : r.marks ≡ record { begin = m.end; end = m.end; room = m.room; roomed = m.roomed } = p.0 ∙ e in
+      let marks : r.marks ≡ record { begin = m.end; end = m.end; room = m.room } = p.0 ∙ e in
       let none : k.end - k.begin ≡ 0 = omega (arith, ap (λ (x : Marks). x.end) e, ap (λ (x : Marks). x.begin) e) in
       record {
         state = rw (marks, length-take-le m.end row inside.end);
@@ -102,20 +102,20 @@ module _ {m : Marks} {row : List ℕ} (inside : Inside m row) {before after : Li
       }
 
   -- no room, or one
-  pub did_unroom : (v : List ℕ) → length v ≡ 0 → r.marks ≡ record { begin = m.begin; end = m.end; room = 0; roomed = false }
+  pub did_unroom : (v : List ℕ) → length v ≡ 0 → r.marks ≡ record { begin = m.begin; end = m.end; room = None }
       → Put before 0 (newline ∷ []) r.length after → Did (in_script (length row) Room v (state_in m row)) before r row after
   unfolding in_script line
   did_unroom [] none marks put =
       record {
         state = rw marks;
-        inside = rw marks (record { size = inside.size; begin = inside.begin; end = inside.end; room = omega arith });
+        inside = rw marks (record { size = inside.size; begin = inside.begin; end = inside.end; room = tt });
         printed = put;
         short = omega arith;
       }
   did_unroom (n ∷ v) none marks put = absurd (omega arith)
 
   pub did_room : (v : List ℕ) → 0 < length v → get_or v 0 0 ≤ max_room
-      → r.marks ≡ record { begin = m.begin; end = m.end; room = get_or v 0 0; roomed = true }
+      → r.marks ≡ record { begin = m.begin; end = m.end; room = Some (get_or v 0 0) }
       → Put before 0 (number_line (get_or v 0 0)) r.length after → Did (in_script (length row) Room v (state_in m row)) before r row after
   unfolding in_script
   did_room [] some most marks put = absurd (omega arith)

@@ -19,7 +19,7 @@ use Rattle.scripting.specs.States.{room_in, state_in, Inside, DidWithin, Did}
 
 -- marks with another end
 abbrev pub ended : Marks → ℕ → Marks
-ended m end = record { begin = m.begin; end = end; room = m.room; roomed = m.roomed }
+ended m end = record { begin = m.begin; end = end; room = m.room }
 
 -- the state of such marks
 abbrev leaves : Marks → List ℕ → State

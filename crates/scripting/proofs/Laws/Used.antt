@@ -1,6 +1,7 @@
 -- The words of a row that are used: marks brought into the row stand there for the same state, so what is done to those words is done to the row. Marks
 -- that stand in the row stay as they are.
-use mathlib.Core.Path.{◌≡◌, ap, ◌∙◌}
+use Rattle.std.specs.Prelude.{Option, Some, None, IfSome, option_map}
+use mathlib.Core.Path.{◌≡◌, refl, ap, ◌∙◌}
 use mathlib.Core.List.{List, ◌++◌}
 use Prim.Native.Nat.{ℕ, min, ◌≤◌}
 use native.Mathlib.Nat.{min-eq_left}
@@ -13,10 +14,19 @@ use Rattle.scripting.specs.declared.Printed.{Printed}
 use Rattle.scripting.specs.Script.{State, Done}
 use Rattle.scripting.specs.States.{state_in, Inside, capacity_of, inside_of, DidWithin}
 
+-- a room is held to the most, and one that is no larger stays as it is
+room_most : (room : Option ℕ) → IfSome (option_map (λ (n : ℕ). min n max_room) room) (λ (n : ℕ). n ≤ max_room)
+room_most None = tt
+room_most (Some n) = omega arith
+
+room_kept : (room : Option ℕ) → IfSome room (λ (n : ℕ). n ≤ max_room) → option_map (λ (n : ℕ). min n max_room) room ≡ room
+room_kept None h = refl
+room_kept (Some n) h = ap (λ (i : ℕ). Some i) (min-eq_left h)
+
 -- marks in a row stay as they are
-pub marks_kept : (m : Marks) (capacity : ℕ) → m.begin ≤ m.end → m.end ≤ capacity → m.room ≤ max_room → inside_of m capacity ≡ m
+pub marks_kept : (m : Marks) (capacity : ℕ) → m.begin ≤ m.end → m.end ≤ capacity → IfSome m.room (λ n. n ≤ max_room) → inside_of m capacity ≡ m
 unfolding inside_of
-marks_kept m capacity begin end room = rw (min-eq_left end, min-eq_left begin, min-eq_left room)
+marks_kept m capacity begin end room = rw (min-eq_left end, min-eq_left begin, room_kept m.room room)
 
 module _ (m : Marks) (row : List ℕ) where
   used : length (take (capacity_of row) row) ≡ capacity_of row
@@ -24,7 +34,7 @@ module _ (m : Marks) (row : List ℕ) where
 
   inside_row : Inside (inside_of m (capacity_of row)) (take (capacity_of row) row)
   unfolding inside_of
-  inside_row = record { size = omega (arith, used); begin = omega arith; end = omega (arith, used); room = omega arith }
+  inside_row = record { size = omega (arith, used); begin = omega arith; end = omega (arith, used); room = room_most m.room }
 
   state_used : state_in (inside_of m (capacity_of row)) (take (capacity_of row) row) ≡ state_in (inside_of m (capacity_of row)) row
   unfolding inside_of
