@@ -1,5 +1,5 @@
 -- The services on Fibonacci numbers and forms: what each call comes to.
-use Rattle.std.specs.Prelude.{Bool, true, false, not, cond, List, [], ◌∷◌, ◌++◌, map, Option, Some, None, ℕ, ◌-◌, ◌^◌, leb, ltb, length, replicate}
+use Rattle.std.specs.Prelude.{Bool, true, false, not, cond, List, [], ◌∷◌, map, Option, Some, None, ℕ, ◌^◌, leb, ltb, length}
 use Rattle.refusal.specs.declared.Refusal.TheVariants.{Room, Range, Index}
 use Rattle.refusal.specs.Outcomes.{Outcome, outcome, ◌given_if◌, buffer_after}
 use Rattle.fibonacci.specs.Fibonacci.{fib}
@@ -28,10 +28,6 @@ fibonacci_outcome i = outcome ((Index given_if ltb last_index i) ∷ []) (fib i)
 -- the list of a number: its places, highest first
 abbrev pub places_of : ℕ → List ℕ
 places_of n = places (zeckendorf n)
-
--- the list in the row of 46 bytes that every 64-bit number's fits, zeros past it
-abbrev pub form_row : ℕ → List ℕ
-form_row n = places_of n ++ replicate (46 - length (places_of n)) 0
 
 -- a bit as a number
 abbrev pub bit : Bool → ℕ

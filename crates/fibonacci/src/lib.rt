@@ -1,15 +1,61 @@
 // REQUIREMENTS 2: Fibonacci numbers, Zeckendorf forms, Hofstadter's G and h. The definitions and laws of this
-// layer, and the types that they name; it has no functions.
+// layer, and the types that they name, with what fills and reads them.
 #![tactic(auto)]
 
-// The Zeckendorf form of a 64-bit number: its places, highest first, and their count; zeros past them.
-#[derive(Clone, Copy)]
+ghost use Rattle.std.specs.Prelude.{◌≡◌, ◌++◌, ◌∷◌, [], take};
+
+use std::marker::Model;
+
+// No 64-bit number's form has more places.
+pub const MAX_PLACES: usize = 46;
+
+// A list of places, as of the Zeckendorf form of a 64-bit number.
+#[derive(Drop)]
 pub struct Form {
-    pub places: [u8; 46],
-    pub count: usize,
+    row: [u8; MAX_PLACES],
+    count: usize,
 }
 
-// The same as the paper's bit string: bit i - 1 is place i; the length is the highest place, the count how many are set.
+impl Model for Form {
+    ghost use Rattle.std.specs.Prelude.{ℕ, List, ◌≤◌, take};
+
+    ghost Value = { List ℕ };
+
+    ghost view = { λ f. take f.count f.row };
+
+    ghost invariant = { λ f. f.count ≤ 46 };
+}
+
+impl Form {
+    // No place yet.
+    pub fn new() -> Form
+        ensures { result ≡ [] }
+    {
+        Form {
+            row: [0; MAX_PLACES],
+            count: 0,
+        }
+    }
+
+    // One more place behind the others; a full list stays as it is.
+    pub fn push(&mut self, place: u8)
+        ensures { self.new ≡ take 46 (self.old ++ (place ∷ [])) }
+    {
+        if self.count < MAX_PLACES {
+            self.row[self.count] = place;
+            self.count += 1;
+        }
+    }
+
+    // The places.
+    pub fn places(&self) -> &[u8]
+        ensures { result.now ≡ self.now }
+    {
+        &self.row[..self.count]
+    }
+}
+
+// The Zeckendorf form as the paper's bit string: bit i - 1 is place i; the length is the highest place, the count how many are set.
 #[derive(Clone, Copy)]
 pub struct BitString {
     pub bits: [u8; 92],

@@ -24,8 +24,8 @@ pub(crate) fn high_enough(n: u64) -> Weight
 pub(crate) fn lower(at: Weight) -> Weight
     requires weight { IsWeight at }
     requires place_nonzero { 0 < at.place }
-    ensures weight_2 { IsWeight result }
-    ensures place_value { suc result.place ≡ at.place }
+    ensures below_weight { IsWeight result }
+    ensures one_down { suc result.place ≡ at.place }
 {
     Weight {
         place: at.place - 1,

@@ -8,6 +8,6 @@ overflow_sub-result-2 c = below_at_most c.requires.weight
 
 pub returns : goal.returns
 returns c = record {
-  weight_2 = weighs_lower c.requires.weight c.requires.place_nonzero;
-  place_value = omega (arith, c.requires.place_nonzero);
+  below_weight = weighs_lower c.requires.weight c.requires.place_nonzero;
+  one_down = omega (arith, c.requires.place_nonzero);
 }
