@@ -84,11 +84,9 @@ fn places(n: u64, text: &mut [u8]) -> Reply
     ensures { Told text.old (number_reply NumberVerb.Places 0 (n ∷ [])) result text.new }
 {
     let form = zeckendorf::zeckendorf(n);
-    let bytes = form.places;
-    let count = form.count;
     Reply {
         status: ANSWERED,
-        length: bytes_line(text, 0, &bytes[..count]),
+        length: bytes_line(text, 0, form.places()),
     }
 }
 

@@ -1,7 +1,7 @@
 // Lists of places both ways: the list of a number, and the number of a list.
 #![tactic(auto)]
 
-ghost use Rattle.std.specs.Prelude.{◌≡◌, ◌≤◌, ◌++◌, length, drop};
+ghost use Rattle.std.specs.Prelude.{◌≡◌, length};
 ghost use Rattle.refusal.specs.Outcomes.{outcome_of};
 ghost use Rattle.fibonacci.specs.Services.{places_outcome, places_buffer, number_outcome};
 
@@ -19,12 +19,12 @@ pub fn places(n: u64, buffer: &mut [u8]) -> Result<u64, Refusal>
     ensures buffer_after { buffer.new ≡ places_buffer n buffer.old }
 {
     let form = zeckendorf(n);
-    let list = form.places;
-    let count = form.count;
+    let list = form.places();
+    let count = list.len();
     if buffer.len() < count {
         return Err(Refusal::Room);
     }
-    copy_to_front(&list[..count], buffer);
+    buffer[..count].copy_from_slice(list);
     Ok(count as u64)
 }
 
@@ -55,16 +55,4 @@ pub fn number_of_places(list: &[u8]) -> Result<u64, Refusal>
         return Err(Refusal::Range);
     }
     Ok(sum)
-}
-
-// Copies a list to the front of a buffer; the bytes past it stay.
-fn copy_to_front(list: &[u8], buffer: &mut [u8])
-    requires { length list.now ≤ length buffer.old }
-    ensures { buffer.new ≡ list.now ++ drop (length list.now) buffer.old }
-{
-    let mut i: usize = 0;
-    while i < list.len() {
-        buffer[i] = list[i];
-        i += 1;
-    }
 }
