@@ -1,13 +1,17 @@
 // Check: a tape is accepted where it is laid out, its numbers are allowed and, for a named program, its steps are those that build writes.
 #![tactic(auto)]
 
+mod accepted_tape;
+
 ghost use Rattle.std.specs.Prelude.{◌≡◌, true};
 ghost use Rattle.refusal.specs.Outcomes.{answered, outcome_of, verdict_of};
 ghost use Rattle.tape.specs.Layout.{header_of, header_outcome};
 ghost use Rattle.named.specs.Parameters.{bad_variant};
 ghost use Rattle.program.specs.Services.{check_outcome, accept_outcome};
+ghost use Rattle.accepting.specs.Accepted.{AcceptedAs};
 ghost use Rattle.program.specs.Inner.Building.{refused_past};
 
+pub use accepted_tape::Accepted;
 use building::build;
 use parameters::{is_bad_modulus, is_bad_variant};
 use refusal::Refusal;
@@ -27,6 +31,16 @@ pub fn accept(tape: &[u32]) -> Result<Header, Refusal>
 {
     let header = layout::read_header(tape)?;
     accept_measured(tape, header)
+}
+
+// The same with the tape beside its header, for services that pass both on.
+pub fn accept_tape(tape: &[u32]) -> Result<Accepted, Refusal>
+    ensures { AcceptedAs tape.now result }
+{
+    match accept(tape) {
+        HeaderAnswer::Refused(e) => Err(e),
+        HeaderAnswer::Answered(header) => Ok(Accepted { tape, header }),
+    }
 }
 
 // A tape whose words are those that build writes for its numbers is laid out, so nothing of it is decoded but the header. Only where
