@@ -37,10 +37,8 @@ pub fn accept(tape: &[u32]) -> Result<Header, Refusal>
 pub fn accept_tape(tape: &[u32]) -> Result<Accepted, Refusal>
     ensures { AcceptedAs tape.now result }
 {
-    match accept(tape) {
-        HeaderAnswer::Refused(e) => Err(e),
-        HeaderAnswer::Answered(header) => Ok(Accepted { tape, header }),
-    }
+    let header = accept(tape)?;
+    Ok(Accepted { tape, header })
 }
 
 // A tape whose words are those that build writes for its numbers is laid out, so nothing of it is decoded but the header. Only where
