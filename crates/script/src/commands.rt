@@ -26,6 +26,7 @@ pub(crate) fn commanded(
     let line = understand(arguments, true);
     let call = line.call;
     let values = &line.values[..count_in(call)];
+    // `act_of` is told whether there is a room, so its acts hold none: where there is none, no act looks at this.
     let room = marks.room.unwrap_or(0);
     match act_of(call, marks.room.is_some()) {
         Act::Reply => as_tool(arguments, tapes, marks, text),
