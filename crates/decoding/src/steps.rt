@@ -1,12 +1,18 @@
 // The words of steps, told by arithmetic.
-ghost use Rattle.std.specs.Prelude.{◌≡◌, ◌-◌, eqb};
+ghost use Rattle.std.specs.Prelude.{◌≡◌, ◌-◌, eqb, IsSome, MatchOption};
 ghost use Rattle.tape.specs.declared.Decoded.TheVariants.{Action};
 ghost use Rattle.tape.specs.Words.{decoded, kinds_of};
 ghost use Rattle.tape.specs.Layout.{sort_of};
-ghost use Rattle.tape.specs.Inner.Operations.{raw_step, step_for};
+ghost use Rattle.tape.specs.Inner.Operations.{opcode_of, raw_step, step_for};
 
-use crate::payloads::{REGISTER_PAIRS, REGISTERS};
-use tape::{NUMBER_LIMIT, Operation, Step};
+use std::cmp::Ordering;
+use tape::{NUMBER_LIMIT, Opcode, Operation, Step};
+
+// Registers are below this; a step's source stands above its target.
+const REGISTERS: u32 = 4;
+
+// Steps' payloads are below this.
+const REGISTER_PAIRS: u32 = 16;
 
 // Whether a word is a step's. Its kinds are told apart by arithmetic: a branch for each is mispredicted at most
 // steps.
@@ -14,46 +20,42 @@ pub fn is_step(word: u32) -> bool
     ensures { result ≡ eqb (sort_of (decoded word)) 5 }
 {
     let payload = word % NUMBER_LIMIT;
-    if REGISTER_PAIRS <= payload {
-        return false;
-    }
-    let kinds = kinds_of(payload % REGISTERS, payload / REGISTERS);
     let kind = word / NUMBER_LIMIT;
-    if kind < 5 {
+    if REGISTER_PAIRS <= payload || kind < 5 {
         return false;
     }
-    kind - 5 < kinds
+    kind - 5 < kinds_of(payload % REGISTERS, payload / REGISTERS)
 }
 
 // How many kinds from 5 on take a target and a source: none where they are equal, and swp where the target is the smaller.
 fn kinds_of(target: u32, source: u32) -> u32
     ensures { result ≡ kinds_of target source }
 {
-    if target < source {
-        return 3;
+    match target.cmp(&source) {
+        Ordering::Less => 3,
+        Ordering::Greater => 2,
+        Ordering::Equal => 0,
     }
-    if source < target {
-        return 2;
-    }
-    0
 }
 
-// The step of a step's word.
-pub(crate) fn step_in(word: u32) -> Step
-    requires { sort_of (decoded word) ≡ 5 }
-    ensures { Action result ≡ decoded word }
+// The step of a word, if it is a step's.
+pub(crate) fn step_in(word: u32) -> Option<Step>
+    ensures { MatchOption result (¬ (sort_of (decoded word) ≡ 5)) (λ step. decoded word ≡ Action step) }
 {
+    if !is_step(word) {
+        return None;
+    }
     let payload = word % NUMBER_LIMIT;
     let target = payload % REGISTERS;
     let source = payload / REGISTERS;
-    match word / NUMBER_LIMIT {
+    Some(match word / NUMBER_LIMIT {
         5 => Step::Mul(target, source),
         6 => Step::Div(target, source),
         _ => Step::Swp(target, source),
-    }
+    })
 }
 
-// The step that a word has in its digits, told by arithmetic alone. A run, a trace and a preview ask it of the words of an accepted tape,
+// The step that a word has in its digits, told without a branch. A run, a trace and a preview ask it of the words of an accepted tape,
 // where it is their meaning.
 pub fn operation_of(word: u32) -> Operation
     ensures { step_for result ≡ raw_step word }
@@ -65,12 +67,13 @@ pub fn operation_of(word: u32) -> Operation
     }
 }
 
-// The kinds from 5 on, counted from 0.
-fn opcode_of(kind: u32) -> u32
-    ensures { result ≡ kind - 5 }
+// What the steps of a kind do; 5 and below multiply, 7 and above exchange.
+fn opcode_of(kind: u32) -> Opcode
+    ensures { result ≡ opcode_of (kind - 5) }
 {
-    if kind < 5 {
-        return 0;
+    match kind {
+        0..=5 => Opcode::Mul,
+        6 => Opcode::Div,
+        _ => Opcode::Swp,
     }
-    kind - 5
 }

@@ -3,14 +3,13 @@
 
 mod whole;
 
-ghost use Rattle.std.specs.Prelude.{◌≡◌};
-ghost use Rattle.tape.specs.declared.Step.TheVariants.{Mul, Div, Swp};
+ghost use Rattle.std.specs.Prelude.{◌≡◌, true, set, is_some, IfSome, MatchOption};
 ghost use Rattle.tape.specs.Inner.Operations.{step_for};
-ghost use Rattle.machine.specs.Exponents.{exponents_of, first_exponents, makes_in_range, shift_in_range};
+ghost use Rattle.machine.specs.Exponents.{exponents_of, first_exponents, in_range, makes_in_range, shift_in_range};
 
 use machine::Exponents;
-use tape::Operation;
-use whole::{exponent, is_difference_in_range, is_sum_in_range, set_exponent};
+use tape::{Opcode, Operation};
+use whole::{difference, exponent, set_exponent, sum};
 
 // The first four of some exponents; 0 stands for one that is missing.
 pub fn exponents_of(exponents: &[i64]) -> Exponents
@@ -25,56 +24,33 @@ pub fn exponents_of(exponents: &[i64]) -> Exponents
 }
 
 // A step on whole exponents, in place: whether the number that it makes is in the range. Where it isn't, nothing changes. The other
-// exponents are not looked at: a step leaves them as they are.
+// exponents are not looked at: a step leaves them as they are. A swp makes no number.
 pub fn shift(exponents: &mut [i64], op: Operation) -> bool
     ensures value { result ≡ makes_in_range (step_for op) exponents.old }
     ensures exponents_after { exponents.new ≡ shift_in_range (step_for op) exponents.old }
 {
-    if op.opcode == 0 {
-        return add(exponents, op.target, op.source);
+    let x = exponent(exponents, op.target);
+    let y = exponent(exponents, op.source);
+    match op.opcode {
+        Opcode::Mul => set_made(exponents, op.target, sum(x, y)),
+        Opcode::Div => set_made(exponents, op.target, difference(x, y)),
+        Opcode::Swp => {
+            set_exponent(exponents, op.target, y);
+            set_exponent(exponents, op.source, x);
+            true
+        }
     }
-    if op.opcode == 1 {
-        return subtract(exponents, op.target, op.source);
-    }
-    exchange(exponents, op.target, op.source)
 }
 
-// A mul.
-fn add(exponents: &mut [i64], target: u32, source: u32) -> bool
-    ensures value { result ≡ makes_in_range (Mul target source) exponents.old }
-    ensures exponents_after { exponents.new ≡ shift_in_range (Mul target source) exponents.old }
+// The number that a step makes, set at its target, if it is in the range: whether it is.
+fn set_made(exponents: &mut [i64], target: u32, made: Option<i64>) -> bool
+    requires { IfSome made (λ x. in_range x ≡ true) }
+    ensures value { result ≡ is_some made }
+    ensures exponents_after { MatchOption made (exponents.new ≡ exponents.old) (λ x. exponents.new ≡ set exponents.old target x) }
 {
-    let x = exponent(exponents, target);
-    let y = exponent(exponents, source);
-    if !is_sum_in_range(x, y) {
+    let Some(x) = made else {
         return false;
-    }
-    set_exponent(exponents, target, x + y);
-    true
-}
-
-// A div.
-fn subtract(exponents: &mut [i64], target: u32, source: u32) -> bool
-    ensures value { result ≡ makes_in_range (Div target source) exponents.old }
-    ensures exponents_after { exponents.new ≡ shift_in_range (Div target source) exponents.old }
-{
-    let x = exponent(exponents, target);
-    let y = exponent(exponents, source);
-    if !is_difference_in_range(x, y) {
-        return false;
-    }
-    set_exponent(exponents, target, x - y);
-    true
-}
-
-// A swp, which makes no number.
-fn exchange(exponents: &mut [i64], target: u32, source: u32) -> bool
-    ensures value { result ≡ makes_in_range (Swp target source) exponents.old }
-    ensures exponents_after { exponents.new ≡ shift_in_range (Swp target source) exponents.old }
-{
-    let x = exponent(exponents, target);
-    let y = exponent(exponents, source);
-    set_exponent(exponents, target, y);
-    set_exponent(exponents, source, x);
+    };
+    set_exponent(exponents, target, x);
     true
 }

@@ -10,10 +10,18 @@ pub enum Step {
     Swp(u32, u32),
 }
 
-// A step by an opcode, with its registers: 0 multiplies, 1 divides, 2 and above exchange.
+// What a step does, apart from its registers.
+#[derive(Clone, Copy, PartialEq, Eq)]
+pub enum Opcode {
+    Mul,
+    Div,
+    Swp,
+}
+
+// A step by its opcode, with its registers.
 #[derive(Clone, Copy)]
 pub struct Operation {
-    pub opcode: u32,
+    pub opcode: Opcode,
     pub target: u32,
     pub source: u32,
 }

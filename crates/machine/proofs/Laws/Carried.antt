@@ -1,12 +1,12 @@
 -- Taking inverses is an automorphism of the residues modulo a prime: the inverse of a product is the product of the inverses. So a
 -- step on the inverses makes the inverses of what the step makes of the registers, and a division needs no search for one. Where the
 -- registers stand in a form whose product is that of the numbers, the steps on the forms make the forms of what they make of the numbers.
+use Rattle.std.specs.Prelude.{◌≢◌}
 use mathlib.Core.Path.{◌≡◌, refl, sym, ◌∙◌, ap, ap₂}
-use mathlib.Core.Bool.{cond}
+use mathlib.Core.Bool.{Bool, true, false, cond}
 use mathlib.Core.List.{List, [], ◌∷◌, map}
-use Prim.Native.Nat.{ℕ, zero, suc, ◌<◌}
+use Prim.Native.Nat.{ℕ}
 use native.Mathlib.Omega.{arith}
-use lib.Dec.{eqb}
 use lib.ListN.{length, get_or, set, get_or-map, length-set}
 use Rattle.modular.specs.Primes.{Prime}
 use Rattle.modular.specs.Residues.{Residue, times}
@@ -17,8 +17,9 @@ use Rattle.modular.proofs.Laws.Group.{residue_inverse, residue_times, div_mul, i
 use Rattle.tape.specs.declared.Step.{Step}
 use Rattle.tape.specs.declared.Step.TheVariants.{Mul, Div, Swp}
 use Rattle.tape.specs.Steps.{Sound, AllSound}
+use Rattle.tape.specs.declared.Opcode.{Opcode}
+use Rattle.tape.specs.declared.Opcode.TheVariants.{Mul as ByMul, Div as ByDiv, Swp as BySwp}
 use Rattle.tape.specs.Inner.Operations.{step_by}
-use Rattle.tape.proofs.Laws.Shapes.{exchanges}
 use Rattle.machine.specs.Machine.{reg, apply, do_all, Residues}
 use Rattle.machine.specs.Inner.Carried.{inverses, apply_with, do_all_with, inverses_with}
 use Rattle.machine.proofs.Laws.Lists.{four_first, map_set}
@@ -145,15 +146,18 @@ length_with product (Mul t s) v w = length-set v t _
 length_with product (Div t s) v w = length-set v t _
 length_with product (Swp t s) v w = length-set (set v t (reg v s)) s _ ∙ length-set v t _
 
--- by the number of what it does
+-- by its opcode
 
 module _ (product : ℕ → ℕ → ℕ) (t s : ℕ) (v w : List ℕ) where
-  pub factor_by : (n : ℕ) → n < 2 → apply_with product (step_by n t s) v w ≡ set v t (product (reg v t) (cond (eqb n 1) (reg w s) (reg v s)))
+  pub factor_by : (o : Opcode) → o ≢ BySwp → (divides : Bool) → (divides ≡ true → o ≡ ByDiv) → (divides ≡ false → o ≢ ByDiv)
+      → apply_with product (step_by o t s) v w ≡ set v t (product (reg v t) (cond divides (reg w s) (reg v s)))
   unfolding apply_with step_by
-  factor_by zero less = refl
-  factor_by (suc zero) less = refl
-  factor_by (suc (suc n)) less = absurd (omega arith)
+  factor_by ByMul apart true does other = let never = does refl in cc
+  factor_by ByMul apart false does other = refl
+  factor_by ByDiv apart true does other = refl
+  factor_by ByDiv apart false does other = absurd (other refl refl)
+  factor_by BySwp apart divides does other = absurd (apart refl)
 
-  pub exchange_by : (n : ℕ) → 1 < n → apply_with product (step_by n t s) v w ≡ set (set v t (reg v s)) s (reg v t)
-  unfolding apply_with
-  exchange_by n more = ap (λ (x : Step). apply_with product x v w) (exchanges n t s more)
+  pub exchange_by : (o : Opcode) → o ≡ BySwp → apply_with product (step_by o t s) v w ≡ set (set v t (reg v s)) s (reg v t)
+  unfolding apply_with step_by
+  exchange_by o is = rw is

@@ -1,17 +1,18 @@
 -- How many steps of a list are mul, div and swp: every step is one of the three, so the counts add up to how many there are; and taken
 -- back each step is the opposite one, in whatever order, so mul and div are exchanged.
-use mathlib.Core.Path.{◌≡◌, refl, sym, ap, ◌∙◌}
+use Rattle.std.specs.Prelude.{◌≢◌}
+use mathlib.Core.Path.{◌≡◌, refl, ap, ◌∙◌}
 use mathlib.Core.Bool.{Bool, true, false, cond}
 use mathlib.Core.List.{List, [], ◌∷◌, ◌++◌}
-use Prim.Native.Nat.{ℕ, zero, suc, ◌+◌, ◌-◌, ◌≤◌, ◌<◌}
+use Prim.Native.Nat.{ℕ, suc, ◌+◌, ◌-◌, ◌≤◌, ◌<◌}
 use native.Mathlib.Omega.{arith}
 use native.Mathlib.Decide.{dec_lt}
-use lib.Dec.{eqb}
 use lib.ListN.{length, get_or, drop, drop_of_length-le}
 use lib.Seq.{slice, length-slice}
-use borrow.Author.Tests.{ne_eqb}
 use Rattle.tape.specs.declared.Step.{Step}
 use Rattle.tape.specs.declared.Step.TheVariants.{Mul, Div, Swp}
+use Rattle.tape.specs.declared.Opcode.{Opcode}
+use Rattle.tape.specs.declared.Opcode.TheVariants.{Mul as ByMul, Div as ByDiv, Swp as BySwp}
 use Rattle.tape.specs.Inner.Operations.{step_by}
 use Rattle.tape.proofs.Laws.Rows.{drop_next}
 use Rattle.machine.specs.Machine.{inverse_step, inverted}
@@ -54,16 +55,24 @@ module _ (test : Step → Bool) where
     unfolding count_where
     count_end past = ap (count_where test) (drop_of_length-le xs past)
 
--- a kind by its opcode; swp is every other
-pub kind_by : (k n t s : ℕ) → k < 2 → is_kind k (step_by n t s) ≡ eqb n k
-unfolding is_kind is_mul is_div step_by
-kind_by zero zero t s low = refl
-kind_by zero (suc zero) t s low = refl
-kind_by zero (suc (suc n)) t s low = sym (ne_eqb (suc (suc n)) 0 (λ e. omega arith))
-kind_by (suc zero) zero t s low = refl
-kind_by (suc zero) (suc zero) t s low = refl
-kind_by (suc zero) (suc (suc n)) t s low = sym (ne_eqb (suc (suc n)) 1 (λ e. omega arith))
-kind_by (suc (suc k)) n t s low = absurd (omega arith)
+-- a step is of the kind of its opcode, and of no other
+pub kind_same : (o : Opcode) (t s : ℕ) → is_kind o (step_by o t s) ≡ true
+unfolding is_kind is_mul is_div is_swp step_by
+kind_same ByMul t s = refl
+kind_same ByDiv t s = refl
+kind_same BySwp t s = refl
+
+pub kind_other : (k o : Opcode) (t s : ℕ) → o ≢ k → is_kind k (step_by o t s) ≡ false
+unfolding is_kind is_mul is_div is_swp step_by
+kind_other ByMul ByMul t s apart = absurd (apart refl)
+kind_other ByMul ByDiv t s apart = refl
+kind_other ByMul BySwp t s apart = refl
+kind_other ByDiv ByMul t s apart = refl
+kind_other ByDiv ByDiv t s apart = absurd (apart refl)
+kind_other ByDiv BySwp t s apart = refl
+kind_other BySwp ByMul t s apart = refl
+kind_other BySwp ByDiv t s apart = refl
+kind_other BySwp BySwp t s apart = absurd (apart refl)
 
 -- ---- the three counts
 
@@ -81,10 +90,10 @@ counts_total xs = counts_sum xs
 -- so two of them tell the third
 module _ (xs : List Step) where
   abbrev mul : ℕ
-  mul = count_where (is_kind 0) xs
+  mul = count_where (is_kind ByMul) xs
 
   abbrev div : ℕ
-  div = count_where (is_kind 1) xs
+  div = count_where (is_kind ByDiv) xs
 
   pub kinds_within : mul + div ≤ length xs
   unfolding is_kind

@@ -2,7 +2,7 @@
 -- the product.
 use mathlib.Core.Path.{◌≡◌, refl, sym, ◌∙◌, ap}
 use mathlib.Core.List.{List, [], ◌∷◌, ◌++◌, append-nil, append_assoc}
-use Prim.Native.Nat.{ℕ, zero, suc, ◌-◌, ◌<◌}
+use Prim.Native.Nat.{ℕ, zero, suc, ◌<◌}
 use native.Mathlib.Omega.{arith}
 use native.Mathlib.Decide.{ℕ_discrete}
 use lib.ListN.{length, set, length-append, length-set}
@@ -13,7 +13,6 @@ use Rattle.modular.proofs.Laws.Group.{residue_one, residue_times, residue_invers
 use Rattle.tape.specs.declared.Step.{Step}
 use Rattle.tape.specs.declared.Step.TheVariants.{Mul, Div, Swp}
 use Rattle.tape.specs.Steps.{Sound, AllSound}
-use Rattle.tape.specs.Inner.Operations.{step_by}
 use Rattle.machine.specs.Machine.{reg, apply, inverse_step, do_all, undo_all, inverted, Residues, start}
 use Rattle.machine.proofs.Laws.Actions.{act, quotient, act_inverse, apply_act}
 
@@ -72,12 +71,6 @@ pub undo_all_append : (p : ℕ) (xs ys : List Step) (v : List ℕ) → undo_all 
 unfolding undo_all
 undo_all_append p [] ys v = refl
 undo_all_append p (x ∷ xs) ys v = ap (apply p (inverse_step x)) (undo_all_append p xs ys v)
-
-pub inverse_by : (n t s : ℕ) → n < 2 → step_by (1 - n) t s ≡ inverse_step (step_by n t s)
-unfolding step_by inverse_step
-inverse_by zero t s less = refl
-inverse_by (suc zero) t s less = refl
-inverse_by (suc (suc n)) t s less = absurd (omega arith)
 
 -- undone is done with the opposite steps in reverse order
 pub do_inverted : (p : ℕ) (xs : List Step) (v : List ℕ) → do_all p (inverted xs) v ≡ undo_all p xs v

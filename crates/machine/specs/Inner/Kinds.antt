@@ -1,10 +1,12 @@
 -- The kind of a step by its opcode, as code that counts asks for it.
-use Rattle.std.specs.Prelude.{Bool, ℕ, zero, suc}
+use Rattle.std.specs.Prelude.{Bool}
 use Rattle.tape.specs.declared.Step.{Step}
+use Rattle.tape.specs.declared.Opcode.{Opcode}
+use Rattle.tape.specs.declared.Opcode.TheVariants.{Mul as ByMul, Div as ByDiv, Swp as BySwp}
 use Rattle.machine.specs.Ways.{is_mul, is_div, is_swp}
 
--- 0 asks for mul, 1 for div, 2 and above for swp, as `step_by` has them
-unfoldable pub is_kind : ℕ → Step → Bool
-is_kind zero x = is_mul x
-is_kind (suc zero) x = is_div x
-is_kind (suc (suc n)) x = is_swp x
+-- whether a step has an opcode, as `step_by` has them
+unfoldable pub is_kind : Opcode → Step → Bool
+is_kind ByMul x = is_mul x
+is_kind ByDiv x = is_div x
+is_kind BySwp x = is_swp x

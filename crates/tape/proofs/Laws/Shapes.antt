@@ -1,21 +1,24 @@
 -- The words of steps by arithmetic: a payload of two registers, and a kind from 5 on of as many as take them. Such a word means a step,
 -- and a word that means a step is one.
 use mathlib.Core.Path.{◌≡◌, refl, sym, ◌∙◌, ap, ap₂}
+use mathlib.Core.Bool.{◌&&◌}
 use mathlib.Core.Logic.{⊎_elim}
 use Prim.Native.Nat.{ℕ, zero, suc, ◌+◌, ◌-◌, ◌*◌, ◌/◌, ◌%◌, ◌≤◌, ◌<◌}
 use native.Mathlib.Nat.{add-mul-mod_self_right, dvd-mul_right, eq-or-lt_of_le, mod-eq_of_lt, mod-mod_of_dvd}
 use native.Mathlib.Omega.{arith}
+use native.Mathlib.Decide.{ℕ_discrete}
 use lib.Dec.{ltb}
 use borrow.Author.Tests.{ltb-true, ltb-false, lt-ltb, le-ltb}
 use Rattle.refusal.proofs.Laws.Tests.{by_test}
 use Rattle.tape.specs.declared.Step.{Step}
 use Rattle.tape.specs.declared.Step.TheVariants.{Mul, Div, Swp}
-use Rattle.tape.specs.declared.Decoded.TheVariants.{Action}
+use Rattle.tape.specs.declared.Decoded.TheVariants.{Action, Bad}
 use Rattle.tape.specs.Steps.{Sound}
-use Rattle.tape.specs.Words.{kind_of, payload_of, packed_word, kinds_of, decoded, step_word, encoded}
+use Rattle.tape.specs.Words.{kind_of, payload_of, packed_word, are_distinct, action_in, swap_in, kinds_of, decoded, step_word, encoded}
 use Rattle.tape.specs.Layout.{sort_of, step_of}
-use Rattle.tape.specs.Inner.Operations.{step_by, raw_step}
-use Rattle.tape.proofs.Laws.Payloads.{action_good, swap_good}
+use Rattle.tape.specs.declared.Opcode.TheVariants.{Swp as BySwp}
+use Rattle.tape.specs.Inner.Operations.{step_by, opcode_of, raw_step}
+use Rattle.tape.proofs.Laws.Payloads.{action_distinct, action_bad, action_good, swap_good}
 use Rattle.tape.proofs.Laws.Words.{decoded_lawful, step_sound, word_again}
 
 -- ---- how many kinds take two registers
@@ -84,11 +87,11 @@ pub kind_7 : (kind : ℕ) → 5 ≤ kind → (kind ≡ 5 → ⊥) → (kind ≡ 
 kind_7 kind first not_5 not_6 =
     ⊎_elim (λ e. absurd (not_5 (sym e))) (λ h. ⊎_elim (λ e. absurd (not_6 (sym e))) (λ k. k) (eq-or-lt_of_le h)) (eq-or-lt_of_le first)
 
-pub exchanges : (n t s : ℕ) → 1 < n → step_by n t s ≡ Swp t s
-unfolding step_by
-exchanges zero t s more = absurd (omega arith)
-exchanges (suc zero) t s more = absurd (omega arith)
-exchanges (suc (suc n)) t s more = refl
+pub exchanges : (n : ℕ) → 1 < n → opcode_of n ≡ BySwp
+unfolding opcode_of
+exchanges zero more = absurd (omega arith)
+exchanges (suc zero) more = absurd (omega arith)
+exchanges (suc (suc n)) more = refl
 
 module _ (w : ℕ) (shape : Shape w) where
   differ : payload_of w % 4 ≡ payload_of w / 4 → ⊥
@@ -115,25 +118,52 @@ module _ (w : ℕ) (shape : Shape w) where
       rw k (swap_good (payload_of w) shape.pair (order last))
 
   -- its kind from 5 on is the number of what it does
-  means_operation : step_by (kind_of w - 5) (payload_of w % 4) (payload_of w / 4) ≡ step_of (decoded w)
-  unfolding step_by
+  means_operation : step_by (opcode_of (kind_of w - 5)) (payload_of w % 4) (payload_of w / 4) ≡ step_of (decoded w)
+  unfolding step_by opcode_of
   means_operation =
       ⊎_elim (λ e. by_number 0 (omega arith) (means_5 (sym e)))
       (λ h.
       ⊎_elim (λ e. by_number 1 (omega arith) (means_6 (sym e)))
-      (λ last. exchanges (kind_of w - 5) _ _ (omega arith) ∙ sym (ap step_of (means_7 last)))
+      (λ last. rw (exchanges (kind_of w - 5) (omega arith), means_7 last))
       (eq-or-lt_of_le h))
       (eq-or-lt_of_le shape.first)
     where
-      by_number : (n : ℕ) → kind_of w - 5 ≡ n → decoded w ≡ Action (step_by n (payload_of w % 4) (payload_of w / 4))
-          → step_by (kind_of w - 5) (payload_of w % 4) (payload_of w / 4) ≡ step_of (decoded w)
-      by_number n number means = ap (λ (k : ℕ). step_by k (payload_of w % 4) (payload_of w / 4)) number ∙ sym (ap step_of means)
+      by_number : (n : ℕ) → kind_of w - 5 ≡ n → decoded w ≡ Action (step_by (opcode_of n) (payload_of w % 4) (payload_of w / 4))
+          → step_by (opcode_of (kind_of w - 5)) (payload_of w % 4) (payload_of w / 4) ≡ step_of (decoded w)
+      by_number n number means = rw (number, means)
 
   pub shape_sort : sort_of (decoded w) ≡ 5
   shape_sort =
       ⊎_elim (λ e. ap sort_of (means_5 (sym e)))
       (λ h. ⊎_elim (λ e. ap sort_of (means_6 (sym e))) (λ last. ap sort_of (means_7 last)) (eq-or-lt_of_le h))
       (eq-or-lt_of_le shape.first)
+
+-- ---- a word of a step's kind that is no step
+
+module _ (w : ℕ) where
+  no_action : (step : ℕ → ℕ → Step) → decoded w ≡ action_in step (payload_of w) → (sort_of (decoded w) ≡ 5 → ⊥) → decoded w ≡ Bad
+  no_action step means none =
+      by_test (are_distinct (payload_of w))
+      (λ e. absurd (none (ap sort_of (means ∙ action_distinct step (payload_of w) e))))
+      (λ e. means ∙ action_bad step (payload_of w) e)
+
+  no_swap : kind_of w ≡ 7 → (sort_of (decoded w) ≡ 5 → ⊥) → decoded w ≡ Bad
+  unfolding decoded swap_in
+  no_swap k none =
+      by_test (ltb (payload_of w) 16 && ltb (payload_of w % 4) (payload_of w / 4))
+      (λ e. absurd (none (rw (k, e))))
+      (λ e. rw (k, e))
+
+  pub no_step : 5 ≤ kind_of w → kind_of w ≤ 7 → (sort_of (decoded w) ≡ 5 → ⊥) → decoded w ≡ Bad
+  unfolding decoded
+  no_step first last none =
+      elim (ℕ_discrete (kind_of w) 5) [
+        | yes k ↦ no_action Mul (rw k) none
+        | no not_5 ↦ elim (ℕ_discrete (kind_of w) 6) [
+          | yes k ↦ no_action Div (rw k) none
+          | no not_6 ↦ no_swap (omega (arith, kind_7 (kind_of w) first not_5 not_6)) none
+        ]
+      ]
 
 -- a step's word has nothing but its kind and its registers
 pub raw_means : (w : ℕ) → sort_of (decoded w) ≡ 5 → raw_step w ≡ step_of (decoded w)
@@ -146,4 +176,4 @@ raw_means w e =
     let small : payload_of w / 4 < 4 = omega (arith, shape.pair) in
     let source : w / 4 % 4 ≡ payload_of w / 4 =
     ap (λ (n : ℕ). n % 4) quarter ∙ add-mul-mod_self_right (payload_of w / 4) (kind_of w * 16777216) 4 ∙ mod-eq_of_lt small in
-    ap₂ (step_by (kind_of w - 5)) target source ∙ means_operation w shape
+    ap₂ (step_by (opcode_of (kind_of w - 5))) target source ∙ means_operation w shape
