@@ -2,4 +2,3 @@
 pub mod Newton
 pub mod Forms
 pub mod Squaring
-pub mod FormSquaring

@@ -4,11 +4,11 @@
 ghost use Rattle.std.specs.Prelude.{◌≡◌, ◌^◌};
 ghost use Rattle.modular.specs.Residues.{remainder};
 ghost use Rattle.montgomery.specs.Inner.Forms.{IsModulus, square_of, lift, reduction, form_times, enter, leave, form_inverse};
-ghost use Rattle.montgomery.specs.Inner.Squaring.{FormPower};
+ghost use Rattle.montgomery.specs.Inner.Squaring.{Power};
 
 use modular::{inverse_or_zero, product};
 
-const WORD: u64 = 4294967296;
+const WORD: u64 = 0x1_0000_0000;
 
 // A modulus p; its inverse modulo 2^32, where it is odd; and a number from 1 to p that is 2^64 modulo p.
 #[derive(Clone, Copy)]
@@ -18,90 +18,94 @@ pub struct Modulus {
     pub square: u32,
 }
 
-// A modulus made ready: Newton's iteration from 1, which is the inverse of an odd number modulo 2, and one division.
-pub fn modulus_of(p: u32) -> Modulus
-    ensures { IsModulus p result }
-{
-    let inverse = lifted(p, lifted(p, lifted(p, lifted(p, lifted(p, 1)))));
-    Modulus {
-        value: p,
-        inverse,
-        square: square_of(p),
-    }
-}
-
-// Into the form.
-pub fn enter(m: Modulus, x: u32) -> u32
-    ensures { result ≡ enter m x }
-{
-    multiply(m, x, m.square)
-}
-
-// Out of the form.
-pub fn leave(m: Modulus, x: u32) -> u32
-    ensures { result ≡ leave m x }
-{
-    reduced(m, x as u64)
-}
-
-// The product of two numbers in the form.
-pub fn multiply(m: Modulus, x: u32, y: u32) -> u32
-    ensures { result ≡ form_times m x y }
-{
-    reduced(m, (x as u64) * (y as u64))
-}
-
-// The inverse of a number in the form; the form of 0 where there is none.
-pub fn invert(m: Modulus, x: u32) -> u32
-    ensures { result ≡ form_inverse m x }
-{
-    enter(m, inverse_or_zero(leave(m, x), m.value))
-}
-
-// The power modulo m; modulo 0 it is 0. Of an even m there is no form.
-pub fn power(base: u32, exponent: u32, m: u32) -> u32
-    ensures { result ≡ remainder (base ^ exponent) m }
-{
-    if m % 2 == 0 {
-        return plain_power(base, exponent, m);
-    }
-    let modulus = modulus_of(m);
-    leave(modulus, form_power(modulus, base, exponent))
-}
-
-// The power in the form, by repeated squaring.
-fn form_power(m: Modulus, base: u32, exponent: u32) -> u32
-    ensures { FormPower m base exponent result }
-{
-    let mut result = enter(m, 1);
-    let mut square = enter(m, base);
-    let mut rest = exponent;
-    while rest > 0 {
-        if rest % 2 == 1 {
-            result = multiply(m, result, square);
+impl Modulus {
+    // A modulus made ready: Newton's iteration from 1, which is the inverse of an odd number modulo 2, and one division.
+    pub fn new(p: u32) -> Modulus
+        ensures { IsModulus p result }
+    {
+        Modulus {
+            value: p,
+            inverse: lifted(p, lifted(p, lifted(p, lifted(p, lifted(p, 1))))),
+            square: square_of(p),
         }
-        square = multiply(m, square, square);
-        rest = rest / 2;
     }
-    result
+
+    // Into the form.
+    pub fn enter(self, x: u32) -> u32
+        ensures { result ≡ enter self x }
+    {
+        self.multiply(x, self.square)
+    }
+
+    // Out of the form.
+    pub fn leave(self, x: u32) -> u32
+        ensures { result ≡ leave self x }
+    {
+        self.reduced(x as u64)
+    }
+
+    // The product of two numbers in the form.
+    pub fn multiply(self, x: u32, y: u32) -> u32
+        ensures { result ≡ form_times self x y }
+    {
+        self.reduced((x as u64) * (y as u64))
+    }
+
+    // The inverse of a number in the form; the form of 0 where there is none.
+    pub fn invert(self, x: u32) -> u32
+        ensures { result ≡ form_inverse self x }
+    {
+        self.enter(inverse_or_zero(self.leave(x), self.value))
+    }
+
+    // Montgomery's reduction: a multiple of p has the low word of t, and the difference of the high words is the quotient.
+    fn reduced(self, t: u64) -> u32
+        ensures { result ≡ reduction self.value self.inverse t }
+    {
+        let u = t % WORD * (self.inverse as u64) % WORD;
+        let high = (t / WORD) as u32;
+        let multiple = (u * (self.value as u64) / WORD) as u32;
+        if high < multiple {
+            return high + (self.value - multiple);
+        }
+        high - multiple
+    }
 }
 
-// The power modulo m, by repeated squaring with divisions; modulo 0 it is 0.
-fn plain_power(base: u32, exponent: u32, m: u32) -> u32
+// The power modulo m; modulo 0 it is 0. Of an even m there is no form, and a product takes a division.
+pub fn power(base: u32, exponent: u32, m: u32) -> u32
     ensures { result ≡ remainder (base ^ exponent) m }
 {
     if m == 0 {
         return 0;
     }
-    let mut result = 1 % m;
-    let mut square = base % m;
+    if m % 2 == 0 {
+        return power_by(|x, y| product(x, y, m), 1 % m, base % m, exponent);
+    }
+    let modulus = Modulus::new(m);
+    let form = power_by(
+        |x, y| modulus.multiply(x, y),
+        modulus.enter(1),
+        modulus.enter(base),
+        exponent,
+    );
+    modulus.leave(form)
+}
+
+// The power by repeated squaring, from what stands for 1 and for the base in a product.
+fn power_by<P: Fn(u32, u32) -> u32>(product: P, one: u32, base: u32, exponent: u32) -> u32
+    requires { P.IsAlwaysCallable product }
+    ensures { Power (P.post product) one base exponent result }
+{
+    let mut result = one;
+    let mut square = base;
     let mut rest = exponent;
     while rest > 0 {
         if rest % 2 == 1 {
-            result = product(result, square, m);
+            result = product(result, square);
         }
-        square = product(square, square, m);
-        rest = rest / 2;
+        square = product(square, square);
+        rest /= 2;
     }
     result
 }
@@ -121,18 +125,5 @@ fn square_of(p: u32) -> u32
     if p == 0 {
         return 1;
     }
-    (0xFFFF_FFFF_FFFF_FFFF % (p as u64)) as u32 + 1
-}
-
-// Montgomery's reduction: a multiple of p has the low word of t, and the difference of the high words is the quotient.
-fn reduced(m: Modulus, t: u64) -> u32
-    ensures { result ≡ reduction m.value m.inverse t }
-{
-    let u = t % WORD * (m.inverse as u64) % WORD;
-    let high = (t / WORD) as u32;
-    let multiple = (u * (m.value as u64) / WORD) as u32;
-    if high < multiple {
-        return high + (m.value - multiple);
-    }
-    high - multiple
+    (u64::MAX % (p as u64)) as u32 + 1
 }

@@ -1,67 +1,79 @@
--- What repeated squaring keeps: the result times the square to the power of what is left of the exponent is the power, modulo m.
--- A turn takes s ^ n as (s * s) ^ (n / 2), times s where n is odd.
-use mathlib.Core.Path.{◌≡◌, sym, ◌∙◌, ap}
-use Prim.Native.Nat.{ℕ, suc, ◌*◌, ◌/◌, ◌%◌, ◌^◌, ◌<◌}
-use native.Mathlib.Nat.{mod-eq_of_lt, mod-lt, mul_assoc, mul-one, one-mul, pow-suc, pow-succ', pow-zero}
+-- What repeated squaring keeps: the result times the square to the power of what is left of the exponent is the power. A turn takes s ^ n
+-- as (s * s) ^ (n / 2), times s where n is odd.
+use Rattle.std.specs.Prelude.{◌≡◌, ℕ, suc, ◌*◌, ◌/◌, ◌%◌, ◌^◌, ◌<◌}
+use mathlib.Core.Path.{sym, ◌∙◌, ap}
+use native.Mathlib.Nat.{mul_assoc, mul-one, one-mul, pow-suc, pow-succ', pow-zero}
 use native.Mathlib.Omega.{arith}
-use Rattle.modular.specs.Residues.{remainder}
-use Rattle.modular.proofs.Laws.Residues.{mul_mod_left, mul_mod_right, remainder_is}
-use Rattle.modular.proofs.Laws.Powers.{pow_mod, pow_mul, pow_one}
+use Rattle.modular.proofs.Laws.Powers.{pow_mul, pow_one}
+use Rattle.montgomery.specs.Inner.Forms.{word}
+use Rattle.montgomery.specs.Inner.Squaring.{Carries, Power}
 
-pub record Squared (base exponent m result square rest : ℕ) : Type 0 where
-  pub below : result < m
-  pub power : result * square ^ rest % m ≡ base ^ exponent % m
+-- the numbers that result and square stand for
+pub record Squared (base exponent result square rest : ℕ) : Type 0 where
+  pub power : result * square ^ rest ≡ base ^ exponent
 
-pub squared_start : (base exponent m : ℕ) → 0 < m → Squared base exponent m (1 % m) (base % m) exponent
-squared_start base exponent m some =
-    record {
-      below = mod-lt 1 some;
-      power =
-          mul_mod_left 1 ((base % m) ^ exponent) m
-          ∙ ap (λ (n : ℕ). n % m) (one-mul ((base % m) ^ exponent))
-          ∙ pow_mod m base exponent;
-    }
-
-square_pow : (m r s h : ℕ) → r * (s * s % m) ^ h % m ≡ r * s ^ (2 * h) % m
-square_pow m r s h =
+square_pow : (s h : ℕ) → (s * s) ^ h ≡ s ^ (2 * h)
+square_pow s h =
     let two : s * s ≡ s ^ 2 = sym (pow-suc s 1 ∙ ap (λ (x : ℕ). x * s) (pow_one s)) in
-    sym (mul_mod_right r ((s * s % m) ^ h) m)
-    ∙ ap (λ (x : ℕ). r * x % m) (pow_mod m (s * s) h ∙ ap (λ (x : ℕ). x ^ h % m) two ∙ ap (λ (x : ℕ). x % m) (pow_mul s 2 h))
-    ∙ mul_mod_right r (s ^ (2 * h)) m
+    ap (λ (x : ℕ). x ^ h) two ∙ pow_mul s 2 h
 
-module _ {base exponent m r s n s' : ℕ} (k : Squared base exponent m r s n) (square : s' ≡ remainder (s * s) m) where
-  some : 0 < m
-  some = omega (arith, k.below)
+module _ {base exponent r s n : ℕ} (k : Squared base exponent r s n) where
+  squared_even : ¬ (n % 2 ≡ 1) → Squared base exponent r (s * s) (n / 2)
+  squared_even even = let whole : 2 * (n / 2) ≡ n = omega arith in record { power = rw (square_pow s (n / 2), whole) k.power }
 
-  squared : s' ≡ s * s % m
-  squared = square ∙ remainder_is (s * s) m some
-
-  pub squared_even : ¬ (n % 2 ≡ 1) → Squared base exponent m r s' (n / 2)
-  squared_even even =
-      rw squared
-      (record {
-        below = k.below;
-        power = square_pow m r s (n / 2) ∙ ap (λ (x : ℕ). r * s ^ x % m) (omega arith) ∙ k.power;
-      })
-
-  pub squared_odd : {r' : ℕ} → r' ≡ remainder (r * s) m → n % 2 ≡ 1 → Squared base exponent m r' s' (n / 2)
-  squared_odd {r'} product odd =
-      let h : ℕ = n / 2 in
+  squared_odd : n % 2 ≡ 1 → Squared base exponent (r * s) (s * s) (n / 2)
+  squared_odd odd =
       let whole : suc (2 * (n / 2)) ≡ n = omega arith in
-      rw (squared, product ∙ remainder_is (r * s) m some)
-      (record {
-        below = mod-lt (r * s) some;
+      record {
         power =
-            mul_mod_left (r * s) ((s * s % m) ^ h) m
-            ∙ square_pow m (r * s) s h
-            ∙ ap (λ (x : ℕ). x % m) (mul_assoc r s (s ^ (2 * h)) ∙ ap (λ (x : ℕ). r * x) (sym (pow-succ' s (2 * h))))
-            ∙ ap (λ (x : ℕ). r * s ^ x % m) whole
+            ap (λ (x : ℕ). r * s * x) (square_pow s (n / 2))
+            ∙ mul_assoc r s (s ^ (2 * (n / 2)))
+            ∙ ap (λ (x : ℕ). r * x) (sym (pow-succ' s (2 * (n / 2))))
+            ∙ ap (λ (x : ℕ). r * s ^ x) whole
             ∙ k.power;
-      })
+      }
 
-pub squared_end : {base exponent m r s n : ℕ} → Squared base exponent m r s n → n ≡ 0 → r ≡ remainder (base ^ exponent) m
-squared_end {base} {exponent} {m} {r} {s} {n} k done =
-    sym (mod-eq_of_lt k.below)
-    ∙ ap (λ (x : ℕ). x % m) (sym (ap (λ (x : ℕ). r * x) (ap (λ (x : ℕ). s ^ x) done ∙ pow-zero s) ∙ mul-one r))
-    ∙ k.power
-    ∙ sym (remainder_is (base ^ exponent) m (omega (arith, k.below)))
+-- result and square stand for numbers for which repeated squaring keeps the power
+pub record Stands (product : ℕ → ℕ → ℕ → Type 0) (one base exponent result square rest : ℕ) : Type 0 where
+  pub of : (image : ℕ → ℕ) → Carries product image → (b : ℕ) → one ≡ image 1 → base ≡ image b
+      → (u : ℕ) × (s : ℕ) × (result ≡ image u) × (square ≡ image s) × Squared b exponent u s rest
+
+module _ {product : ℕ → ℕ → ℕ → Type 0} {one base exponent : ℕ} where
+  pub stands_start : Stands product one base exponent one base exponent
+  stands_start = record { of = λ image carries b e1 eb. (1, b, e1, eb, record { power = one-mul (b ^ exponent) }) }
+
+  module _ {r s n : ℕ} (k : Stands product one base exponent r s n) (s' : ℕ) (small_s : s < word) (square : product s s s') where
+    pub stands_even : ¬ (n % 2 ≡ 1) → Stands product one base exponent r s' (n / 2)
+    stands_even even =
+        record {
+          of = λ image carries b e1 eb.
+              let at = k.of image carries b e1 eb in (
+                at.0,
+                at.1 * at.1,
+                at.2,
+                carries.times at.1 at.1 s' (rw (← at.3) small_s) (rw (← at.3) small_s) (rw (← at.3) square),
+                squared_even at.4 even,
+              );
+        }
+
+    pub stands_odd : (r' : ℕ) → r < word → product r s r' → n % 2 ≡ 1 → Stands product one base exponent r' s' (n / 2)
+    stands_odd r' small_r times last =
+        record {
+          of = λ image carries b e1 eb.
+              let at = k.of image carries b e1 eb in (
+                at.0 * at.1,
+                at.1 * at.1,
+                carries.times at.0 at.1 r' (rw (← at.2) small_r) (rw (← at.3) small_s) (rw (← at.2, ← at.3) times),
+                carries.times at.1 at.1 s' (rw (← at.3) small_s) (rw (← at.3) small_s) (rw (← at.3) square),
+                squared_odd at.4 last,
+              );
+        }
+
+  pub stands_end : {r s n : ℕ} → Stands product one base exponent r s n → n ≡ 0 → Power product one base exponent r
+  stands_end {r} {s} k done =
+      record {
+        of = λ image carries b e1 eb.
+            let at = k.of image carries b e1 eb in
+            let whole : at.0 ≡ b ^ exponent = sym (ap (λ (x : ℕ). at.0 * at.1 ^ x) done ∙ ap (λ (x : ℕ). at.0 * x) (pow-zero at.1) ∙ mul-one at.0) ∙ at.4.power in
+            at.2 ∙ ap image whole;
+      }

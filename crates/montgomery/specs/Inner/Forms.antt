@@ -24,7 +24,7 @@ word_inverse p = lift p (lift p (lift p (lift p (lift p 1))))
 unfoldable pub square_of : ℕ → ℕ
 square_of p = remainder 18446744073709551615 p + 1
 
--- m is what `modulus_of` makes of p
+-- m is what `Modulus::new` makes of p
 pub record IsModulus (p : ℕ) (m : Modulus) : Type 0 where
   pub value_is : m.value ≡ p
   pub inverse_is : m.inverse ≡ word_inverse p

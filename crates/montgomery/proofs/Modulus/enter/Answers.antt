@@ -1,6 +1,6 @@
 -- `enter` meets its contract by its definition.
 use Rattle.montgomery.specs.Inner.Forms.{enter}
-use Rattle.montgomery.proofs.enter.Goals as goal
+use Rattle.montgomery.proofs.Modulus.enter.Goals as goal
 
 pub returns : goal.returns
 unfolding enter

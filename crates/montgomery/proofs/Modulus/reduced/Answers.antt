@@ -6,7 +6,7 @@ use borrow.Author.Tests.{lt-ltb, le-ltb}
 use Rattle.divisors.proofs.Laws.Quotients.{product_below}
 use Rattle.montgomery.specs.Inner.Forms.{reduction}
 use Rattle.montgomery.proofs.Laws.Forms.{multiple_most}
-use Rattle.montgomery.proofs.reduced.Goals as goal
+use Rattle.montgomery.proofs.Modulus.reduced.Goals as goal
 
 pub overflow_mul-u : goal.overflow_mul-u
 overflow_mul-u c = record { fits = product_below 4294967296 (omega arith) (omega arith) }

@@ -1,6 +1,6 @@
 -- `leave` meets its contract by its definition.
 use Rattle.montgomery.specs.Inner.Forms.{leave}
-use Rattle.montgomery.proofs.leave.Goals as goal
+use Rattle.montgomery.proofs.Modulus.leave.Goals as goal
 
 pub returns : goal.returns
 unfolding leave

@@ -1,9 +1,0 @@
--- `plain_power` meets its contract: the loop's invariant is what repeated squaring keeps, and the measure is what is left of the exponent.
-use Rattle.montgomery.proofs.Laws.Squaring.{Squared}
-use Rattle.montgomery.proofs.plain_power.Given as goal
-
-abbrev pub invariant-loop-rest : goal.invariant-loop-rest
-invariant-loop-rest l = Squared l.base l.exponent l.m l.result l.square l.rest
-
-abbrev pub decreases-loop-rest : goal.decreases-loop-rest
-decreases-loop-rest l = l.rest
