@@ -15,12 +15,8 @@ use whole::{difference, exponent, set_exponent, sum};
 pub fn exponents_of(exponents: &[i64]) -> Exponents
     ensures { exponents_of result ≡ first_exponents exponents.now }
 {
-    Exponents {
-        c: exponent(exponents, 0),
-        d: exponent(exponents, 1),
-        e: exponent(exponents, 2),
-        f: exponent(exponents, 3),
-    }
+    let [c, d, e, f] = [0, 1, 2, 3].map(|i| exponent(exponents, i));
+    Exponents { c, d, e, f }
 }
 
 // A step on whole exponents, in place: whether the number that it makes is in the range. Where it isn't, nothing changes. The other

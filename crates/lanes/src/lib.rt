@@ -10,9 +10,9 @@ ghost use Rattle.tape.specs.Inner.Operations.{raw_steps, step_for};
 ghost use Rattle.lanes.specs.Inner.Lanes.{Rows, Between, BasesIn, Stepped, AllStepped, Unloaded, through_lanes};
 
 use decoding::operation_of;
-use montgomery::{Modulus, enter, invert, leave};
+use montgomery::Modulus;
 use rows::{INVERSES, LANES, exchange_rows, multiply_rows};
-use tape::Operation;
+use tape::{Opcode, Operation};
 
 // The words of all eight rows.
 const ALL_WORDS: usize = 512;
@@ -28,7 +28,7 @@ pub fn run_lanes(words: &[u32], m: Modulus, bases: &mut [u32])
     if LANES < bases.len() {
         return;
     }
-    let mut rows = [enter(m, 1); ALL_WORDS];
+    let mut rows = [m.enter(1); ALL_WORDS];
     load_lanes(m, bases, &mut rows);
     do_lanes(words, m, bases.len(), &mut rows);
     unload_lanes(m, &rows, bases)
@@ -39,13 +39,11 @@ fn load_lanes(m: Modulus, bases: &[u32], rows: &mut [u32])
     requires { Rows (length bases.now) rows.old }
     ensures { BasesIn m bases.now rows.old rows.new }
 {
-    let mut j: usize = 0;
-    while j < bases.len() {
-        let base = enter(m, bases[j]);
-        let inverse = invert(m, base);
+    for j in 0..bases.len() {
+        let base = m.enter(bases[j]);
+        let inverse = m.invert(base);
         rows[LANES * BASES + j] = base;
         rows[LANES * (INVERSES + BASES) + j] = inverse;
-        j += 1;
     }
 }
 
@@ -54,10 +52,8 @@ fn do_lanes(words: &[u32], m: Modulus, count: usize, rows: &mut [u32])
     requires { Rows count rows.old }
     ensures { AllStepped m (raw_steps words.now) count rows.old rows.new }
 {
-    let mut i: usize = 0;
-    while i < words.len() {
+    for i in 0..words.len() {
         step_lanes(operation_of(words[i]), m, count, rows);
-        i += 1;
     }
 }
 
@@ -68,14 +64,14 @@ fn step_lanes(op: Operation, m: Modulus, count: usize, rows: &mut [u32])
 {
     let t = op.target as usize;
     let s = op.source as usize;
-    if 1 < op.opcode {
-        exchange_rows(rows, t, s, count);
-        return exchange_rows(rows, INVERSES + t, INVERSES + s, count);
+    match op.opcode {
+        Opcode::Mul => multiply_rows(rows, t, s, INVERSES + s, count, m),
+        Opcode::Div => multiply_rows(rows, t, INVERSES + s, s, count, m),
+        Opcode::Swp => {
+            exchange_rows(rows, t, s, count);
+            exchange_rows(rows, INVERSES + t, INVERSES + s, count)
+        }
     }
-    if op.opcode == 1 {
-        return multiply_rows(rows, t, INVERSES + s, s, count, m);
-    }
-    multiply_rows(rows, t, s, INVERSES + s, count, m)
 }
 
 // What is in register 1 of each lane, in its base's place.
@@ -83,9 +79,7 @@ fn unload_lanes(m: Modulus, rows: &[u32], bases: &mut [u32])
     requires { Rows (length bases.old) rows.now }
     ensures { Unloaded m rows.now bases.old bases.new }
 {
-    let mut j: usize = 0;
-    while j < bases.len() {
-        bases[j] = leave(m, rows[LANES * BASES + j]);
-        j += 1;
+    for j in 0..bases.len() {
+        bases[j] = m.leave(rows[LANES * BASES + j]);
     }
 }

@@ -2,7 +2,7 @@
 ghost use Rattle.std.specs.Prelude.{◌<◌};
 ghost use Rattle.lanes.specs.Inner.Lanes.{Rows, Exchanged, Multiplied};
 
-use montgomery::{Modulus, multiply};
+use montgomery::Modulus;
 
 // The length of a row, which is the most lanes there are.
 pub(crate) const LANES: usize = 64;
@@ -15,14 +15,8 @@ pub(crate) fn exchange_rows(rows: &mut [u32], t: usize, s: usize, count: usize)
     requires { Rows count rows.old × (t < 8) × (s < 8) }
     ensures { Exchanged t s count rows.old rows.new }
 {
-    let mut j: usize = 0;
-    while j < count {
-        let at = LANES * t + j;
-        let from = LANES * s + j;
-        let x = rows[at];
-        rows[at] = rows[from];
-        rows[from] = x;
-        j += 1;
+    for j in 0..count {
+        rows.swap(LANES * t + j, LANES * s + j);
     }
 }
 
@@ -38,14 +32,12 @@ pub(crate) fn multiply_rows(
     requires { Rows count rows.old × (t < 4) × (a < 8) × (b < 8) }
     ensures { Multiplied m t a b count rows.old rows.new }
 {
-    let mut j: usize = 0;
-    while j < count {
+    for j in 0..count {
         let at = LANES * t + j;
         let beside = LANES * (INVERSES + t) + j;
-        let x = multiply(m, rows[at], rows[LANES * a + j]);
-        let y = multiply(m, rows[beside], rows[LANES * b + j]);
+        let x = m.multiply(rows[at], rows[LANES * a + j]);
+        let y = m.multiply(rows[beside], rows[LANES * b + j]);
         rows[at] = x;
         rows[beside] = y;
-        j += 1;
     }
 }

@@ -1,7 +1,7 @@
 // The preview: what a run makes of the registers, on a copy, and the mul, div and swp steps on its way.
 #![tactic(auto)]
 
-ghost use Rattle.std.specs.Prelude.{◌≡◌, ◌≤◌, ◌<◌, length};
+ghost use Rattle.std.specs.Prelude.{◌≡◌, ◌≤◌, length};
 ghost use Rattle.tape.specs.Layout.{max_steps, steps_in};
 ghost use Rattle.tape.specs.Inner.Operations.{raw_steps};
 ghost use Rattle.machine.specs.Ways.{way, count_where, counts_of, count_numbers};
@@ -15,11 +15,7 @@ use machine::Counts;
 use parts::{part, steps};
 use refusal::Refusal;
 use sequencer::{Preview, State};
-
-// The opcodes of mul and div; every other is swp's.
-const MUL: u32 = 0;
-
-const DIV: u32 = 1;
+use tape::Opcode;
 
 // The registers at position `to`, from where the record stands, and the steps on the way: run's refusals. The record comes as a copy, so
 // the caller's own stays.
@@ -56,8 +52,8 @@ fn count_steps(words: &[u32]) -> Counts
     requires { length words.now ≤ max_steps }
     ensures { count_numbers result ≡ counts_of (raw_steps words.now) }
 {
-    let mul = count_kind(words, MUL);
-    let div = count_kind(words, DIV);
+    let mul = count_kind(words, Opcode::Mul);
+    let div = count_kind(words, Opcode::Div);
     Counts {
         mul,
         div,
@@ -66,19 +62,15 @@ fn count_steps(words: &[u32]) -> Counts
 }
 
 // How many of them have this opcode.
-fn count_kind(words: &[u32], opcode: u32) -> u32
-    requires words_len_bound { length words.now ≤ max_steps }
-    requires opcode_bound { opcode < 2 }
+fn count_kind(words: &[u32], opcode: Opcode) -> u32
+    requires { length words.now ≤ max_steps }
     ensures { result ≡ count_where (is_kind opcode) (raw_steps words.now) }
 {
     let mut n: u32 = 0;
-    let mut i: usize = 0;
-    while i < words.len() {
-        let op = operation_of(words[i]);
-        if op.opcode == opcode {
+    for i in 0..words.len() {
+        if operation_of(words[i]).opcode == opcode {
             n += 1;
         }
-        i += 1;
     }
     n
 }

@@ -8,7 +8,7 @@ ghost use Rattle.sequencer.specs.Bases.{raise_outcome, raised_bases};
 
 use conditions::check_bases;
 use lanes::run_lanes;
-use montgomery::modulus_of;
+use montgomery::Modulus;
 use parts::steps;
 use refusal::Refusal;
 use sequencer::MAX_BASES;
@@ -38,6 +38,6 @@ fn raise_accepted(tape: &[u32], header: Header, bases: &mut [u32]) -> Result<(),
         return Err(Refusal::Count);
     }
     check_bases(header, bases)?;
-    run_lanes(steps(tape), modulus_of(header.modulus), bases);
+    run_lanes(steps(tape), Modulus::new(header.modulus), bases);
     Ok(())
 }

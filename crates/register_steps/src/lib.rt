@@ -13,8 +13,8 @@ ghost use Rattle.register_steps.specs.Inner.Ways.{directed_step};
 use decoding::operation_of;
 use montgomery::Modulus;
 use register_forms::register;
-use row::{chosen, exchange, multiply_register};
-use tape::Operation;
+use row::{exchange, multiply_register};
+use tape::{Opcode, Operation};
 
 // The steps that some words have in their digits, done from the first to the last, or undone from the last to the first. There is one loop for both, so that
 // the compiler has one place where a step is done and puts it there in full.
@@ -22,10 +22,8 @@ pub fn do_steps(words: &[u32], undone: bool, m: Modulus, values: &mut [u32], inv
     ensures values_after { values.new ≡ do_all_with (form_times m) (directed_steps undone (raw_steps words.now)) values.old inverses.old }
     ensures inverses_after { inverses.new ≡ do_all_with (form_times m) (directed_steps undone (raw_steps words.now)) inverses.old values.old }
 {
-    let mut i: usize = 0;
-    while i < words.len() {
+    for i in 0..words.len() {
         apply_with(values, inverses, m, directed(words, i, undone));
-        i += 1;
     }
 }
 
@@ -46,27 +44,26 @@ fn apply_with(values: &mut [u32], inverses: &mut [u32], m: Modulus, op: Operatio
     ensures values_after { values.new ≡ apply_with (form_times m) (step_for op) values.old inverses.old }
     ensures inverses_after { inverses.new ≡ apply_with (form_times m) (step_for op) inverses.old values.old }
 {
-    if 1 < op.opcode {
+    if op.opcode == Opcode::Swp {
         exchange(values, op.target, op.source);
         return exchange(inverses, op.target, op.source);
     }
-    let divides = op.opcode == 1;
+    let divides = op.opcode == Opcode::Div;
     let x = register(values, op.source);
     let y = register(inverses, op.source);
-    multiply_register(values, op.target, chosen(divides, y, x), m);
-    multiply_register(inverses, op.target, chosen(divides, x, y), m)
+    let (factor, inverse_factor) = if divides { (y, x) } else { (x, y) };
+    multiply_register(values, op.target, factor, m);
+    multiply_register(inverses, op.target, inverse_factor, m)
 }
 
 // Undone, mul is div, div is mul, swp is swp.
 fn inverse_operation(op: Operation) -> Operation
     ensures { step_for result ≡ inverse_step (step_for op) }
 {
-    if 1 < op.opcode {
-        return op;
-    }
-    Operation {
-        opcode: 1 - op.opcode,
-        target: op.target,
-        source: op.source,
-    }
+    let opcode = match op.opcode {
+        Opcode::Mul => Opcode::Div,
+        Opcode::Div => Opcode::Mul,
+        Opcode::Swp => Opcode::Swp,
+    };
+    Operation { opcode, ..op }
 }

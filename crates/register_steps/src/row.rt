@@ -1,16 +1,16 @@
 // Registers in a row, by their numbers.
-ghost use Rattle.std.specs.Prelude.{◌≡◌, cond, set};
+ghost use Rattle.std.specs.Prelude.{◌≡◌, set};
 ghost use Rattle.montgomery.specs.Inner.Forms.{form_times};
 ghost use Rattle.machine.specs.Machine.{reg};
 
-use montgomery::{Modulus, multiply};
+use montgomery::Modulus;
 use register_forms::register;
 
 // One register multiplied.
 pub(crate) fn multiply_register(values: &mut [u32], t: u32, y: u32, m: Modulus)
     ensures { values.new ≡ set values.old t (form_times m (reg values.old t) y) }
 {
-    let x = multiply(m, register(values, t), y);
+    let x = m.multiply(register(values, t), y);
     set_register(values, t, x)
 }
 
@@ -24,21 +24,12 @@ pub(crate) fn exchange(values: &mut [u32], t: u32, s: u32)
     set_register(values, s, x)
 }
 
-// One of two numbers.
-pub(crate) fn chosen(first: bool, x: u32, y: u32) -> u32
-    ensures { result ≡ cond first x y }
-{
-    if first {
-        return x;
-    }
-    y
-}
-
 // One register changed; past the last there is none to change.
 fn set_register(values: &mut [u32], i: u32, x: u32)
     ensures { values.new ≡ set values.old i x }
 {
     let at = i as usize;
+    // By the length: after `get_mut` no element of the row is known.
     if at < values.len() {
         values[at] = x;
     }

@@ -14,7 +14,7 @@ ghost use Rattle.sequencer.specs.Inner.Goals.{step_goal};
 
 use conditions::{check_base, is_some_bad};
 use machine::Registers;
-use montgomery::modulus_of;
+use montgomery::Modulus;
 use parts::{part, steps};
 use refusal::Refusal;
 use register_forms::{forms_of, inverses, registers_of};
@@ -129,7 +129,7 @@ fn run_steps(words: &[u32], p: u32, registers: Registers, from: u32, to: u32) ->
     requires { Runnable words.now p (values_of registers) from to }
     ensures { values_of result ≡ run p (steps_in words.now) from to (values_of registers) }
 {
-    let m = modulus_of(p);
+    let m = Modulus::new(p);
     let mut values = forms_of(m, registers);
     let mut register_inverses = inverses(m, &values);
     do_steps(

@@ -6,3 +6,4 @@ pub mod Rows
 pub mod Layout
 pub mod Reading
 pub mod Writing
+pub mod Opcodes

@@ -1,18 +1,19 @@
 -- A step in every lane: exchanging and multiplying rows does in each lane what the step does on its registers beside their inverses.
 use mathlib.Core.Path.{◌≡◌, refl, sym, ◌∙◌, ap, ap₂}
-use mathlib.Core.Bool.{cond}
+use Rattle.std.specs.Prelude.{◌≢◌}
+use mathlib.Core.Bool.{Bool, true, false, cond}
 use mathlib.Core.List.{List}
-use Prim.Native.Nat.{ℕ, zero, suc, ◌+◌, ◌≤◌, ◌<◌, ◌%◌, ◌/◌}
+use Prim.Native.Nat.{ℕ, ◌+◌, ◌≤◌, ◌<◌, ◌%◌, ◌/◌}
 use native.Mathlib.Nat.{mod-lt}
 use native.Mathlib.Omega.{arith}
 use native.Mathlib.Decide.{ℕ_discrete}
-use borrow.Author.Tests.{eq-eqb, ne_eqb}
-use lib.Dec.{eqb}
 use lib.ListN.{set, length-set}
 use lib.Seq.{get_or-set_same, get_or-set_other}
 use Rattle.tape.specs.declared.Step.{Step}
 use Rattle.tape.specs.declared.Step.TheVariants.{Mul, Div, Swp}
 use Rattle.tape.specs.declared.Operation.{Operation}
+use Rattle.tape.specs.declared.Opcode.{Opcode}
+use Rattle.tape.specs.declared.Opcode.TheVariants.{Mul as ByMul, Div as ByDiv, Swp as BySwp}
 use Rattle.tape.specs.Inner.Operations.{step_by, raw_step, step_for}
 use Rattle.montgomery.specs.declared.Modulus.{Modulus}
 use Rattle.montgomery.specs.Inner.Forms.{form_times}
@@ -34,17 +35,17 @@ source (Div t s) = s
 source (Swp t s) = s
 
 module _ (t s : ℕ) where
-  target_by : (n : ℕ) → target (step_by n t s) ≡ t
+  target_by : (o : Opcode) → target (step_by o t s) ≡ t
   unfolding step_by target
-  target_by zero = refl
-  target_by (suc zero) = refl
-  target_by (suc (suc n)) = refl
+  target_by ByMul = refl
+  target_by ByDiv = refl
+  target_by BySwp = refl
 
-  source_by : (n : ℕ) → source (step_by n t s) ≡ s
+  source_by : (o : Opcode) → source (step_by o t s) ≡ s
   unfolding step_by source
-  source_by zero = refl
-  source_by (suc zero) = refl
-  source_by (suc (suc n)) = refl
+  source_by ByMul = refl
+  source_by ByDiv = refl
+  source_by BySwp = refl
 
 pub raw_between : (op : Operation) (w : ℕ) → step_for op ≡ raw_step w → Between op
 unfolding raw_step
@@ -118,7 +119,7 @@ module _ (m : Modulus) (op : Operation) (count : ℕ) (before after : List ℕ) 
   abbrev s : ℕ
   s = op.source
 
-  pub exchanged : (middle : List ℕ) → 1 < op.opcode → Exchanged t s count before middle → Exchanged (4 + t) (4 + s) count middle after
+  pub exchanged : (middle : List ℕ) → op.opcode ≡ BySwp → Exchanged t s count before middle → Exchanged (4 + t) (4 + s) count middle after
       → Stepped m (step_for op) count before after
   exchanged middle more one two =
       record {
@@ -135,29 +136,30 @@ module _ (m : Modulus) (op : Operation) (count : ℕ) (before after : List ℕ) 
       }
 
   -- a product whose factors are chosen by whether the step divides
-  by_rows : (a b : ℕ) → Multiplied m t a b count before after → op.opcode < 2
-      → ((j : ℕ) → entry before a j ≡ cond (eqb op.opcode 1) (reg (lane before 4 j) s) (reg (lane before 0 j) s))
-      → ((j : ℕ) → entry before b j ≡ cond (eqb op.opcode 1) (reg (lane before 0 j) s) (reg (lane before 4 j) s))
+  by_rows : (a b : ℕ) → Multiplied m t a b count before after → op.opcode ≢ BySwp → (divides : Bool)
+      → (divides ≡ true → op.opcode ≡ ByDiv) → (divides ≡ false → op.opcode ≢ ByDiv)
+      → ((j : ℕ) → entry before a j ≡ cond divides (reg (lane before 4 j) s) (reg (lane before 0 j) s))
+      → ((j : ℕ) → entry before b j ≡ cond divides (reg (lane before 0 j) s) (reg (lane before 4 j) s))
       → Stepped m (step_for op) count before after
-  by_rows a b c small of_values of_inverses =
+  by_rows a b c apart divides does other of_values of_inverses =
       record {
         values = λ j less.
             value_multiplied m t a b c g.target j less few
             ∙ ap₂ (λ (x y : ℕ). set (lane before 0 j) t (form_times m x y)) (value_at before j t g.target) (of_values j)
-            ∙ sym (factor_by (form_times m) t s _ _ op.opcode small);
+            ∙ sym (factor_by (form_times m) t s _ _ op.opcode apart divides does other);
         inverses = λ j less.
             inverse_multiplied m t a b c g.target j less few
             ∙ ap₂ (λ (x y : ℕ). set (lane before 4 j) t (form_times m x y)) (inverse_at before j t g.target) (of_inverses j)
-            ∙ sym (factor_by (form_times m) t s _ _ op.opcode small);
+            ∙ sym (factor_by (form_times m) t s _ _ op.opcode apart divides does other);
         long = c.long;
       }
 
-  pub divided : op.opcode ≡ 1 → Multiplied m t (4 + s) s count before after → Stepped m (step_for op) count before after
-  divided e c =
-      let one = eq-eqb op.opcode 1 e in
-      by_rows (4 + s) s c (omega arith) (λ j. rw one (inverse_at before j s g.source)) (λ j. rw one (value_at before j s g.source))
+  pub divided : op.opcode ≡ ByDiv → Multiplied m t (4 + s) s count before after → Stepped m (step_for op) count before after
+  divided is c =
+      by_rows (4 + s) s c (λ e. let f = sym is ∙ e in cc) true (λ e. is) (λ e. cc)
+      (λ j. inverse_at before j s g.source) (λ j. value_at before j s g.source)
 
-  pub multiplied : op.opcode ≡ 0 → Multiplied m t s (4 + s) count before after → Stepped m (step_for op) count before after
-  multiplied e c =
-      let other = ne_eqb op.opcode 1 (λ one. omega arith) in
-      by_rows s (4 + s) c (omega arith) (λ j. rw other (value_at before j s g.source)) (λ j. rw other (inverse_at before j s g.source))
+  pub multiplied : op.opcode ≡ ByMul → Multiplied m t s (4 + s) count before after → Stepped m (step_for op) count before after
+  multiplied is c =
+      by_rows s (4 + s) c (λ e. let f = sym is ∙ e in cc) false (λ e. cc) (λ e f. let f' = sym is ∙ f in cc)
+      (λ j. value_at before j s g.source) (λ j. inverse_at before j s g.source)

@@ -40,8 +40,8 @@ returns c =
     let all = sym c.in_ok-check_bases.ensures in
     let told = raise_passed _ _ _ c.requires _ (raise_row _ _ 0 c.if-header-eq0.false few ∙ all)
     (c.run_lanes.ensures
-    ∙ ap (λ (l : List ℕ). through_lanes c.modulus_of.result (raw_steps l) c.args.bases.now) c.steps.ensures
-    ∙ row_alone _ _ c.requires _ (omega arith) c.modulus_of.ensures _ few all) in record {
+    ∙ ap (λ (l : List ℕ). through_lanes c.new.result (raw_steps l) c.args.bases.now) c.steps.ensures
+    ∙ row_alone _ _ c.requires _ (omega arith) c.new.ensures _ few all) in record {
       result_value = told.0;
       bases_after = told.1;
     }

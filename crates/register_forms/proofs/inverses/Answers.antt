@@ -1,9 +1,9 @@
 -- `inverses` meets its contract: its products are those of the definition.
-use mathlib.Core.Path.{◌≡◌}
+use mathlib.Core.Path.{◌≡◌, ap}
 use mathlib.Core.List.{List, [], ◌∷◌}
 use Prim.Native.Nat.{ℕ}
 use Rattle.machine.specs.Machine.{reg}
-use Rattle.machine.specs.Inner.Carried.{inverses_with}
+use Rattle.machine.specs.Inner.Carried.{first_four, inverses_with}
 use Rattle.register_forms.proofs.inverses.Goals as goal
 
 module _ (product : ℕ → ℕ → ℕ) (invert : ℕ → ℕ) (v : List ℕ) {a b c d ab abc abcd all three two i j k l : ℕ} where
@@ -16,6 +16,7 @@ module _ (product : ℕ → ℕ → ℕ) (invert : ℕ → ℕ) (v : List ℕ) {
 
 pub returns : goal.returns
 returns c =
-    by_products _ _ _ c.register-c.ensures c.register-d.ensures c.register-e.ensures c.register-f.ensures
+    let at : (i : ℕ) → reg c.first_four.result i ≡ reg (first_four c.args.forms.now) i = λ i. ap (λ (l : List ℕ). reg l i) c.first_four.ensures in
+    by_products _ _ _ (at 0) (at 1) (at 2) (at 3)
     c.multiply-cd.ensures c.multiply-cde.ensures c.multiply.ensures c.invert-inverse_of_all.ensures c.multiply-inverse_of_cde.ensures
     c.multiply-inverse_of_cd.ensures c.multiply-2.ensures c.multiply-3.ensures c.multiply-4.ensures c.multiply-5.ensures

@@ -1,14 +1,16 @@
--- `inverse_operation` meets its contract: an exchange is its own inverse, and 1 - n is the other of 0 and 1.
-use mathlib.Core.Path.{sym, ◌∙◌, ap}
-use native.Mathlib.Omega.{arith}
-use Rattle.tape.proofs.Laws.Shapes.{exchanges}
+-- `inverse_operation` meets its contract: its arms are those of the definition.
+use Rattle.tape.specs.Inner.Operations.{step_by}
 use Rattle.machine.specs.Machine.{inverse_step}
-use Rattle.machine.proofs.Laws.Steps.{inverse_by}
 use Rattle.register_steps.proofs.inverse_operation.Goals as goal
 
-pub returns-then-op-gt1 : goal.returns-then-op-gt1
-unfolding inverse_step
-returns-then-op-gt1 c = let swp = exchanges _ _ _ c.if-op-gt1.true in swp ∙ sym (ap inverse_step swp)
+pub returns-in-Mul : goal.returns-in-Mul
+unfolding step_by inverse_step
+returns-in-Mul c = rw c.in-Mul.is
 
-pub returns : goal.returns
-returns c = inverse_by _ _ _ (omega arith)
+pub returns-in-Div : goal.returns-in-Div
+unfolding step_by inverse_step
+returns-in-Div c = rw c.in-Div.is
+
+pub returns-in-Swp : goal.returns-in-Swp
+unfolding step_by inverse_step
+returns-in-Swp c = rw c.in-Swp.is

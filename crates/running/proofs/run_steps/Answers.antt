@@ -24,7 +24,7 @@ returns c =
     let steps : raw_steps c.between.result.now ≡ steps_in (between words given.from given.to) =
     ap raw_steps c.between.ensures ∙ between_raw words c.requires.inside.are_steps given.from given.to c.requires.inside.from_inside c.requires.inside.goal_inside in
     c.registers_of.ensures
-    ∙ run_in_forms _ _ c.requires.prime c.requires.odd (omega arith) c.modulus_of-m.ensures _ _ v _ _ _
+    ∙ run_in_forms _ _ c.requires.prime c.requires.odd (omega arith) c.new-m.ensures _ _ v _ _ _
     (directed_sound undone (between words given.from given.to)) c.requires.residues c.forms_of-values.ensures c.inverses-register_inverses.ensures
     (ap (directed_steps undone) steps) c.do_steps.ensures.values_after
     ∙ run_between words given.p v given.from given.to c.requires.inside.from_inside c.requires.inside.goal_inside
