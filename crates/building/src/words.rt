@@ -1,4 +1,5 @@
-// The words of the steps that the programs are made of (`step_word`).
+// The words of the steps that the programs are made of (`step_word`). They are written out: made from an operation, a target and a source
+// they would only say again what their names say.
 pub(crate) const MUL_0_1: u32 = 0x5000_0004;
 
 pub(crate) const MUL_1_2: u32 = 0x5000_0009;

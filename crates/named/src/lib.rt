@@ -37,7 +37,8 @@ impl TryFrom<u32> for Variant {
     }
 }
 
-// The variants' names by their numbers, a zero byte after each.
+// The variants' names by their numbers, a zero byte after each. They are one row, as the words of a command line are, so that one look-up
+// reads both (`parsing::nth_word`).
 pub const VARIANT_NAMES: [u8; 23] = *b"free\0basic\0dual\0hybrid\0";
 
 // The bytes of the longest of them.
