@@ -19,7 +19,9 @@ use putting::put;
 use refusal::Refusal;
 use tape::MAX_WORDS;
 use tape_verbs::on_tape;
-use tool::{ANSWERED, Call, MAX_PARAMETERS, NOT_UNDERSTOOD, Reply, Row, TapeVerb, Verb};
+use tool::{
+    ANSWERED, Call, CommandLine, MAX_PARAMETERS, NOT_UNDERSTOOD, Reply, Row, TapeVerb, Verb,
+};
 use verbs::takes_tape;
 use widths::words;
 
@@ -47,9 +49,7 @@ pub fn reply_on(
 ) -> Reply
     ensures { Told text.old (reply_to (asked_by in_script (split_words arguments.now)) whole tape.now tapes.now) result text.new }
 {
-    let line = understand(arguments, in_script);
-    let call = line.call;
-    let values = line.values;
+    let CommandLine { call, values } = understand(arguments, in_script);
     match call {
         Call::NoWord => complaint(put_usage(text)),
         Call::NoVerb => complaint(put_no_verb(text, nth_word(arguments, 0))),
@@ -85,8 +85,7 @@ fn perform(
     ensures { Told text.old (means row.verb (own_in row whole) values.now tape.now tapes.now) result text.new }
 {
     let own = own_in(row, whole);
-    let verb = row.verb;
-    match verb {
+    match row.verb {
         Verb::Build => build(own, values, text),
         Verb::OnTape(v) => perform_on_tape(v, own, values, tape, tapes, text),
         Verb::OnNumbers(v) => on_numbers(v, own, values, text),
@@ -97,7 +96,6 @@ fn perform(
             0,
             b"fibexp: script is a verb of the program fibexp alone\n",
         )),
-        Verb::Unknown => complaint(put_usage(text)),
         Verb::InScript(_) => complaint(put_usage(text)),
     }
 }
@@ -140,11 +138,7 @@ fn version(text: &mut [u8]) -> Reply
 fn own_in(row: Row, whole: bool) -> u32
     ensures { result ≡ own_in row whole }
 {
-    if whole {
-        return row.own;
-    }
-    let verb = row.verb;
-    if takes_tape(verb) {
+    if takes_tape(row.verb) && !whole {
         return u32::from(Refusal::Length);
     }
     row.own

@@ -7,18 +7,17 @@ mod words;
 ghost use Rattle.std.specs.Prelude.{◌≡◌, [], length, get_or};
 ghost use Rattle.text.specs.Reading.{parse_number, split_words};
 
-use numbers::{in_base, is_hexadecimal};
-use text::Parsed;
-use words::{next_word, word_begin, word_end};
+use numbers::in_base;
+use words::split_word;
 
 // Reads a whole number: hexadecimal digits behind `0x`, or decimal ones; one or more, nothing else, and none above `most`.
-pub fn parse_number(text: &[u8], most: u64) -> Parsed
+pub fn parse_number(text: &[u8], most: u64) -> Option<u64>
     ensures { result ≡ parse_number most text.now }
 {
-    if is_hexadecimal(text) {
-        return in_base(&text[2..], most, 16);
+    match text.strip_prefix(b"0x") {
+        Some(digits) => in_base(digits, most, 16),
+        None => in_base(text, most, 10),
     }
-    in_base(text, most, 10)
 }
 
 // How many words arguments have.
@@ -26,9 +25,9 @@ pub fn word_count(arguments: &[u8]) -> usize
     ensures { result ≡ length (split_words arguments.now) }
 {
     let mut count: usize = 0;
-    let mut at: usize = 0;
-    while at < arguments.len() {
-        at = next_word(arguments, at);
+    let mut rest = arguments;
+    while !rest.is_empty() {
+        (_, rest) = split_word(rest);
         count += 1;
     }
     count
@@ -38,7 +37,13 @@ pub fn word_count(arguments: &[u8]) -> usize
 pub fn nth_word(arguments: &[u8], index: usize) -> &[u8]
     ensures { result.now ≡ get_or (split_words arguments.now) index [] }
 {
-    let begin = word_begin(arguments, index);
-    let end = word_end(arguments, begin);
-    &arguments[begin..end]
+    let mut rest = arguments;
+    for _ in 0..index {
+        if rest.is_empty() {
+            return rest;
+        }
+        (_, rest) = split_word(rest);
+    }
+    let (word, _) = split_word(rest);
+    word
 }

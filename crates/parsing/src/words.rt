@@ -1,47 +1,14 @@
-// Where the words of arguments begin and end.
-ghost use Rattle.std.specs.Prelude.{◌≡◌, ◌+◌, ◌≤◌, ◌<◌, length, drop};
-ghost use Rattle.text.specs.Reading.{first_word, past_word, split_words};
+// The first word of arguments.
+ghost use Rattle.std.specs.Prelude.{◌≡◌};
+ghost use Rattle.text.specs.Reading.{first_word, past_word};
 
-// Where the word of an index begins; past the last word, the length.
-pub(crate) fn word_begin(arguments: &[u8], index: usize) -> usize
-    ensures upper_bound { result ≤ length arguments.now }
-    ensures arguments_value { split_words (drop result arguments.now) ≡ drop index (split_words arguments.now) }
+// The bytes in front of the first zero byte, and those past it; all, and none, where there is no zero byte.
+pub(crate) fn split_word(bytes: &[u8]) -> (&[u8], &[u8])
+    ensures word { result.0.now ≡ first_word bytes.now }
+    ensures rest { result.1.now ≡ past_word bytes.now }
 {
-    let mut begin: usize = 0;
-    let mut i: usize = 0;
-    while begin < arguments.len() {
-        if i == index {
-            return begin;
-        }
-        begin = next_word(arguments, begin);
-        i += 1;
+    match bytes.iter().position(|byte| *byte == 0) {
+        Some(end) => (&bytes[..end], &bytes[end + 1..]),
+        None => (bytes, &[]),
     }
-    begin
-}
-
-// Where the word past the one at `begin` begins.
-pub(crate) fn next_word(arguments: &[u8], begin: usize) -> usize
-    requires { begin < length arguments.now }
-    ensures lower_bound { (begin < result) × (result ≤ length arguments.now) }
-    ensures arguments_value { drop result arguments.now ≡ past_word (drop begin arguments.now) }
-{
-    let end = word_end(arguments, begin);
-    if end < arguments.len() {
-        return end + 1;
-    }
-    end
-}
-
-// Where the word at `begin` ends: at its zero byte, or at the end of the bytes.
-pub(crate) fn word_end(arguments: &[u8], begin: usize) -> usize
-    ensures { result ≡ begin + length (first_word (drop begin arguments.now)) }
-{
-    let mut i = begin;
-    while i < arguments.len() {
-        if arguments[i] == 0 {
-            return i;
-        }
-        i += 1;
-    }
-    i
 }

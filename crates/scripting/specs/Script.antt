@@ -17,7 +17,7 @@ use Rattle.tool.specs.declared.NumberVerb.TheVariants.{Decode, Fibonacci, Places
 use Rattle.tool.specs.declared.ScriptVerb.{ScriptVerb}
 use Rattle.tool.specs.declared.ScriptVerb.TheVariants.{Tape, Append, Change, Drop, Behind, Room}
 use Rattle.tool.specs.declared.Verb.{Verb}
-use Rattle.tool.specs.declared.Verb.TheVariants.{Unknown, Build, Script, Help, Version, OnTape, OnNumbers, InScript}
+use Rattle.tool.specs.declared.Verb.TheVariants.{Build, Script, Help, Version, OnTape, OnNumbers, InScript}
 use Rattle.tool.specs.declared.Row.{Row}
 use Rattle.tool.specs.Calls.{Asked, no_word, no_verb, wrong_count, unread, known, asked_by}
 use Rattle.tape.specs.Layout.{max_words}
@@ -171,7 +171,6 @@ by_verb capacity (InScript verb) row v s = in_script capacity verb v s
 by_verb capacity Build row v s = build_by capacity s.room row.own v s
 by_verb capacity (OnNumbers verb) row v s = cond (is_places verb) (places_line s.room row v s) (replied (known row v) s)
 by_verb capacity (OnTape verb) row v s = cond (is_listing verb) (list_line s.room row v s) (replied (known row v) s)
-by_verb capacity Unknown row v s = replied (known row v) s
 by_verb capacity Script row v s = replied (known row v) s
 by_verb capacity Help row v s = replied (known row v) s
 by_verb capacity Version row v s = replied (known row v) s

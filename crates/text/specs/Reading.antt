@@ -1,8 +1,6 @@
 -- Numbers and words read from bytes.
-use Rattle.std.specs.Prelude.{Bool, true, ◌&&◌, cond, List, [], ◌∷◌, ℕ, zero, suc, ◌+◌, ◌-◌, ◌*◌, ◌≤◌, leb, ltb, eqb, get_or, drop}
+use Rattle.std.specs.Prelude.{Option, Some, None, Bool, true, ◌&&◌, cond, List, [], ◌∷◌, ℕ, zero, suc, ◌+◌, ◌-◌, ◌*◌, ◌≤◌, leb, ltb, eqb, get_or, drop}
 use Prim.Native.Char.{code}
-use Rattle.text.specs.declared.Parsed.{Parsed}
-use Rattle.text.specs.declared.Parsed.TheVariants.{Number, NoNumber}
 
 -- ---- numbers
 
@@ -27,12 +25,12 @@ value_from base n [] = n
 value_from base n (byte ∷ text) = value_from base (base * n + digit_of byte) text
 
 -- digits alone, and not above `most`
-unfoldable pub number_from : ℕ → ℕ → ℕ → List ℕ → Parsed
-number_from base most n text = cond (all_digits base text && leb (value_from base n text) most) (Number (value_from base n text)) NoNumber
+unfoldable pub number_from : ℕ → ℕ → ℕ → List ℕ → Option ℕ
+number_from base most n text = cond (all_digits base text && leb (value_from base n text) most) (Some (value_from base n text)) None
 
 -- at least one digit; zeros in front are let pass
-unfoldable pub in_base : ℕ → ℕ → List ℕ → Parsed
-in_base base most [] = NoNumber
+unfoldable pub in_base : ℕ → ℕ → List ℕ → Option ℕ
+in_base base most [] = None
 in_base base most (byte ∷ text) = number_from base most 0 (byte ∷ text)
 
 -- whether a text begins with `0x`
@@ -40,13 +38,13 @@ unfoldable pub is_hexadecimal : List ℕ → Bool
 is_hexadecimal text = eqb (get_or text 0 0) (code "0") && eqb (get_or text 1 0) (code "x")
 
 -- hexadecimal digits behind `0x`, or decimal ones
-unfoldable pub parse_number : ℕ → List ℕ → Parsed
+unfoldable pub parse_number : ℕ → List ℕ → Option ℕ
 parse_number most text = cond (is_hexadecimal text) (in_base 16 most (drop 2 text)) (in_base 10 most text)
 
 -- a number that was read is at most the largest
-abbrev pub Small : ℕ → Parsed → Type 0
-Small most (Number n) = n ≤ most
-Small most NoNumber = 0 ≤ most
+abbrev pub Small : ℕ → Option ℕ → Type 0
+Small most (Some n) = n ≤ most
+Small most None = 0 ≤ most
 
 -- ---- words
 

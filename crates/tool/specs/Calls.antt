@@ -1,7 +1,5 @@
 -- What a command line asks for: the words after the tool's name, read one after another.
-use Rattle.std.specs.Prelude.{Bool, ◌&&◌, cond, List, [], ◌∷◌, ℕ, ◌+◌, leb, length, get_or}
-use Rattle.text.specs.declared.Parsed.{Parsed}
-use Rattle.text.specs.declared.Parsed.TheVariants.{Number, NoNumber}
+use Rattle.std.specs.Prelude.{Option, Some, None, Bool, ◌&&◌, cond, List, [], ◌∷◌, ℕ, ◌+◌, leb, length, get_or}
 use Rattle.tool.specs.declared.Row.{Row}
 use Rattle.tool.specs.Verbs.{is_hidden, row_named, parameter_in}
 
@@ -10,10 +8,10 @@ pub data Numbers : Type 0 where
   all : List ℕ → Numbers
   stopped : ℕ → Numbers
 
-abbrev pub prepend_parsed : Parsed → ℕ → Numbers → Numbers
-prepend_parsed NoNumber place rest = stopped place
-prepend_parsed (Number n) place (all values) = all (n ∷ values)
-prepend_parsed (Number n) place (stopped other) = stopped other
+abbrev pub prepend_parsed : Option ℕ → ℕ → Numbers → Numbers
+prepend_parsed None place rest = stopped place
+prepend_parsed (Some n) place (all values) = all (n ∷ values)
+prepend_parsed (Some n) place (stopped other) = stopped other
 
 -- from a place on
 unfoldable pub numbers_from : Row → ℕ → List (List ℕ) → Numbers
@@ -37,9 +35,10 @@ abbrev pub with_numbers : Row → List (List ℕ) → Numbers → Asked
 with_numbers row parameters (all values) = known row values
 with_numbers row parameters (stopped place) = unread (get_or parameters place []) row place
 
--- by the row of the first word, that word, and those behind it
-abbrev pub asked_of : Bool → Row → List ℕ → List (List ℕ) → Asked
-asked_of in_script row name parameters =
+-- by the row of the first word, where it has one, that word, and those behind it
+abbrev pub asked_of : Bool → Option Row → List ℕ → List (List ℕ) → Asked
+asked_of in_script None name parameters = no_verb name
+asked_of in_script (Some row) name parameters =
     cond (is_hidden in_script row.verb) (no_verb name)
     (cond (takes row (length parameters)) (with_numbers row parameters (numbers_from row 0 parameters)) (wrong_count name row (length parameters)))
 

@@ -1,5 +1,5 @@
 -- The reply to a command line: a status and a text, which goes to standard output where the call is answered, else to standard error.
-use Rattle.std.specs.Prelude.{◌≡◌, Bool, false, not, ◌&&◌, cond, List, [], ◌++◌, ℕ, ◌*◌, ◌^◌, ◌%◌, ◌<◌, eqb, length, get_or, drop}
+use Rattle.std.specs.Prelude.{Option, Some, None, ◌≡◌, Bool, false, not, ◌&&◌, cond, List, [], ◌++◌, ℕ, ◌*◌, ◌^◌, ◌%◌, ◌<◌, eqb, length, get_or, drop}
 use Rattle.refusal.specs.Outcomes.{Outcome, refused, answered}
 use Rattle.text.specs.Text.{number_line, numbers_line}
 use Rattle.modular.specs.Residues.{remainder}
@@ -26,7 +26,7 @@ use Rattle.tool.specs.declared.TapeVerb.TheVariants.{Check, Listing, Load, Run, 
 use Rattle.tool.specs.declared.NumberVerb.{NumberVerb}
 use Rattle.tool.specs.declared.NumberVerb.TheVariants.{Decode, Fibonacci, Places, NumberOf, Hofstadter, Inverse, Height, Prime, MulMod, PowMod}
 use Rattle.tool.specs.declared.Verb.{Verb}
-use Rattle.tool.specs.declared.Verb.TheVariants.{Unknown, Build, Script, Help, Version, OnTape, OnNumbers, InScript}
+use Rattle.tool.specs.declared.Verb.TheVariants.{Build, Script, Help, Version, OnTape, OnNumbers, InScript}
 use Rattle.tool.specs.declared.Row.{Row}
 use Rattle.tool.specs.Verbs.{takes_tape, takes_lines, gives_tape}
 use Rattle.tool.specs.Calls.{Asked, no_word, no_verb, wrong_count, unread, known, asked_by}
@@ -119,7 +119,6 @@ tape_reply Cut own v tape tapes = printed own (cut_outcome tape (at v 0) (at v 1
 tape_reply Play own v tape tapes = played v tapes
 
 abbrev pub means : Verb → ℕ → List ℕ → List ℕ → List ℕ → Replied
-means Unknown own v tape tapes = complains usage
 means Build own v tape tapes = built own v
 means Script own v tape tapes = complains script_line
 means Help own v tape tapes = answers usage
@@ -151,24 +150,29 @@ unfoldable pub reply : List (List ℕ) → List ℕ → Replied
 reply words input = reply_to (asked_by false words) (is_whole input) (tape_in input) (tape_in input)
 
 -- the verb, where one is known
-abbrev pub verb_of : Asked → Verb
-verb_of no_word = Unknown
-verb_of (no_verb word) = Unknown
-verb_of (wrong_count name row given) = Unknown
-verb_of (unread word row place) = Unknown
-verb_of (known row values) = row.verb
+abbrev pub verb_of : Asked → Option Verb
+verb_of no_word = None
+verb_of (no_verb word) = None
+verb_of (wrong_count name row given) = None
+verb_of (unread word row place) = None
+verb_of (known row values) = Some row.verb
 
-abbrev pub verb_in : List (List ℕ) → Verb
+abbrev pub verb_in : List (List ℕ) → Option Verb
 verb_in words = verb_of (asked_by false words)
+
+-- a known verb of which something holds
+abbrev pub is_verb : (Verb → Bool) → Option Verb → Bool
+is_verb holds None = false
+is_verb holds (Some verb) = holds verb
 
 -- standard input is read for a tape
 unfoldable pub reads_tape : List (List ℕ) → Bool
-reads_tape words = takes_tape (verb_in words)
+reads_tape words = is_verb takes_tape (verb_in words)
 
 -- standard input is a script
 unfoldable pub reads_script : List (List ℕ) → Bool
-reads_script words = takes_lines (verb_in words)
+reads_script words = is_verb takes_lines (verb_in words)
 
 -- what is answered is a tape
 unfoldable pub writes_tape : List (List ℕ) → Bool
-writes_tape words = gives_tape (verb_in words)
+writes_tape words = is_verb gives_tape (verb_in words)

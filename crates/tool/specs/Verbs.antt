@@ -1,9 +1,7 @@
 -- The verbs: a row for each name.
-use Rattle.std.specs.Prelude.{Bool, true, false, not, cond, List, [], ◌∷◌, map, ℕ, suc, eqb, ltb, length, get_or}
+use Rattle.std.specs.Prelude.{Option, Some, Bool, true, false, not, cond, List, [], ◌∷◌, map, ℕ, suc, eqb, ltb, length, slice_get}
 use Prim.Native.String.{String}
 use Rattle.text.specs.Text.{ascii}
-use Rattle.text.specs.declared.Parsed.{Parsed}
-use Rattle.text.specs.declared.Parsed.TheVariants.{Number}
 use Rattle.text.specs.Reading.{parse_number}
 use Rattle.named.specs.Named.{variant_names}
 use Rattle.program.specs.Same.{same_words}
@@ -13,7 +11,7 @@ use Rattle.tool.specs.declared.NumberVerb.TheVariants.{Decode, Fibonacci, Places
 use Rattle.tool.specs.declared.ScriptVerb.{ScriptVerb}
 use Rattle.tool.specs.declared.ScriptVerb.TheVariants.{Tape, Append, Change, Drop, Behind, Room}
 use Rattle.tool.specs.declared.Verb.{Verb}
-use Rattle.tool.specs.declared.Verb.TheVariants.{Unknown, Build, Script, Help, Version, OnTape, OnNumbers, InScript}
+use Rattle.tool.specs.declared.Verb.TheVariants.{Build, Script, Help, Version, OnTape, OnNumbers, InScript}
 use Rattle.tool.specs.declared.Row.{Row}
 
 -- ---- the table
@@ -101,15 +99,12 @@ unfoldable pub index_in : List ℕ → List (List ℕ) → ℕ
 index_in word [] = 0
 index_in word (one ∷ words) = cond (same_words word one) 0 (suc (index_in word words))
 
-abbrev pub no_row : Row
-no_row = record { verb = Unknown; least = 0; most = 0; largest = 0; own = 0 }
+-- the row of the first name that is the word
+unfoldable pub row_named : List ℕ → Option Row
+row_named name = slice_get rows (index_in name names)
 
-unfoldable pub row_named : List ℕ → Row
-row_named name = get_or rows (index_in name names) no_row
-
--- no verb here: no verb at all, or one that only a script has
+-- no verb here: one that only a script has
 abbrev pub is_hidden : Bool → Verb → Bool
-is_hidden in_script Unknown = true
 is_hidden in_script (InScript v) = not in_script
 is_hidden in_script Build = false
 is_hidden in_script Script = false
@@ -121,7 +116,6 @@ is_hidden in_script (OnNumbers v) = false
 -- it takes a tape
 abbrev pub takes_tape : Verb → Bool
 takes_tape (OnTape v) = true
-takes_tape Unknown = false
 takes_tape Build = false
 takes_tape Script = false
 takes_tape Help = false
@@ -132,7 +126,6 @@ takes_tape (InScript v) = false
 -- it is a script
 abbrev pub takes_lines : Verb → Bool
 takes_lines Script = true
-takes_lines Unknown = false
 takes_lines Build = false
 takes_lines Help = false
 takes_lines Version = false
@@ -143,7 +136,6 @@ takes_lines (InScript v) = false
 -- it gives a tape
 abbrev pub gives_tape : Verb → Bool
 gives_tape Build = true
-gives_tape Unknown = false
 gives_tape Script = false
 gives_tape Help = false
 gives_tape Version = false
@@ -174,7 +166,6 @@ limit_in Room = max_room
 
 abbrev pub limit_of : Verb → ℕ
 limit_of (OnNumbers v) = limit_on v
-limit_of Unknown = largest32
 limit_of Build = largest32
 limit_of Script = largest32
 limit_of Help = largest32
@@ -187,7 +178,6 @@ limit_of (InScript v) = limit_in v
 -- build's fourth parameter is a variant
 abbrev pub is_variant : Verb → ℕ → Bool
 is_variant Build place = eqb place 3
-is_variant Unknown place = false
 is_variant Script place = false
 is_variant Help place = false
 is_variant Version place = false
@@ -196,10 +186,10 @@ is_variant (OnNumbers v) place = false
 is_variant (InScript v) place = false
 
 -- a variant, by its name or its number
-unfoldable pub variant_in : List ℕ → Parsed
+unfoldable pub variant_in : List ℕ → Option ℕ
 variant_in word =
     let variant = index_in word variant_names in
-    cond (ltb variant (length variant_names)) (Number variant) (parse_number largest32 word)
+    cond (ltb variant (length variant_names)) (Some variant) (parse_number largest32 word)
 
-unfoldable pub parameter_in : Row → ℕ → List ℕ → Parsed
+unfoldable pub parameter_in : Row → ℕ → List ℕ → Option ℕ
 parameter_in row place word = cond (is_variant row.verb place) (variant_in word) (parse_number row.largest word)

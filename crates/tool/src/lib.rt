@@ -46,7 +46,6 @@ pub enum ScriptVerb {
 
 #[derive(Clone, Copy)]
 pub enum Verb {
-    Unknown,
     Build,
     Script,
     Help,
@@ -120,281 +119,56 @@ pub const LARGEST_64: u64 = 18446744073709551615;
 pub const NAMES: [u8; 225] =
     *b"build\0script\0help\0--help\0-h\0version\0--version\0check\0list\0load\0run\0step\0preview\0power\0raise\0trace\0table\0cut\0play\0decode\0fibonacci\0places\0number\0hofstadter\0inverse\0height\0prime\0mulmod\0powmod\0tape\0append\0change\0drop\0behind\0room\0";
 
-pub const NO_ROW: Row = Row {
-    verb: Verb::Unknown,
-    least: 0,
-    most: 0,
-    largest: 0,
-    own: 0,
-};
+// A row on one line.
+macro_rules! row {
+    ($verb:expr => $least:expr, $most:expr, $largest:expr, $own:expr) => {
+        Row {
+            verb: $verb,
+            least: $least,
+            most: $most,
+            largest: $largest,
+            own: $own,
+        }
+    };
+}
 
-// A row for each name, in the names' order, in a table for each kind of verb. First the plain ones: build, script, help and version.
-pub const PLAIN_ROWS: usize = 7;
-
-pub const PLAIN_TABLE: [Row; PLAIN_ROWS] = [
-    Row {
-        verb: Verb::Build,
-        least: 4,
-        most: 4,
-        largest: LARGEST_32,
-        own: 4,
-    },
-    Row {
-        verb: Verb::Script,
-        least: 0,
-        most: 0,
-        largest: LARGEST_32,
-        own: 0,
-    },
-    Row {
-        verb: Verb::Help,
-        least: 0,
-        most: 0,
-        largest: LARGEST_32,
-        own: 0,
-    },
-    Row {
-        verb: Verb::Help,
-        least: 0,
-        most: 0,
-        largest: LARGEST_32,
-        own: 0,
-    },
-    Row {
-        verb: Verb::Help,
-        least: 0,
-        most: 0,
-        largest: LARGEST_32,
-        own: 0,
-    },
-    Row {
-        verb: Verb::Version,
-        least: 0,
-        most: 0,
-        largest: LARGEST_32,
-        own: 0,
-    },
-    Row {
-        verb: Verb::Version,
-        least: 0,
-        most: 0,
-        largest: LARGEST_32,
-        own: 0,
-    },
-];
-
-// On a tape.
-pub const TAPE_ROWS: usize = 12;
-
-pub const TAPE_TABLE: [Row; TAPE_ROWS] = [
-    Row {
-        verb: Verb::OnTape(TapeVerb::Check),
-        least: 0,
-        most: 0,
-        largest: LARGEST_32,
-        own: 0,
-    },
-    Row {
-        verb: Verb::OnTape(TapeVerb::Listing),
-        least: 0,
-        most: 0,
-        largest: LARGEST_32,
-        own: 0,
-    },
-    Row {
-        verb: Verb::OnTape(TapeVerb::Load),
-        least: 1,
-        most: 1,
-        largest: LARGEST_32,
-        own: 0,
-    },
-    Row {
-        verb: Verb::OnTape(TapeVerb::Run),
-        least: 6,
-        most: 6,
-        largest: LARGEST_32,
-        own: 9,
-    },
-    Row {
-        verb: Verb::OnTape(TapeVerb::SingleStep),
-        least: 6,
-        most: 6,
-        largest: LARGEST_32,
-        own: 9,
-    },
-    Row {
-        verb: Verb::OnTape(TapeVerb::Preview),
-        least: 6,
-        most: 6,
-        largest: LARGEST_32,
-        own: 9,
-    },
-    Row {
-        verb: Verb::OnTape(TapeVerb::Power),
-        least: 1,
-        most: 1,
-        largest: LARGEST_32,
-        own: 0,
-    },
-    Row {
-        verb: Verb::OnTape(TapeVerb::Raise),
-        least: 0,
-        most: MAX_PARAMETERS,
-        largest: LARGEST_32,
-        own: 4,
-    },
-    Row {
-        verb: Verb::OnTape(TapeVerb::Trace),
-        least: 1,
-        most: 1,
-        largest: LARGEST_32,
-        own: 0,
-    },
-    Row {
-        verb: Verb::OnTape(TapeVerb::Table),
-        least: 1,
-        most: 1,
-        largest: LARGEST_32,
-        own: 0,
-    },
-    Row {
-        verb: Verb::OnTape(TapeVerb::Cut),
-        least: 2,
-        most: 2,
-        largest: LARGEST_32,
-        own: 10,
-    },
-    Row {
-        verb: Verb::OnTape(TapeVerb::Play),
-        least: 5,
-        most: MAX_NUMBERS,
-        largest: LARGEST_32,
-        own: 0,
-    },
-];
-
-// On numbers alone.
-pub const NUMBER_ROWS: usize = 10;
-
-pub const NUMBER_TABLE: [Row; NUMBER_ROWS] = [
-    Row {
-        verb: Verb::OnNumbers(NumberVerb::Decode),
-        least: 1,
-        most: 1,
-        largest: LARGEST_32,
-        own: 0,
-    },
-    Row {
-        verb: Verb::OnNumbers(NumberVerb::Fibonacci),
-        least: 1,
-        most: 1,
-        largest: LARGEST_32,
-        own: 13,
-    },
-    Row {
-        verb: Verb::OnNumbers(NumberVerb::Places),
-        least: 1,
-        most: 1,
-        largest: LARGEST_64,
-        own: 0,
-    },
-    Row {
-        verb: Verb::OnNumbers(NumberVerb::NumberOf),
-        least: 0,
-        most: MAX_NUMBERS,
-        largest: LARGEST_8,
-        own: 12,
-    },
-    Row {
-        verb: Verb::OnNumbers(NumberVerb::Hofstadter),
-        least: 1,
-        most: 1,
-        largest: LARGEST_64,
-        own: 0,
-    },
-    Row {
-        verb: Verb::OnNumbers(NumberVerb::Inverse),
-        least: 2,
-        most: 2,
-        largest: LARGEST_32,
-        own: 2,
-    },
-    Row {
-        verb: Verb::OnNumbers(NumberVerb::Height),
-        least: 1,
-        most: 1,
-        largest: LARGEST_32,
-        own: 0,
-    },
-    Row {
-        verb: Verb::OnNumbers(NumberVerb::Prime),
-        least: 1,
-        most: 1,
-        largest: LARGEST_32,
-        own: 0,
-    },
-    Row {
-        verb: Verb::OnNumbers(NumberVerb::MulMod),
-        least: 3,
-        most: 3,
-        largest: LARGEST_32,
-        own: 0,
-    },
-    Row {
-        verb: Verb::OnNumbers(NumberVerb::PowMod),
-        least: 3,
-        most: 3,
-        largest: LARGEST_32,
-        own: 0,
-    },
-];
-
-// In a script alone.
-pub const SCRIPT_ROWS: usize = 6;
-
-pub const SCRIPT_TABLE: [Row; SCRIPT_ROWS] = [
-    Row {
-        verb: Verb::InScript(ScriptVerb::Tape),
-        least: 0,
-        most: MAX_NUMBERS,
-        largest: LARGEST_32,
-        own: 0,
-    },
-    Row {
-        verb: Verb::InScript(ScriptVerb::Append),
-        least: 0,
-        most: MAX_NUMBERS,
-        largest: LARGEST_32,
-        own: 0,
-    },
-    Row {
-        verb: Verb::InScript(ScriptVerb::Change),
-        least: 2,
-        most: 2,
-        largest: LARGEST_32,
-        own: 0,
-    },
-    Row {
-        verb: Verb::InScript(ScriptVerb::Drop),
-        least: 1,
-        most: 1,
-        largest: LARGEST_32,
-        own: 0,
-    },
-    Row {
-        verb: Verb::InScript(ScriptVerb::Behind),
-        least: 0,
-        most: 0,
-        largest: LARGEST_32,
-        own: 0,
-    },
-    Row {
-        verb: Verb::InScript(ScriptVerb::Room),
-        least: 0,
-        most: 1,
-        largest: MAX_ROOM,
-        own: 0,
-    },
+// A row for each name, in the names' order.
+pub const ROWS: [Row; 35] = [
+    row!(Verb::Build => 4, 4, LARGEST_32, 4),
+    row!(Verb::Script => 0, 0, LARGEST_32, 0),
+    row!(Verb::Help => 0, 0, LARGEST_32, 0),
+    row!(Verb::Help => 0, 0, LARGEST_32, 0),
+    row!(Verb::Help => 0, 0, LARGEST_32, 0),
+    row!(Verb::Version => 0, 0, LARGEST_32, 0),
+    row!(Verb::Version => 0, 0, LARGEST_32, 0),
+    row!(Verb::OnTape(TapeVerb::Check) => 0, 0, LARGEST_32, 0),
+    row!(Verb::OnTape(TapeVerb::Listing) => 0, 0, LARGEST_32, 0),
+    row!(Verb::OnTape(TapeVerb::Load) => 1, 1, LARGEST_32, 0),
+    row!(Verb::OnTape(TapeVerb::Run) => 6, 6, LARGEST_32, 9),
+    row!(Verb::OnTape(TapeVerb::SingleStep) => 6, 6, LARGEST_32, 9),
+    row!(Verb::OnTape(TapeVerb::Preview) => 6, 6, LARGEST_32, 9),
+    row!(Verb::OnTape(TapeVerb::Power) => 1, 1, LARGEST_32, 0),
+    row!(Verb::OnTape(TapeVerb::Raise) => 0, MAX_PARAMETERS, LARGEST_32, 4),
+    row!(Verb::OnTape(TapeVerb::Trace) => 1, 1, LARGEST_32, 0),
+    row!(Verb::OnTape(TapeVerb::Table) => 1, 1, LARGEST_32, 0),
+    row!(Verb::OnTape(TapeVerb::Cut) => 2, 2, LARGEST_32, 10),
+    row!(Verb::OnTape(TapeVerb::Play) => 5, MAX_NUMBERS, LARGEST_32, 0),
+    row!(Verb::OnNumbers(NumberVerb::Decode) => 1, 1, LARGEST_32, 0),
+    row!(Verb::OnNumbers(NumberVerb::Fibonacci) => 1, 1, LARGEST_32, 13),
+    row!(Verb::OnNumbers(NumberVerb::Places) => 1, 1, LARGEST_64, 0),
+    row!(Verb::OnNumbers(NumberVerb::NumberOf) => 0, MAX_NUMBERS, LARGEST_8, 12),
+    row!(Verb::OnNumbers(NumberVerb::Hofstadter) => 1, 1, LARGEST_64, 0),
+    row!(Verb::OnNumbers(NumberVerb::Inverse) => 2, 2, LARGEST_32, 2),
+    row!(Verb::OnNumbers(NumberVerb::Height) => 1, 1, LARGEST_32, 0),
+    row!(Verb::OnNumbers(NumberVerb::Prime) => 1, 1, LARGEST_32, 0),
+    row!(Verb::OnNumbers(NumberVerb::MulMod) => 3, 3, LARGEST_32, 0),
+    row!(Verb::OnNumbers(NumberVerb::PowMod) => 3, 3, LARGEST_32, 0),
+    row!(Verb::InScript(ScriptVerb::Tape) => 0, MAX_NUMBERS, LARGEST_32, 0),
+    row!(Verb::InScript(ScriptVerb::Append) => 0, MAX_NUMBERS, LARGEST_32, 0),
+    row!(Verb::InScript(ScriptVerb::Change) => 2, 2, LARGEST_32, 0),
+    row!(Verb::InScript(ScriptVerb::Drop) => 1, 1, LARGEST_32, 0),
+    row!(Verb::InScript(ScriptVerb::Behind) => 0, 0, LARGEST_32, 0),
+    row!(Verb::InScript(ScriptVerb::Room) => 0, 1, MAX_ROOM, 0),
 ];
 
 // What is said of a word that is no variant.

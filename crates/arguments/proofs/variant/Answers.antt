@@ -1,37 +1,26 @@
--- `variant` meets its contract: a name's index is its variant; any other word is read as a number.
-use mathlib.Core.Path.{◌≡◌}
-use native.Mathlib.Omega.{arith}
-use lib.ListN.{length}
-use borrow.Author.Tests.{lt-ltb, le-ltb}
+-- `variant` meets its contract: a name's place is its variant; any other word is read as a number.
+use Rattle.std.proofs.Common.{arith}
+use Rattle.std.proofs.lemmas.Bool.Decides.{nat_tests}
 use Rattle.text.specs.Reading.{split_words}
 use Rattle.named.specs.Named.{variant_names}
-use Rattle.tool.specs.Verbs.{index_in, variant_in}
+use Rattle.tool.specs.Verbs.{variant_in}
+use Rattle.tool.specs.Inner.Understood.{Placed}
 use Rattle.arguments.proofs.variant.Goals as goal
+use Rattle.arguments.proofs.variant.Goals.{After-place_of}
 
--- the code's names are those of the definition
-index : (c : goal.Then-variant-word_count) → c.find-variant.result ≡ index_in c.args.word.now variant_names
+-- it is placed among the variants' names
+placed : (c : After-place_of) → Placed c.args.word.now variant_names c.place_of.result
 unfolding split_words
-index c = c.find-variant.ensures
+placed c = c.place_of.ensures
 
-count : (c : goal.Then-variant-word_count) → c.word_count.result ≡ length variant_names
-unfolding split_words
-count c = c.word_count.ensures
-
-pub returns-then-variant-word_count : goal.returns-then-variant-word_count
+pub returns-in-Some : goal.returns-in-Some
 unfolding variant_in
-returns-then-variant-word_count c =
-    rw (← index c, lt-ltb c.find-variant.result (length variant_names) (omega (arith, count c)))
+returns-in-Some c =
+    let p = rw c.in-Some.is at (placed (goal.at.returns-in-Some c).After-place_of) in
+    grind (arith, nat_tests)
 
--- the code's names are those of the definition
-index_2 : (c : goal.After-parse_number) → c.find-variant.result ≡ index_in c.args.word.now variant_names
-unfolding split_words
-index_2 c = c.find-variant.ensures
-
-count_2 : (c : goal.After-parse_number) → c.word_count.result ≡ length variant_names
-unfolding split_words
-count_2 c = c.word_count.ensures
-
-pub returns : goal.returns
+pub returns-in-None : goal.returns-in-None
 unfolding variant_in
-returns c =
-    rw (← index_2 c, le-ltb c.find-variant.result (length variant_names) (omega (arith, count_2 c))) c.parse_number.ensures
+returns-in-None c =
+    let p = rw c.in-None.is at (placed (goal.at.returns-in-None c).After-place_of) in
+    grind (arith, nat_tests)

@@ -32,8 +32,5 @@ returns-in-Version c = rw c.in-Version.is c.version.ensures
 pub returns-in-Script : goal.returns-in-Script
 returns-in-Script c = rw c.in-Script.is (complained c.put.ensures script_most c.complaint.ensures)
 
-pub returns-in-Unknown : goal.returns-in-Unknown
-returns-in-Unknown c = rw c.in-Unknown.is (complained c.put_usage.ensures usage_most c.complaint-in-Unknown.ensures)
-
 pub returns-in-InScript : goal.returns-in-InScript
-returns-in-InScript c = rw c.in-InScript.is (complained c.put_usage-in-InScript.ensures usage_most c.complaint-in-InScript.ensures)
+returns-in-InScript c = rw c.in-InScript.is (complained c.put_usage.ensures usage_most c.complaint-in-InScript.ensures)

@@ -1,13 +1,22 @@
--- `word_count` meets its contract: `count` words begin before `at`, and at the end none is left.
-use mathlib.Core.Path.{sym}
-use Rattle.text.proofs.Laws.Words.{begins_first, begins_next, begins_count}
+-- `word_count` meets its contract: the words counted and those of what is left are all.
+use Rattle.std.proofs.Common.{arith, rules, ◌<◌, length}
+use Rattle.text.proofs.Laws.Words.{words_fit, words_some, words_none, past_less}
 use Rattle.parsing.proofs.word_count.Goals as goal
 
-pub loop-at-init : goal.loop-at-init
-loop-at-init c = begins_first _
+pub overflow_add-count : goal.overflow_add-count
+overflow_add-count c =
+    let some : 0 < length c.loop-rest.rest.now = search rules in
+    grind (arith, words_fit, words_some)
 
-pub loop-at-preserved : goal.loop-at-preserved
-loop-at-preserved c = begins_next c.loop-at.invariant c.loop-at-test.true (c.next_word-at.ensures.lower_bound, c.next_word-at.ensures.arguments_value)
+pub loop-rest-smaller : goal.loop-rest-smaller
+loop-rest-smaller c =
+    let some : 0 < length c.loop-rest.rest.now = search rules in
+    grind (arith, past_less)
+
+pub loop-rest-preserved : goal.loop-rest-preserved
+loop-rest-preserved c =
+    let some : 0 < length c.loop-rest.rest.now = search rules in
+    grind (arith, words_some)
 
 pub returns : goal.returns
-returns c = sym (begins_count c.loop-at.invariant c.loop-at-test.false)
+returns c = grind (arith, words_none)

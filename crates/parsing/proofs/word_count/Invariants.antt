@@ -1,11 +1,10 @@
--- `word_count` meets its contract: `count` words begin before `at`, and at the end none is left.
-use Prim.Native.Nat.{◌-◌}
-use lib.ListN.{length}
-use Rattle.text.proofs.Laws.Words.{Begins}
+-- `word_count` meets its contract: the words counted and those of what is left are all.
+use Rattle.std.proofs.Common.{◌≡◌, ◌+◌, length}
+use Rattle.text.specs.Reading.{split_words}
 use Rattle.parsing.proofs.word_count.Given as goal
 
-abbrev pub invariant-loop-at : goal.invariant-loop-at
-invariant-loop-at l = Begins l.arguments l.count l.at
+abbrev pub invariant-loop-rest : goal.invariant-loop-rest
+invariant-loop-rest l = l.count + length (split_words l.rest) ≡ length (split_words l.arguments)
 
-abbrev pub decreases-loop-at : goal.decreases-loop-at
-decreases-loop-at l = length l.arguments - l.at
+abbrev pub decreases-loop-rest : goal.decreases-loop-rest
+decreases-loop-rest l = length l.rest

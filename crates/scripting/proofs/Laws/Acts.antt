@@ -7,7 +7,7 @@ use Prim.Native.Nat.{ℕ, ◌≤◌}
 use native.Mathlib.Omega.{arith}
 use lib.ListN.{take}
 use Rattle.tool.specs.declared.Verb.{Verb}
-use Rattle.tool.specs.declared.Verb.TheVariants.{Unknown, Build, Script, Help, Version, OnTape, OnNumbers, InScript}
+use Rattle.tool.specs.declared.Verb.TheVariants.{Build, Script, Help, Version, OnTape, OnNumbers, InScript}
 use Rattle.tool.specs.declared.Row.{Row}
 use Rattle.tool.specs.declared.Call.{Call}
 use Rattle.tool.specs.declared.Call.TheVariants.{NoWord, NoVerb, WrongCount, Unread, Known}
@@ -51,7 +51,6 @@ module _ (capacity : ℕ) (m : Marks) (tapes : List ℕ) where
   verb_act Build row v = refl
   verb_act (OnNumbers verb) row v = numbers_act capacity row v (state_in m tapes) (is_places verb) m.room
   verb_act (OnTape verb) row v = tape_act capacity row v (state_in m tapes) (is_listing verb) m.room
-  verb_act Unknown row v = refl
   verb_act Script row v = refl
   verb_act Help row v = refl
   verb_act Version row v = refl
@@ -98,7 +97,6 @@ verb_within (InScript verb) roomed own v h = h
 verb_within Build roomed own v h = h
 verb_within (OnNumbers verb) roomed own v h = looks_within (is_places verb) roomed (PlacesInRoom own) v (omega arith)
 verb_within (OnTape verb) roomed own v h = looks_within (is_listing verb) roomed ListInRoom v (omega arith)
-verb_within Unknown roomed own v h = omega arith
 verb_within Script roomed own v h = omega arith
 verb_within Help roomed own v h = omega arith
 verb_within Version roomed own v h = omega arith

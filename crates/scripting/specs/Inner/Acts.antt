@@ -1,7 +1,7 @@
 -- What a call comes to in a script, as the code tells calls apart; for contracts.
 use Rattle.std.specs.Prelude.{Bool, cond, ℕ}
 use Rattle.tool.specs.declared.Verb.{Verb}
-use Rattle.tool.specs.declared.Verb.TheVariants.{Unknown, Build, Script, Help, Version, OnTape, OnNumbers, InScript}
+use Rattle.tool.specs.declared.Verb.TheVariants.{Build, Script, Help, Version, OnTape, OnNumbers, InScript}
 use Rattle.tool.specs.declared.Call.{Call}
 use Rattle.tool.specs.declared.Call.TheVariants.{NoWord, NoVerb, WrongCount, Unread, Known}
 use Rattle.scripting.specs.declared.Act.{Act}
@@ -14,7 +14,6 @@ act_by (InScript verb) roomed own = Edit verb
 act_by Build roomed own = BuildTape own
 act_by (OnNumbers verb) roomed own = cond (is_places verb) (cond roomed (PlacesInRoom own) Reply) Reply
 act_by (OnTape verb) roomed own = cond (is_listing verb) (cond roomed ListInRoom Reply) Reply
-act_by Unknown roomed own = Reply
 act_by Script roomed own = Reply
 act_by Help roomed own = Reply
 act_by Version roomed own = Reply

@@ -1,22 +1,25 @@
 -- A number read digit by digit: one that isn't a digit or passes the most ends it, and another digit makes the number as many times as
 -- large as the base says. What `decimal` writes is read back.
 use mathlib.Core.Path.{◌≡◌, refl, sym, ap, ◌∙◌}
-use mathlib.Core.Bool.{true, false, ◌&&◌, and-false, false≢true}
+use mathlib.Core.Bool.{true, false, ◌&&◌, and-false, and-true}
 use mathlib.Core.List.{List, [], ◌∷◌, ◌++◌}
 use Prim.Native.Nat.{ℕ, zero, suc, ◌+◌, ◌-◌, ◌*◌, ◌/◌, ◌%◌, ◌≤◌, ◌<◌}
 use Prim.Native.Char.{code}
-use native.Mathlib.Nat.{zero-add, mul-le-mul_left, le-div_iff_mul-le, div-lt_iff_lt-mul}
+use native.Mathlib.Nat.{zero-add, mul_comm, mul-le-mul_left}
+use Rattle.std.specs.Char.{digit_value}
+use Rattle.std.specs.Bool.{then_some}
+use Rattle.std.proofs.lemmas.Bool.Decides.{nat_tests}
 use native.Mathlib.Decide.{dec_lt}
 use native.Mathlib.Numerals.{add-one}
 use native.Mathlib.Omega.{arith}
 use lib.Dec.{leb, ltb, eqb}
-use lib.ListN.{length, get_or, drop}
+use lib.ListN.{length, get_or, take, drop}
+use lib.Pointwise.{pointwise}
 use lib.Seq.{drop-cons}
-use borrow.Author.Tests.{le-leb, lt-leb, leb-true, lt-ltb, le-ltb, ltb-true, eq-eqb, ne_eqb}
-use Rattle.refusal.proofs.Laws.Tests.{test_false, by_test, both, and_both}
-use Rattle.text.specs.declared.Parsed.{Parsed}
-use Rattle.text.specs.declared.Parsed.TheVariants.{Number, NoNumber}
-use Rattle.text.specs.Text.{decimal}
+use borrow.Author.Tests.{le-leb, lt-leb, leb-true, lt-ltb, le-ltb, ltb-true, ne_eqb}
+use Rattle.refusal.proofs.Laws.Tests.{by_test, both, and_both}
+use Rattle.std.specs.Prelude.{Option, Some, None}
+use Rattle.text.specs.Text.{ascii, decimal}
 use Rattle.text.specs.Reading.{within, digit_of, all_digits, value_from, number_from, in_base, is_hexadecimal, parse_number, Small}
 use Rattle.text.proofs.Laws.Decimal.{decimal_one, decimal_again, decimal_some}
 
@@ -51,15 +54,17 @@ module _ (byte : ℕ) where
   unfolding digit_of
   digit_none d l u = rw (not_within (code "0") (code "9") byte d, not_within (code "a") (code "f") byte l, not_within (code "A") (code "F") byte u)
 
+-- the digits of a base up to 16 are those that the language reads
+module _ (base byte : ℕ) (h : base ≤ 16) where
+  pub digit_same : digit_value byte < base → digit_of byte ≡ digit_value byte
+  unfolding digit_of
+  digit_same k = grind (arith, nat_tests)
+
+  pub digit_other : (digit_value byte < base → ⊥) → base ≤ digit_of byte
+  unfolding digit_of
+  digit_other k = grind (arith, nat_tests)
+
 -- ---- one more digit
-
--- a number with a digit behind it is at most the most exactly where the number is at most (most - digit) / base
-module _ (base : ℕ) (some : 0 < base) (most n d : ℕ) (h : d ≤ most) where
-  pub digit_fits : n ≤ (most - d) / base → base * n + d ≤ most
-  digit_fits k = omega (arith, (le-div_iff_mul-le {k = base} {x = n} {y = most - d} some).0 k)
-
-  pub digit_passes : (most - d) / base < n → most < base * n + d
-  digit_passes k = omega (arith, (div-lt_iff_lt-mul {k = base} {x = most - d} {y = n} some).0 k)
 
 module _ (base : ℕ) (some : 0 < base) where
   -- digits alone never make a number less
@@ -68,17 +73,21 @@ module _ (base : ℕ) (some : 0 < base) where
   value_grows n [] = omega arith
   value_grows n (b ∷ text) = omega (arith, mul-le-mul_left n some, value_grows (base * n + digit_of b) text)
 
-  pub number_past : (most n : ℕ) (text : List ℕ) → most < n → number_from base most n text ≡ NoNumber
+  pub number_past : (most n : ℕ) (text : List ℕ) → most < n → number_from base most n text ≡ None
   unfolding number_from
   number_past most n text h = rw (lt-leb (value_from base n text) most (omega (arith, value_grows n text)), and-false (all_digits base text))
 
 module _ (base most : ℕ) where
-  pub number_end : (n : ℕ) → n ≤ most → number_from base most n [] ≡ Number n
+  pub number_end : (n : ℕ) → n ≤ most → number_from base most n [] ≡ Some n
   unfolding number_from all_digits value_from
   number_end n h = rw (le-leb n most h)
 
+  number_alone : (n : ℕ) → number_from base most n [] ≡ then_some (leb n most) n
+  unfolding number_from all_digits value_from
+  number_alone n = by_test (leb n most) (λ yes. rw yes refl) (λ no. rw no refl)
+
   module _ (n b : ℕ) (text : List ℕ) where
-    pub number_stop : base ≤ digit_of b → number_from base most n (b ∷ text) ≡ NoNumber
+    pub number_stop : base ≤ digit_of b → number_from base most n (b ∷ text) ≡ None
     unfolding number_from all_digits
     number_stop h = rw (le-ltb (digit_of b) base h)
 
@@ -86,10 +95,27 @@ module _ (base most : ℕ) where
     unfolding number_from all_digits value_from
     number_next h = rw (lt-ltb (digit_of b) base h)
 
+  -- one digit more
+  module _ (n byte : ℕ) (h : base ≤ 16) where
+    pub digit_stops : (digit_value byte < base → ⊥) → number_from base most n (byte ∷ []) ≡ None
+    digit_stops k = number_stop n byte [] (digit_other base byte h k)
+
+    module _ (k : digit_value byte < base) where
+      with_digit : number_from base most n (byte ∷ []) ≡ number_from base most (n * base + digit_value byte) []
+      with_digit =
+          let e = digit_same base byte h k in
+          number_next n byte [] (omega arith) ∙ ap (λ (m : ℕ). number_from base most m []) (omega (arith, mul_comm n base))
+
+      pub digit_passes : most < n * base + digit_value byte → number_from base most n (byte ∷ []) ≡ None
+      digit_passes m = with_digit ∙ number_past base (omega arith) most (n * base + digit_value byte) [] m
+
+      pub digit_fits : number_from base most n (byte ∷ []) ≡ then_some (leb (n * base + digit_value byte) most) (n * base + digit_value byte)
+      digit_fits = with_digit ∙ number_alone (n * base + digit_value byte)
+
   -- what comes of the rest of a text, by what came of the byte in front of it
-  abbrev pub behind : Parsed → List ℕ → Parsed
-  behind (Number n) text = number_from base most n text
-  behind NoNumber text = NoNumber
+  abbrev pub behind : Option ℕ → List ℕ → Option ℕ
+  behind (Some n) text = number_from base most n text
+  behind None text = None
 
   number_step : 0 < base → (n b : ℕ) (text : List ℕ) → number_from base most n (b ∷ text) ≡ behind (number_from base most n (b ∷ [])) text
   number_step some n b text =
@@ -98,16 +124,23 @@ module _ (base most : ℕ) where
         | yes h ↦
             let next : (rest : List ℕ) → number_from base most n (b ∷ rest) ≡ number_from base most m rest = λ rest. number_next n b rest h in
             elim (dec_lt most m) [
-              | yes k ↦ next text ∙ number_past base some most m text k ∙ sym (ap (λ (p : Parsed). behind p text) (next [] ∙ number_past base some most m [] k))
-              | no k ↦ next text ∙ sym (ap (λ (p : Parsed). behind p text) (next [] ∙ number_end m (omega arith)))
+              | yes k ↦ next text ∙ number_past base some most m text k ∙ sym (ap (λ (p : Option ℕ). behind p text) (next [] ∙ number_past base some most m [] k))
+              | no k ↦ next text ∙ sym (ap (λ (p : Option ℕ). behind p text) (next [] ∙ number_end m (omega arith)))
             ]
-        | no h ↦ number_stop n b text (omega arith) ∙ sym (ap (λ (p : Parsed). behind p text) (number_stop n b [] (omega arith)))
+        | no h ↦ number_stop n b text (omega arith) ∙ sym (ap (λ (p : Option ℕ). behind p text) (number_stop n b [] (omega arith)))
       ]
 
   -- the byte at an index, and the text past it
   pub number_drop : 0 < base → (n : ℕ) (text : List ℕ) (i : ℕ) → i < length text
       → number_from base most n (drop i text) ≡ behind (number_from base most n (get_or text i 0 ∷ [])) (drop (i + 1) text)
   number_drop some n text i h = rw (add-one i, drop-cons text i 0 h) (number_step some n (get_or text i 0) (drop (suc i) text))
+
+  module _ (some : 0 < base) (n : ℕ) (text : List ℕ) (i : ℕ) (h : i < length text) where
+    pub drop_none : number_from base most n (get_or text i 0 ∷ []) ≡ None → number_from base most n (drop i text) ≡ None
+    drop_none e = number_drop some n text i h ∙ rw e refl
+
+    pub drop_some : (m : ℕ) → number_from base most n (get_or text i 0 ∷ []) ≡ Some m → number_from base most n (drop i text) ≡ number_from base most m (drop (i + 1) text)
+    drop_some m e = number_drop some n text i h ∙ rw e refl
 
   -- a number that is read is not above the most
   from_small : (n : ℕ) (text : List ℕ) → Small most (number_from base most n text)
@@ -117,7 +150,7 @@ module _ (base most : ℕ) where
       (λ yes. rw yes (leb-true (value_from base n text) most (both (all_digits base text) (leb (value_from base n text) most) yes).1))
       (λ no. rw no (omega arith))
 
-  pub number_most : (n : ℕ) (text : List ℕ) (m : ℕ) → number_from base most n text ≡ Number m → m ≤ most
+  pub number_most : (n : ℕ) (text : List ℕ) (m : ℕ) → number_from base most n text ≡ Some m → m ≤ most
   number_most n text m e = rw e at (from_small n text)
 
   -- a text that isn't empty
@@ -126,7 +159,7 @@ module _ (base most : ℕ) where
   base_some [] h = absurd (omega arith)
   base_some (b ∷ text) h = refl
 
-  pub base_none : (text : List ℕ) → length text ≡ 0 → in_base base most text ≡ NoNumber
+  pub base_none : (text : List ℕ) → length text ≡ 0 → in_base base most text ≡ None
   unfolding in_base
   base_none [] h = refl
   base_none (b ∷ text) h = absurd (omega arith)
@@ -138,24 +171,11 @@ module _ (base most : ℕ) where
 
 -- ---- the base
 
--- past the end of a text stands no x
-pub hexadecimal_long : (text : List ℕ) → is_hexadecimal text ≡ true → 2 ≤ length text
+pub hexadecimal_prefix : (text : List ℕ) → pointwise eqb (take 2 text) (ascii "0x") ≡ is_hexadecimal text
 unfolding is_hexadecimal
-hexadecimal_long [] e = absurd (false≢true e)
-hexadecimal_long (a ∷ []) e = absurd (false≢true (sym (and-false (eqb a (code "0"))) ∙ e))
-hexadecimal_long (a ∷ b ∷ text) e = omega arith
-
--- the two tests
-pub hexadecimal_not : (text : List ℕ) → ¬ (get_or text 0 0 ≡ code "0") → is_hexadecimal text ≡ false
-unfolding is_hexadecimal
-hexadecimal_not text h = rw (ne_eqb (get_or text 0 0) (code "0") h)
-
-pub hexadecimal_by : (text : List ℕ) → get_or text 0 0 ≡ code "0" → is_hexadecimal text ≡ eqb (get_or text 1 0) (code "x")
-unfolding is_hexadecimal
-hexadecimal_by text h = rw (eq-eqb (get_or text 0 0) (code "0") h)
-
-pub hexadecimal_short : (text : List ℕ) → length text < 2 → is_hexadecimal text ≡ false
-hexadecimal_short text h = test_false (is_hexadecimal text) (λ e. omega (arith, hexadecimal_long text e))
+hexadecimal_prefix [] = refl
+hexadecimal_prefix (a ∷ []) = refl
+hexadecimal_prefix (a ∷ b ∷ text) = rw (and-true (eqb b (code "x")))
 
 module _ (most : ℕ) (text : List ℕ) where
   pub number_hexadecimal : is_hexadecimal text ≡ true → parse_number most text ≡ in_base 16 most (drop 2 text)
@@ -213,7 +233,7 @@ digits_decimal (a ∷ b ∷ text) e =
     let other : ¬ (b ≡ code "x") = λ x. omega (arith, ap digit_of x) in
     rw (ne_eqb b (code "x") other, and-false (eqb a (code "0")))
 
-pub number_back : (most n : ℕ) → n ≤ most → parse_number most (decimal n) ≡ Number n
+pub number_back : (most n : ℕ) → n ≤ most → parse_number most (decimal n) ≡ Some n
 unfolding number_from
 number_back most n h =
     let s = spelt (suc n) n (omega arith) in

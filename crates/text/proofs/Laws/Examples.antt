@@ -2,7 +2,7 @@
 use mathlib.Core.Path.{◌≡◌, refl}
 use mathlib.Core.List.{[], ◌∷◌, ◌++◌}
 use lib.IntN.{pos, negsuc}
-use Rattle.text.specs.declared.Parsed.TheVariants.{Number, NoNumber}
+use Rattle.std.specs.Prelude.{Some, None}
 use Rattle.text.specs.Text.{ascii, decimal_within, decimal, whole, line}
 use Rattle.text.specs.Quoting.{hex_digit, is_plain, escaped, escapes, quoted}
 use Rattle.text.specs.Reading.{digit_of, all_digits, value_from, number_from, in_base, is_hexadecimal, parse_number, split_words}
@@ -13,39 +13,39 @@ a_line = refl
 
 -- ---- numbers
 
-pub zeros_in_front : parse_number 255 (ascii "007") ≡ Number 7
+pub zeros_in_front : parse_number 255 (ascii "007") ≡ Some 7
 unfolding parse_number is_hexadecimal in_base number_from all_digits value_from digit_of
 zeros_in_front = refl
 
-pub the_most : parse_number 255 (ascii "255") ≡ Number 255
+pub the_most : parse_number 255 (ascii "255") ≡ Some 255
 unfolding parse_number is_hexadecimal in_base number_from all_digits value_from digit_of
 the_most = refl
 
-pub above_the_most : parse_number 255 (ascii "256") ≡ NoNumber
+pub above_the_most : parse_number 255 (ascii "256") ≡ None
 unfolding parse_number is_hexadecimal in_base number_from all_digits value_from digit_of
 above_the_most = refl
 
-pub a_sign : parse_number 255 (ascii "+7") ≡ NoNumber
+pub a_sign : parse_number 255 (ascii "+7") ≡ None
 unfolding parse_number is_hexadecimal in_base number_from all_digits value_from digit_of
 a_sign = refl
 
-pub no_digit : parse_number 255 [] ≡ NoNumber
+pub no_digit : parse_number 255 [] ≡ None
 unfolding parse_number is_hexadecimal in_base
 no_digit = refl
 
-pub hexadecimal_digits : parse_number 4294967295 (ascii "0x0fFa9") ≡ Number 65449
+pub hexadecimal_digits : parse_number 4294967295 (ascii "0x0fFa9") ≡ Some 65449
 unfolding parse_number is_hexadecimal in_base number_from all_digits value_from digit_of
 hexadecimal_digits = refl
 
-pub no_hexadecimal_digit : parse_number 255 (ascii "0x") ≡ NoNumber
+pub no_hexadecimal_digit : parse_number 255 (ascii "0x") ≡ None
 unfolding parse_number is_hexadecimal in_base
 no_hexadecimal_digit = refl
 
-pub past_the_digits : parse_number 255 (ascii "0xg") ≡ NoNumber
+pub past_the_digits : parse_number 255 (ascii "0xg") ≡ None
 unfolding parse_number is_hexadecimal in_base number_from all_digits value_from digit_of
 past_the_digits = refl
 
-pub decimal_without_letters : parse_number 255 (ascii "1f") ≡ NoNumber
+pub decimal_without_letters : parse_number 255 (ascii "1f") ≡ None
 unfolding parse_number is_hexadecimal in_base number_from all_digits value_from digit_of
 decimal_without_letters = refl
 

@@ -1,138 +1,86 @@
--- The words from an index on: the bytes in front of the next zero byte, then the words past it.
-use mathlib.Core.Path.{◌≡◌, refl, sym, ap, ◌∙◌}
-use mathlib.Core.List.{List, [], ◌∷◌}
-use Prim.Native.Nat.{ℕ, zero, suc, ◌+◌, ◌≤◌, ◌<◌}
-use native.Mathlib.Nat.{add-zero}
-use native.Mathlib.Numerals.{add-one}
-use native.Mathlib.Omega.{arith}
-use lib.ListN.{length, get_or, take, drop, length-drop, drop_of_length-le}
-use lib.Seq.{drop-cons, drop-drop, get_or-drop}
+-- The words of some bytes: the first, in front of the first zero byte, and those of the bytes past it.
+use Rattle.std.specs.Prelude.{◌≡◌, ◌≢◌, refl, List, [], ◌∷◌, ℕ, zero, suc, ◌+◌, ◌≤◌, ◌<◌, length, get_or, take, drop}
+use Rattle.std.proofs.Common.{sym, ap, ◌∙◌, arith, add-zero, length-drop}
+use Rattle.std.proofs.Math.ListN.{get_or-eq_default}
+use Rattle.std.proofs.Math.Seq.{drop-drop, get_or-drop}
 use Rattle.text.specs.Reading.{first_word, past_word, in_front, split_words}
 
--- ---- the first word of some bytes, and those past it
-
-words_some : (bytes : List ℕ) → 0 < length bytes → split_words bytes ≡ first_word bytes ∷ split_words (past_word bytes)
+pub words_some : (bytes : List ℕ) → 0 < length bytes → split_words bytes ≡ first_word bytes ∷ split_words (past_word bytes)
 unfolding first_word past_word split_words
 words_some [] h = absurd (omega arith)
 words_some (zero ∷ bytes) h = refl
 words_some (suc b ∷ []) h = refl
 words_some (suc b ∷ d ∷ bytes) h = ap (in_front (suc b)) (words_some (d ∷ bytes) (omega arith))
 
-words_first : (bytes : List ℕ) → get_or (split_words bytes) 0 [] ≡ first_word bytes
+empty : (bytes : List ℕ) → length bytes ≡ 0 → bytes ≡ []
+empty [] h = refl
+empty (b ∷ bytes) h = absurd (omega arith)
+
+pub words_none : (bytes : List ℕ) → length bytes ≡ 0 → split_words bytes ≡ []
+unfolding split_words
+words_none [] h = refl
+words_none (b ∷ bytes) h = absurd (omega arith)
+
+-- where there are no bytes, it is empty
+pub words_first : (bytes : List ℕ) → get_or (split_words bytes) 0 [] ≡ first_word bytes
 unfolding first_word split_words
 words_first [] = refl
 words_first (b ∷ bytes) = ap (λ (l : List (List ℕ)). get_or l 0 []) (words_some (b ∷ bytes) (omega arith))
 
-first_taken : (bytes : List ℕ) → take (length (first_word bytes)) bytes ≡ first_word bytes
-unfolding first_word
-first_taken [] = refl
-first_taken (zero ∷ bytes) = refl
-first_taken (suc b ∷ bytes) = ap (λ (l : List ℕ). suc b ∷ l) (first_taken bytes)
+pub past_less : (bytes : List ℕ) → 0 < length bytes → length (past_word bytes) < length bytes
+unfolding past_word
+past_less [] h = absurd (omega arith)
+past_less (zero ∷ bytes) h = omega arith
+past_less (suc b ∷ []) h = omega arith
+past_less (suc b ∷ d ∷ bytes) h = omega (arith, past_less (d ∷ bytes) (omega arith))
 
-first_fits : (bytes : List ℕ) → length (first_word bytes) ≤ length bytes
-unfolding first_word
-first_fits [] = omega arith
-first_fits (zero ∷ bytes) = omega arith
-first_fits (suc b ∷ bytes) = omega (arith, first_fits bytes)
+front_length : (b : ℕ) (words : List (List ℕ)) → length (in_front b words) ≤ length words + 1
+front_length b [] = omega arith
+front_length b (word ∷ words) = omega arith
 
-past_dropped : (bytes : List ℕ) → drop (suc (length (first_word bytes))) bytes ≡ past_word bytes
-unfolding first_word past_word
-past_dropped [] = refl
-past_dropped (zero ∷ bytes) = refl
-past_dropped (suc b ∷ bytes) = past_dropped bytes
-
--- a zero byte ends a word, any other belongs to it
-zero_length : (b : ℕ) (bytes : List ℕ) → b ≡ 0 → length (first_word (b ∷ bytes)) ≡ 0
-unfolding first_word
-zero_length zero bytes e = refl
-zero_length (suc b) bytes e = absurd (omega arith)
-
-more_length : (b : ℕ) (bytes : List ℕ) → ¬ (b ≡ 0) → length (first_word (b ∷ bytes)) ≡ length (first_word bytes) + 1
-unfolding first_word
-more_length zero bytes h = absurd (h refl)
-more_length (suc b) bytes h = omega arith
-
--- ---- the word that begins at an index
-
-module _ (bytes : List ℕ) where
-  -- the length of its bytes from index i on
-  abbrev pub left : ℕ → ℕ
-  left i = length (first_word (drop i bytes))
-
-  module _ (i : ℕ) where
-    pub left_none : length bytes ≤ i → left i ≡ 0
-    unfolding first_word
-    left_none h = rw (drop_of_length-le bytes {i = i} h)
-
-    pub left_zero : i < length bytes → get_or bytes i 0 ≡ 0 → left i ≡ 0
-    left_zero h e = rw (drop-cons bytes i 0 h) (zero_length (get_or bytes i 0) (drop (suc i) bytes) e)
-
-    pub left_more : i < length bytes → ¬ (get_or bytes i 0 ≡ 0) → left i ≡ left (i + 1) + 1
-    left_more h e = rw (add-one i, drop-cons bytes i 0 h) (more_length (get_or bytes i 0) (drop (suc i) bytes) e)
-
-    pub end_inside : i ≤ length bytes → i + left i ≤ length bytes
-    end_inside h = omega (arith, first_fits (drop i bytes), length-drop i bytes)
-
-    pub word_at : (index : ℕ) → split_words (drop i bytes) ≡ drop index (split_words bytes) → take (left i) (drop i bytes) ≡ get_or (split_words bytes) index []
-    word_at index e =
-        first_taken (drop i bytes)
-        ∙ sym (words_first (drop i bytes))
-        ∙ ap (λ (l : List (List ℕ)). get_or l 0 []) e
-        ∙ get_or-drop index (split_words bytes) 0 []
-        ∙ ap (λ (n : ℕ). get_or (split_words bytes) n []) (add-zero index)
-
-    -- past its zero byte, or past the last byte
-    past_is : drop (i + left i + 1) bytes ≡ past_word (drop i bytes)
-    past_is =
-        let e : i + left i + 1 ≡ i + suc (left i) = omega arith in
-        rw e (sym (drop-drop (suc (left i)) i bytes) ∙ past_dropped (drop i bytes))
-
-    -- what `next_word` promises of the next word
-    abbrev pub Next : ℕ → Type 0
-    Next next = ((i < next) × (next ≤ length bytes)) × (drop next bytes ≡ past_word (drop i bytes))
-
-    module _ (h : i < length bytes) (end : ℕ) (e : end ≡ i + left i) where
-      pub next_past : end < length bytes → Next (end + 1)
-      next_past short = ((omega arith, omega arith), rw e past_is)
-
-      pub next_last : length bytes ≤ end → Next end
-      next_last long = (
-        (omega arith, omega (arith, end_inside (omega arith))),
-        drop_of_length-le bytes {i = end} long ∙ sym (drop_of_length-le bytes {i = i + left i + 1} (omega arith)) ∙ past_is,
-      )
+pub words_fit : (bytes : List ℕ) → length (split_words bytes) ≤ length bytes
+unfolding split_words
+words_fit [] = omega arith
+words_fit (zero ∷ bytes) = omega (arith, words_fit bytes)
+words_fit (suc b ∷ bytes) = omega (arith, words_fit bytes, front_length (suc b) (split_words bytes))
 
 -- ---- words passed one after another
 
--- the words from index i on are those of the bytes from `begin` on
-pub record Begins (bytes : List ℕ) (i begin : ℕ) : Type 0 where
-  pub counted : i ≤ begin
-  pub inside : begin ≤ length bytes
-  pub some : i ≤ length (split_words bytes)
-  pub rest : split_words (drop begin bytes) ≡ drop i (split_words bytes)
+-- what is left has the words from an index on
+module _ (words : List (List ℕ)) (rest : List ℕ) (i : ℕ) (left : split_words rest ≡ drop i words) where
+  pub words_next : 0 < length rest → split_words (past_word rest) ≡ drop (i + 1) words
+  words_next h = ap (drop 1) (sym (words_some rest h) ∙ left) ∙ drop-drop 1 i words
 
-pub begins_first : (bytes : List ℕ) → Begins bytes 0 0
-begins_first bytes = record { counted = omega arith; inside = omega arith; some = omega arith; rest = refl }
+  pub words_at : first_word rest ≡ get_or words i []
+  words_at = sym (words_first rest) ∙ ap (λ (l : List (List ℕ)). get_or l 0 []) left ∙ get_or-drop i words 0 [] ∙ ap (λ (n : ℕ). get_or words n []) (add-zero i)
 
-module _ {bytes : List ℕ} {i begin : ℕ} (b : Begins bytes i begin) where
-  pub begins_next : begin < length bytes → {next : ℕ} → Next bytes begin next → Begins bytes (i + 1) next
-  begins_next h {next} n =
-      let word : drop i (split_words bytes) ≡ first_word (drop begin bytes) ∷ split_words (drop next bytes) =
-      sym b.rest ∙ rw n.1 (words_some (drop begin bytes) (omega (arith, length-drop begin bytes))) in
-      record {
-        counted = omega (arith, b.counted, n.0.0);
-        inside = n.0.1;
-        some = omega (arith, ap length word, length-drop i (split_words bytes));
-        rest = sym (sym (drop-drop 1 i (split_words bytes)) ∙ ap (drop 1) word);
-      }
+  -- nothing is left
+  pub words_end : length rest ≡ 0 → (index : ℕ) → i ≤ index → rest ≡ get_or words index []
+  words_end h index le =
+      let none : length (drop i words) ≡ 0 = ap length (sym left ∙ words_none rest h) in
+      empty rest h ∙ sym (get_or-eq_default words [] {n = index} (omega (arith, none, length-drop i words)))
 
-  -- all are passed
-  pub begins_none : length bytes ≤ begin → drop i (split_words bytes) ≡ []
-  unfolding split_words
-  begins_none h = sym b.rest ∙ rw (drop_of_length-le bytes {i = begin} h)
+-- ---- by the index of the first zero byte
 
-  pub begins_count : length bytes ≤ begin → length (split_words bytes) ≡ i
-  begins_count h = omega (arith, b.some, ap length (begins_none h), length-drop i (split_words bytes))
+-- no byte in front of an index is 0
+abbrev pub NoZero : List ℕ → ℕ → Type 0
+NoZero bytes i = (k : ℕ) → k < i → get_or bytes k 0 ≢ 0
 
-  -- and none is left from a later index on
-  pub begins_past : length bytes ≤ begin → (index : ℕ) → i ≤ index → split_words (drop begin bytes) ≡ drop index (split_words bytes)
-  begins_past h index le = b.rest ∙ begins_none h ∙ sym (drop_of_length-le (split_words bytes) {i = index} (omega (arith, begins_count h)))
+pub word_ends : (bytes : List ℕ) (i : ℕ) → i < length bytes → get_or bytes i 0 ≡ 0 → NoZero bytes i
+    → (take i bytes ≡ first_word bytes) × (drop (suc i) bytes ≡ past_word bytes)
+unfolding first_word past_word
+word_ends [] i h e none = absurd (omega arith)
+word_ends (zero ∷ bytes) zero h e none = (refl, refl)
+word_ends (suc b ∷ bytes) zero h e none = absurd (omega arith)
+word_ends (zero ∷ bytes) (suc i) h e none = absurd (none 0 (omega arith) refl)
+word_ends (suc b ∷ bytes) (suc i) h e none =
+    let rest = word_ends bytes i (omega arith) e (λ k l. none (suc k) (omega arith)) in
+    (ap (λ (l : List ℕ). suc b ∷ l) rest.0, rest.1)
+
+pub word_alone : (bytes : List ℕ) → NoZero bytes (length bytes) → (bytes ≡ first_word bytes) × ([] ≡ past_word bytes)
+unfolding first_word past_word
+word_alone [] none = (refl, refl)
+word_alone (zero ∷ bytes) none = absurd (none 0 (omega arith) refl)
+word_alone (suc b ∷ bytes) none =
+    let rest = word_alone bytes (λ k l. none (suc k) (omega arith)) in
+    (ap (λ (l : List ℕ). suc b ∷ l) rest.0, rest.1)

@@ -8,8 +8,7 @@ use native.Mathlib.Omega.{arith}
 use borrow.Author.Tests.{le-leb, lt-leb}
 use lib.ListN.{length, get_or, take, drop, set, drop_of_length-le, length-drop}
 use lib.Seq.{take-suc-set, get_or-drop}
-use Rattle.text.specs.declared.Parsed.{Parsed}
-use Rattle.text.specs.declared.Parsed.TheVariants.{Number, NoNumber}
+use Rattle.std.specs.Prelude.{Option, Some, None}
 use Rattle.tape.proofs.Laws.Rows.{drop_next}
 use Rattle.tool.specs.declared.Row.{Row}
 use Rattle.tool.specs.Verbs.{row_named, is_hidden, limit_of, parameter_in}
@@ -30,9 +29,13 @@ module _ (in_script : Bool) (words : List (List ℕ)) (some : 0 < length words) 
   asked_some [] h = absurd (omega arith)
   asked_some (w ∷ ws) h = refl
 
-  module _ (row : Row) (named : row ≡ row_named (get_or words 0 [])) where
-    by_row : asked_by in_script words ≡ asked_of in_script row (get_or words 0 []) (drop 1 words)
-    by_row = rw named (asked_some words some)
+  -- a word that has no row
+  pub asked_other : row_named (get_or words 0 []) ≡ None → asked_by in_script words ≡ no_verb (get_or words 0 [])
+  asked_other e = asked_some words some ∙ rw e refl
+
+  module _ (row : Row) (named : row_named (get_or words 0 []) ≡ Some row) where
+    by_row : asked_by in_script words ≡ asked_of in_script (Some row) (get_or words 0 []) (drop 1 words)
+    by_row = asked_some words some ∙ ap (λ (r : Option Row). asked_of in_script r (get_or words 0 []) (drop 1 words)) named
 
     pub asked_hidden : is_hidden in_script row.verb ≡ true → asked_by in_script words ≡ no_verb (get_or words 0 [])
     asked_hidden h = by_row ∙ rw h refl
@@ -71,7 +74,7 @@ none_front : (numbers : Numbers) → numbers ≡ in_front [] numbers
 none_front (all values) = refl
 none_front (stopped place) = refl
 
-one_more : (values : List ℕ) (n place : ℕ) (numbers : Numbers) → in_front values (prepend_parsed (Number n) place numbers) ≡ in_front (values ++ n ∷ []) numbers
+one_more : (values : List ℕ) (n place : ℕ) (numbers : Numbers) → in_front values (prepend_parsed (Some n) place numbers) ≡ in_front (values ++ n ∷ []) numbers
 one_more values n place (all more) = ap all (sym (append_assoc values (n ∷ []) more))
 one_more values n place (stopped other) = refl
 
@@ -90,22 +93,22 @@ module _ (row : Row) (words : List (List ℕ)) where
   from_here i h = ap (numbers_from row i) (drop_next words (i + 1) (i + 1 + 1) [] refl h)
 
   module _ (i : ℕ) (values : List ℕ) (sofar : Sofar i values) where
-    pub a_number : (n : ℕ) → i + 1 < length words → i < length values → parameter_in row i (get_or words (i + 1) []) ≡ Number n → n ≤ limit_of row.verb
+    pub a_number : (n : ℕ) → i + 1 < length words → i < length values → parameter_in row i (get_or words (i + 1) []) ≡ Some n → n ≤ limit_of row.verb
         → Sofar (i + 1) (set values i n)
     a_number n h room e small =
         let rest = numbers_from row (i + 1) (drop (i + 1 + 1) words) in
         let longer : take (i + 1) (set values i n) ≡ take i values ++ n ∷ [] = rw (add-one i) (take-suc-set values i n room) in (
           sofar.0
-              ∙ ap (in_front (take i values)) (from_here i h ∙ ap (λ (p : Parsed). prepend_parsed p i rest) e)
+              ∙ ap (in_front (take i values)) (from_here i h ∙ ap (λ (p : Option ℕ). prepend_parsed p i rest) e)
               ∙ one_more (take i values) n i rest
               ∙ ap (λ (l : List ℕ). in_front l rest) (sym longer),
           rw longer (within_last (limit_of row.verb) n small (take i values) sofar.1),
         )
 
-    pub no_number : i + 1 < length words → parameter_in row i (get_or words (i + 1) []) ≡ NoNumber → numbers_from row 0 (drop 1 words) ≡ stopped i
+    pub no_number : i + 1 < length words → parameter_in row i (get_or words (i + 1) []) ≡ None → numbers_from row 0 (drop 1 words) ≡ stopped i
     no_number h e =
         sofar.0
-        ∙ ap (in_front (take i values)) (from_here i h ∙ ap (λ (p : Parsed). prepend_parsed p i (numbers_from row (i + 1) (drop (i + 1 + 1) words))) e)
+        ∙ ap (in_front (take i values)) (from_here i h ∙ ap (λ (p : Option ℕ). prepend_parsed p i (numbers_from row (i + 1) (drop (i + 1 + 1) words))) e)
 
     pub no_more : length words ≤ i + 1 → numbers_from row 0 (drop 1 words) ≡ all (take i values)
     unfolding numbers_from

@@ -34,7 +34,7 @@ use Rattle.tool.specs.declared.TapeVerb.TheVariants.{Check, Listing, Load, Run, 
 use Rattle.tool.specs.declared.NumberVerb.{NumberVerb}
 use Rattle.tool.specs.declared.NumberVerb.TheVariants.{Decode, Fibonacci, Places, NumberOf, Hofstadter, Inverse, Height, Prime, MulMod, PowMod}
 use Rattle.tool.specs.declared.Verb.{Verb}
-use Rattle.tool.specs.declared.Verb.TheVariants.{Unknown, Build, Script, Help, Version, OnTape, OnNumbers, InScript}
+use Rattle.tool.specs.declared.Verb.TheVariants.{Build, Script, Help, Version, OnTape, OnNumbers, InScript}
 use Rattle.tool.specs.declared.Row.{Row}
 use Rattle.tool.specs.Verbs.{takes_tape}
 use Rattle.tool.specs.Texts.{exponents_line, row_line, table_lines, record_line, preview_lines, power_lines, meaning, step_meaning, refusal_line, no_verb_line, wrong_count_line, unread_line, lines, usage}
@@ -126,7 +126,6 @@ built_some own v =
     some_printed own (build_outcome (at v 0) (at v 1) (at v 2) (at v 3) max_words) (λ (n : ℕ). bytes_of (named_words (at v 0) (at v 1) (at v 2) (at v 3))) (λ n. some_words (at v 0) (at v 1) (at v 2) (at v 3))
 
 means_some : (verb : Verb) (own : ℕ) (v tape tapes : List ℕ) → 0 < length (means verb own v tape tapes).text
-means_some Unknown own v tape tapes = some_usage
 means_some Build own v tape tapes = built_some own v
 means_some Script own v tape tapes = omega arith
 means_some Help own v tape tapes = some_usage

@@ -2,18 +2,16 @@
 use mathlib.Core.Path.{◌≡◌, refl, sym, ap, ◌∙◌}
 use mathlib.Core.Bool.{Bool, true, false, ◌&&◌}
 use mathlib.Core.List.{List, [], ◌∷◌}
-use Prim.Native.Nat.{ℕ, zero, suc, ◌+◌, ◌≤◌, ◌<◌}
+use Prim.Native.Nat.{ℕ, zero, suc, ◌≤◌, ◌<◌}
 use native.Mathlib.Omega.{arith}
 use borrow.Author.Tests.{leb-true, ltb-true, ltb-false}
 use lib.Dec.{leb, ltb}
-use lib.ListN.{length, get_or, drop, drop_of_length-le, get_or-eq_default}
-use lib.Seq.{get_or-take, get_or-drop}
+use lib.ListN.{length, get_or}
 use Rattle.refusal.proofs.Laws.Tests.{test_false, by_test, both}
-use Rattle.text.specs.declared.Parsed.{Parsed}
-use Rattle.text.specs.declared.Parsed.TheVariants.{Number, NoNumber}
+use Rattle.std.specs.Prelude.{Option, Some, None, MatchOption, slice_get}
+use Rattle.std.proofs.lemmas.Option.{slice_get_past}
 use Rattle.text.specs.Reading.{Small, parse_number}
 use Rattle.text.proofs.Laws.Digits.{number_small}
-use Rattle.tape.proofs.Laws.Rows.{drop_next}
 use Rattle.named.specs.Named.{variant_names}
 use Rattle.program.specs.Same.{same_words}
 use Rattle.program.proofs.Laws.Same.{same_itself, same_equal}
@@ -22,11 +20,10 @@ use Rattle.tool.specs.declared.NumberVerb.TheVariants.{Decode, Fibonacci, Places
 use Rattle.tool.specs.declared.ScriptVerb.{ScriptVerb}
 use Rattle.tool.specs.declared.ScriptVerb.TheVariants.{Tape, Append, Change, Drop, Behind, Room}
 use Rattle.tool.specs.declared.Verb.{Verb}
-use Rattle.tool.specs.declared.Verb.TheVariants.{Unknown, Build, Script, Help, Version, OnTape, OnNumbers, InScript}
+use Rattle.tool.specs.declared.Verb.TheVariants.{Build, Script, Help, Version, OnTape, OnNumbers, InScript}
 use Rattle.tool.specs.declared.Row.{Row}
-use Rattle.tool.specs.Verbs.{max_parameters, largest32, largest64, entries, names, rows, index_in, no_row, row_named, is_hidden, limit_on, limit_in, limit_of, is_variant, variant_in, parameter_in}
-use Rattle.tool.specs.Inner.Kinds.{kind_rows}
-use Rattle.tool.specs.Inner.Understood.{longest_name}
+use Rattle.tool.specs.Verbs.{max_parameters, largest32, largest64, entries, names, rows, index_in, row_named, limit_on, limit_in, limit_of, is_variant, variant_in, parameter_in}
+use Rattle.tool.specs.Inner.Understood.{longest_name, Placed}
 
 -- ---- where a name stands
 
@@ -39,16 +36,32 @@ module _ (word : List ℕ) where
   unfolding index_in
   past one words e = rw (test_false (same_words word one) (λ t. e (same_equal word one t)))
 
-  module _ (names : List (List ℕ)) (i : ℕ) where
-    pub name_here : i < length names → word ≡ get_or names i [] → index_in word (drop i names) ≡ 0
-    name_here h e = ap (index_in word) (drop_next names i (i + 1) [] refl h) ∙ here (get_or names i []) (drop (i + 1) names) e
+  -- no word in front of an index is it
+  abbrev Other : List (List ℕ) → ℕ → Type 0
+  Other words i = (k : ℕ) → k < i → get_or words k [] ≡ word → ⊥
 
-    pub name_past : i < length names → ¬ (word ≡ get_or names i []) → index_in word (drop i names) ≡ suc (index_in word (drop (i + 1) names))
-    name_past h e = ap (index_in word) (drop_next names i (i + 1) [] refl h) ∙ past (get_or names i []) (drop (i + 1) names) e
+  later : (one : List ℕ) (words : List (List ℕ)) (i : ℕ) → Other (one ∷ words) (suc i) → Other words i
+  later one words i other k h = other (suc k) (omega arith)
 
-    pub name_nowhere : length names ≤ i → index_in word (drop i names) ≡ 0
-    unfolding index_in
-    name_nowhere h = ap (index_in word) (drop_of_length-le names {i = i} h)
+  placed_at : (words : List (List ℕ)) (i : ℕ) → i < length words → get_or words i [] ≡ word → Other words i → index_in word words ≡ i
+  placed_at [] i h e other = absurd (omega arith)
+  placed_at (one ∷ words) zero h e other = here one words (sym e)
+  placed_at (one ∷ words) (suc i) h e other =
+      past one words (λ f. other 0 (omega arith) (sym f)) ∙ ap suc (placed_at words i (omega arith) e (later one words i other))
+
+  placed_nowhere : (words : List (List ℕ)) → Other words (length words) → length words ≤ index_in word words
+  placed_nowhere [] other = omega arith
+  placed_nowhere (one ∷ words) other =
+      omega (arith, past one words (λ f. other 0 (omega arith) (sym f)), placed_nowhere words (later one words (length words) other))
+
+  -- the first place of the word, found by going through them
+  pub placed : (words : List (List ℕ)) (count : ℕ) → count ≡ length words → (r : Option ℕ)
+      → MatchOption r ((k : ℕ) → 0 ≤ k → k < count → get_or words k [] ≡ word → ⊥)
+      (λ i. (0 ≤ i) × (i < count) × (get_or words i [] ≡ word) × ((k : ℕ) → 0 ≤ k → k < i → get_or words k [] ≡ word → ⊥))
+      → Placed word words r
+  placed words count all None other = placed_nowhere words (λ k h. other k (omega arith) (omega arith))
+  placed words count all (Some i) first =
+      (omega (arith, first.1), sym (placed_at words i (omega (arith, first.1)) first.2 (λ k h. first.3 k (omega arith) h)))
 
   -- the name at the index that was found is the word
   abbrev Found : List (List ℕ) → Type 0
@@ -73,33 +86,35 @@ abbrev all_rows : (Row → Bool) → List Row → Bool
 all_rows test [] = true
 all_rows test (row ∷ rows) = test row && all_rows test rows
 
-row_test : (test : Row → Bool) (rows : List Row) → all_rows test rows ≡ true → test no_row ≡ true → (i : ℕ) → test (get_or rows i no_row) ≡ true
-row_test test [] all none i = none
-row_test test (row ∷ rows) all none zero = (both (test row) (all_rows test rows) all).0
-row_test test (row ∷ rows) all none (suc i) = row_test test rows (both (test row) (all_rows test rows) all).1 none i
+row_test : (test : Row → Bool) (rows : List Row) → all_rows test rows ≡ true → (i : ℕ) (row : Row) → slice_get rows i ≡ Some row → test row ≡ true
+row_test test [] all i row e = cc
+row_test test (one ∷ rows) all zero row e =
+    let same : one ≡ row = cc in
+    rw (← same) ((both (test one) (all_rows test rows) all).0)
+row_test test (one ∷ rows) all (suc i) row e = row_test test rows (both (test one) (all_rows test rows) all).1 i row e
 
 -- no row lets a larger number in than its verb can do with, nor more parameters than there is room for
 abbrev is_limited : Row → Bool
 is_limited row = leb row.largest (limit_of row.verb) && (leb row.least max_parameters && leb row.most max_parameters)
 
-limited : (name : List ℕ) → is_limited (row_named name) ≡ true
+limited : (name : List ℕ) (row : Row) → row_named name ≡ Some row → is_limited row ≡ true
 unfolding row_named rows entries
-limited name = row_test is_limited rows refl refl (index_in name names)
+limited name row e = row_test is_limited rows refl (index_in name names) row e
 
 three : (a b c : Bool) → a && (b && c) ≡ true → (a ≡ true) × (b ≡ true) × (c ≡ true)
 three a b c e = let p = both a (b && c) e in let q = both b c p.1 in (p.0, q.0, q.1)
 
-module _ (name : List ℕ) where
-  tests : (leb (row_named name).largest (limit_of (row_named name).verb) ≡ true) × (leb (row_named name).least max_parameters ≡ true) × (leb (row_named name).most max_parameters ≡ true)
-  tests = three _ _ _ (limited name)
+module _ (name : List ℕ) (row : Row) (e : row_named name ≡ Some row) where
+  tests : (leb row.largest (limit_of row.verb) ≡ true) × (leb row.least max_parameters ≡ true) × (leb row.most max_parameters ≡ true)
+  tests = three _ _ _ (limited name row e)
 
-  pub row_largest : (row_named name).largest ≤ limit_of (row_named name).verb
+  pub row_largest : row.largest ≤ limit_of row.verb
   row_largest = leb-true _ _ tests.0
 
-  pub row_least : (row_named name).least ≤ max_parameters
+  pub row_least : row.least ≤ max_parameters
   row_least = leb-true _ _ tests.1
 
-  pub row_most : (row_named name).most ≤ max_parameters
+  pub row_most : row.most ≤ max_parameters
   row_most = leb-true _ _ tests.2
 
 -- ---- the names are short
@@ -121,25 +136,19 @@ as_many : length names ≡ length rows
 unfolding names rows entries
 as_many = refl
 
--- a row of a kind is the table's
-pub kind_row : (before count : ℕ) {place i : ℕ} → place < count → before + place ≡ i → get_or (kind_rows before count) place no_row ≡ get_or rows i no_row
-kind_row before count {place} h e = rw (← e, get_or-take, get_or-drop)
-
 -- a word that is no name has no verb
-pub row_nowhere : (name : List ℕ) → length names ≤ index_in name names → row_named name ≡ no_row
+pub row_nowhere : (name : List ℕ) → length names ≤ index_in name names → row_named name ≡ None
 unfolding row_named
-row_nowhere name h = get_or-eq_default rows no_row {n = index_in name names} (rw as_many at h)
+row_nowhere name h = slice_get_past rows (index_in name names) (rw as_many at h)
 
-pub name_short : (in_script : Bool) (name : List ℕ) → is_hidden in_script (row_named name).verb ≡ false → length name ≤ longest_name
-name_short in_script name seen =
+pub name_short : (name : List ℕ) (row : Row) → row_named name ≡ Some row → length name ≤ longest_name
+name_short name row e =
     by_test (ltb (index_in name names) (length names))
-    (λ yes. let e = name_found name names (ltb-true _ _ yes) in rw e (short_at names names_short (index_in name names)))
-    (λ no. absurd (hidden (ltb-false _ _ no)))
+    (λ yes. let f = name_found name names (ltb-true _ _ yes) in rw f (short_at names names_short (index_in name names)))
+    (λ no. absurd (nowhere (ltb-false _ _ no)))
   where
-    hidden : length names ≤ index_in name names → ⊥
-    hidden h =
-        let none : is_hidden in_script (row_named name).verb ≡ true = ap (λ (row : Row). is_hidden in_script row.verb) (row_nowhere name h) in
-        let z : ◌≡◌ {A = ℕ} 0 1 = cc in omega arith
+    nowhere : length names ≤ index_in name names → ⊥
+    nowhere h = let none = row_nowhere name h in cc
 
 -- ---- how a parameter is read
 
@@ -167,7 +176,6 @@ limit_in_lem Room = omega arith
 pub limit_most : (verb : Verb) → limit_of verb ≤ largest64
 limit_most (OnNumbers v) = limit_on_lem v
 limit_most (InScript v) = limit_in_lem v
-limit_most Unknown = omega arith
 limit_most Build = omega arith
 limit_most Script = omega arith
 limit_most Help = omega arith
@@ -177,7 +185,6 @@ limit_most (OnTape v) = omega arith
 -- only build has a variant, and it is a number of 32 bits
 variant_limit_lem : (verb : Verb) (place : ℕ) → is_variant verb place ≡ true → limit_of verb ≡ largest32
 variant_limit_lem Build place e = refl
-variant_limit_lem Unknown place e = refl
 variant_limit_lem Script place e = refl
 variant_limit_lem Help place e = refl
 variant_limit_lem Version place e = refl
@@ -192,9 +199,9 @@ variant_small word =
     (λ yes. let h = ltb-true (index_in word variant_names) (length variant_names) yes in rw yes (omega arith))
     (λ no. rw no (number_small largest32 word))
 
-weaker : (most limit : ℕ) (p : Parsed) → most ≤ limit → Small most p → Small limit p
-weaker most limit (Number n) h small = omega arith
-weaker most limit NoNumber h small = omega arith
+weaker : (most limit : ℕ) (p : Option ℕ) → most ≤ limit → Small most p → Small limit p
+weaker most limit (Some n) h small = omega arith
+weaker most limit None h small = omega arith
 
 pub parameter_small : (row : Row) (place : ℕ) (word : List ℕ) → row.largest ≤ limit_of row.verb → Small (limit_of row.verb) (parameter_in row place word)
 unfolding parameter_in

@@ -1,10 +1,10 @@
 -- What a command line that the code has read stands for.
-use Rattle.std.specs.Prelude.{◌≡◌, Bool, List, [], ℕ, ◌≤◌, ◌-◌, length, get_or, take, drop}
+use Rattle.std.specs.Prelude.{◌≡◌, Bool, Option, Some, None, List, [], ℕ, ◌≤◌, ◌<◌, ◌-◌, length, get_or, take, drop}
 use Rattle.tool.specs.declared.Row.{Row}
 use Rattle.tool.specs.declared.CommandLine.{CommandLine}
 use Rattle.tool.specs.declared.Call.{Call}
 use Rattle.tool.specs.declared.Call.TheVariants.{NoWord, NoVerb, WrongCount, Unread, Known}
-use Rattle.tool.specs.Verbs.{max_parameters, largest64, limit_of}
+use Rattle.tool.specs.Verbs.{max_parameters, largest64, limit_of, index_in}
 use Rattle.tool.specs.Calls.{Asked, no_word, no_verb, wrong_count, unread, known, numbers_from, with_numbers, asked_by}
 use Rattle.tool.specs.Inner.Held.{AllAtMost}
 
@@ -50,6 +50,11 @@ pub record Understood (in_script : Bool) (words : List (List ℕ)) (r : Call) (v
   pub asked : asked_for r words values ≡ asked_by in_script words
   pub in_range : InRange r words values
   pub size : length values ≡ max_parameters
+
+-- the place of a word among some, where it stands there
+abbrev pub Placed : List ℕ → List (List ℕ) → Option ℕ → Type 0
+Placed word words None = length words ≤ index_in word words
+Placed word words (Some place) = (place < length words) × (place ≡ index_in word words)
 
 -- a call whose parameters aren't looked at
 pub record Bare (call : Call) (line : CommandLine) : Type 0 where

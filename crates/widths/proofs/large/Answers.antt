@@ -1,13 +1,10 @@
--- `large` meets its contract: past the last parameter there is none, and no other is above 64 bits.
-use native.Mathlib.Omega.{arith}
+-- `large` meets its contract: no parameter is above 64 bits.
+use Rattle.std.proofs.Common.{◌≡◌, arith, rules, get_or}
 use Rattle.tool.specs.Verbs.{largest64}
 use Rattle.tool.proofs.Laws.Held.{held_at}
-use Rattle.widths.proofs.Laws.Stored.{held_nowhere}
 use Rattle.widths.proofs.large.Goals as goal
-
-pub returns-then-values-place : goal.returns-then-values-place
-returns-then-values-place c = held_nowhere largest64 _ _ c.if-values-place.true
 
 pub returns : goal.returns
 returns c =
-    omega (arith, held_at largest64 c.args.values.now c.args.place, c.shared_slice_known-1.given c.args.place)
+    let read : c.unwrap_or.result ≡ get_or c.args.values.now c.args.place 0 = search rules in
+    omega (arith, held_at largest64 c.args.values.now c.args.place, c.type_inv.values c.args.place)

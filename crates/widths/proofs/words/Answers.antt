@@ -1,31 +1,23 @@
--- `words` meets its contract: after i turns the first i parameters are put; a full row takes no more.
-use native.Mathlib.Omega.{arith}
+-- `words` meets its contract: the parameters that were gone through are put; a full row takes no more.
+use Rattle.std.proofs.Common.{arith, rules, ◌<◌, length}
 use Rattle.text.proofs.Laws.Puts.{put_none, put_rest, put_length}
 use Rattle.tool.specs.Verbs.{largest32}
 use Rattle.widths.proofs.Laws.Stored.{put_held, put_all_held}
 use Rattle.widths.proofs.words.Goals as goal
 
-pub loop-i-init : goal.loop-i-init
-loop-i-init c = (omega arith, put_none _ _)
+pub overflow_add-next : goal.overflow_add-next
+overflow_add-next c = omega (arith, put_length c.loop-value.invariant)
 
-pub shape_of-row-then-row-next : goal.shape_of-row-then-row-next
-shape_of-row-then-row-next c = put_length c.loop-i.invariant.1
+pub loop-value-preserved : goal.loop-value-preserved
+loop-value-preserved c =
+    let more : c.loop-value.value-index < length c.args.values.now = search rules in
+    put_held largest32 _ _ more c.if-row-next.false c.held_word.ensures c.loop-value.invariant
+
+pub loop-value-init : goal.loop-value-init
+loop-value-init c = put_none _ _
 
 pub returns-then-row-next : goal.returns-then-row-next
-returns-then-row-next c = put_rest _ c.loop-i.i c.if-row-next.true c.loop-i.invariant.1
-
-pub offset_bounds-row-next : goal.offset_bounds-row-next
-offset_bounds-row-next c = omega (arith, put_length c.loop-i.invariant.1)
-
-pub overflow_add-next : goal.overflow_add-next
-overflow_add-next c = omega (arith, put_length c.loop-i.invariant.1)
-
-pub loop-i-preserved : goal.loop-i-preserved
-loop-i-preserved c =
-    (omega arith, put_held largest32 _ _ c.loop-i-test.true c.if-row-next.false c.held_word.ensures c.loop-i.invariant.1)
-
-pub shape_of-row : goal.shape_of-row
-shape_of-row c = put_length c.loop-i.invariant.1
+returns-then-row-next c = put_rest _ c.loop-value.value-index c.if-row-next.true c.loop-value.invariant
 
 pub returns : goal.returns
-returns c = put_all_held largest32 _ _ c.loop-i-test.false c.loop-i.invariant.1
+returns c = put_all_held largest32 _ _ (search rules) c.loop-value.invariant
