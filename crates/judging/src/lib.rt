@@ -1,8 +1,8 @@
 // A line of a script as bytes: whether it is copied, where it says what its reply is, the verdict on that, and a command line's arguments.
 #![tactic(auto)]
 
-ghost use Rattle.std.specs.Prelude.{◌≡◌, cond, [], ◌∷◌, ◌++◌, ◌+◌, ◌<◌, eqb, length, drop};
-ghost use Rattle.text.specs.Text.{blank, newline};
+ghost use Rattle.std.specs.Prelude.{◌≡◌, [], ◌∷◌, ◌++◌, ◌+◌, ◌<◌, length, drop};
+ghost use Rattle.text.specs.Text.{newline};
 ghost use Rattle.text.specs.Rows.{Put};
 ghost use Rattle.program.specs.Same.{same_words};
 ghost use Rattle.scripting.specs.Script.{arguments_of, is_equals, equals_in, is_copied, verdict};
@@ -21,10 +21,7 @@ const EQUALS_BYTES: usize = 3;
 pub fn is_copied(line: &[u8]) -> bool
     ensures { result ≡ is_copied line.now }
 {
-    if line.len() == 0 {
-        return true;
-    }
-    line[0] == HASH
+    matches!(line, [] | [HASH, ..])
 }
 
 // Where a blank, an equals sign and a blank first stand; past the line, where they don't.
@@ -111,22 +108,11 @@ fn is_line(text: &[u8], line: &[u8]) -> bool
 pub fn to_arguments(line: &[u8], row: &mut [u8]) -> usize
     ensures { Put row.old 0 (arguments_of line.now) result row.new }
 {
-    let mut i: usize = 0;
-    while i < line.len() {
-        if row.len() <= i {
-            return i;
+    for (place, byte) in line.iter().enumerate() {
+        if row.len() <= place {
+            return place;
         }
-        row[i] = to_argument(line[i]);
-        i += 1;
+        row[place] = if *byte == BLANK { 0 } else { *byte };
     }
-    i
-}
-
-fn to_argument(byte: u8) -> u8
-    ensures { result ≡ cond (eqb byte blank) 0 byte }
-{
-    if byte == BLANK {
-        return 0;
-    }
-    byte
+    line.len()
 }

@@ -1,26 +1,19 @@
--- `to_arguments` meets its contract: with i bytes passed, the arguments of the first i are put; a full row takes no more of them.
-use native.Mathlib.Omega.{arith}
-use lib.ListN.{length-map}
-use lib.Seq.{take_all}
-use Rattle.text.proofs.Laws.Puts.{put_none, put_rest, put_length}
-use Rattle.scripting.specs.Script.{arguments_of}
+-- `to_arguments` meets its contract: the arguments of the bytes that were gone through are put; a full row takes no more of them.
+use Rattle.std.proofs.Common.{◌≡◌, arith, cond, get_or}
+use Rattle.std.proofs.lemmas.Bool.Decides.{nat_tests}
+use lib.Dec.{eqb}
+use Rattle.text.specs.Text.{blank}
+use Rattle.text.proofs.Laws.Puts.{put_none}
 use Rattle.scripting.proofs.Laws.Equals.{arguments_next}
 use Rattle.judging.proofs.to_arguments.Goals as goal
+use Rattle.judging.proofs.to_arguments.Goals.{then-byte-eq-BLANK, else-byte-eq-BLANK}
 
-pub loop-i-init : goal.loop-i-init
-loop-i-init c = (omega arith, put_none _ _)
+pub loop-place-init : goal.loop-place-init
+loop-place-init c = put_none _ _
 
-pub shape_of-row-then-row-i : goal.shape_of-row-then-row-i
-shape_of-row-then-row-i c = put_length c.loop-i.invariant.1
-
-pub returns-then-row-i : goal.returns-then-row-i
-returns-then-row-i c = put_rest _ c.loop-i.i c.if-row-i.true c.loop-i.invariant.1
-
-pub loop-i-preserved : goal.loop-i-preserved
-loop-i-preserved c = (omega arith, arguments_next c.args.line.now c.loop-i.i c.loop-i-test.true c.if-row-i.false c.to_argument.ensures c.loop-i.invariant.1)
-
-pub shape_of-row : goal.shape_of-row
-shape_of-row c = put_length c.loop-i.invariant.1
-
-pub returns : goal.returns
-returns c = rw (take_all c.loop-i.i (arguments_of c.args.line.now) (simp length-map c.loop-i-test.false)) at c.loop-i.invariant.1
+pub loop-place-preserved : goal.loop-place-preserved
+loop-place-preserved c =
+    let byte = get_or c.args.line.now c.loop-place.place 0 in
+    let argument : c.if-byte-eq-BLANK.row ≡ cond (eqb byte blank) 0 byte =
+    elim c.if-byte-eq-BLANK.branch [ then-byte-eq-BLANK w ↦ grind (arith, nat_tests) | else-byte-eq-BLANK w ↦ grind (arith, nat_tests) ] in
+    arguments_next c.args.line.now c.loop-place.place c.loop-place-test.true c.if-row-place.false argument c.loop-place.invariant
