@@ -15,7 +15,7 @@ ghost use Rattle.scripting.specs.Inner.Leaving.{ShortRow, WrittenRow};
 
 use lines::{number_line, numbers_line};
 use printing::refuse;
-use putting::put_words;
+use putting::{Buffer, put};
 use refusal::Refusal;
 use scripting::{MAX_ROOM, MAX_TAPES, Marks, Printed};
 use tape::MAX_WORDS;
@@ -107,10 +107,12 @@ fn leave(words: &[u32], tapes: &mut [u32], marks: Marks, text: &mut [u8]) -> Pri
             length: put_full(text, tapes.len()),
         };
     }
-    let end = put_words(tapes, begin, words);
+    let end = put(tapes, begin, words);
+    let mut line = Buffer::new(text);
+    numbers_line(&mut line, words);
     Printed {
         marks: Marks { end, ..marks },
-        length: numbers_line(text, 0, words),
+        length: line.next,
     }
 }
 
@@ -171,18 +173,22 @@ fn show(
                     length: put_full(text, tapes.len()),
                 };
             }
-            let end = put_words(tapes, begin, &row[..count]);
-            let next = number_line(text, 0, n);
+            let end = put(tapes, begin, &row[..count]);
+            let mut lines = Buffer::new(text);
+            number_line(&mut lines, n);
+            numbers_line(&mut lines, row);
             Printed {
                 marks: Marks { end, ..marks },
-                length: numbers_line(text, next, row),
+                length: lines.next,
             }
         }
         Err(e) => {
             let next = refuse(text, own, u32::from(e)).length;
+            let mut lines = Buffer { row: text, next };
+            numbers_line(&mut lines, row);
             Printed {
                 marks,
-                length: numbers_line(text, next, row),
+                length: lines.next,
             }
         }
     }

@@ -11,7 +11,7 @@ ghost use Rattle.scripting.specs.States.{capacity_of, state_in, Inside, inside_o
 ghost use Rattle.scripting.specs.Inner.Leaving.{Placed};
 
 use lines::number_line;
-use putting::{put_byte, put_then};
+use putting::{Buffer, put};
 use scripting::{MAX_ROOM, MAX_TAPES, Marks, Printed};
 use tape_row::{inside, put_full};
 use text::NEWLINE;
@@ -84,9 +84,11 @@ fn count_words(marks: Marks, text: &mut [u8]) -> Printed
     requires { marks.begin ≤ marks.end }
     ensures { (result.marks ≡ marks) × Put text.old 0 (number_line (marks.end - marks.begin)) result.length text.new }
 {
+    let mut line = Buffer::new(text);
+    number_line(&mut line, (marks.end - marks.begin) as u64);
     Printed {
         marks,
-        length: number_line(text, 0, (marks.end - marks.begin) as u64),
+        length: line.next,
     }
 }
 
@@ -99,7 +101,7 @@ fn change(values: &[u64], tapes: &mut [u32], marks: Marks, text: &mut [u8]) -> P
     if marks.end - marks.begin <= index {
         return Printed {
             marks,
-            length: put_then(text, 0, b"fibexp: no such word in the tape", NEWLINE),
+            length: put(text, 0, b"fibexp: no such word in the tape\n"),
         };
     }
     let at = marks.begin + index;
@@ -143,15 +145,17 @@ fn room(values: &[u64], tapes: &[u32], marks: Marks, text: &mut [u8]) -> Printed
                 room: None,
                 ..marks
             },
-            length: put_byte(text, 0, NEWLINE),
+            length: put(text, 0, &[NEWLINE]),
         };
     };
     let room = (*first as usize).min(MAX_ROOM);
+    let mut line = Buffer::new(text);
+    number_line(&mut line, room as u64);
     Printed {
         marks: Marks {
             room: Some(room),
             ..marks
         },
-        length: number_line(text, 0, room as u64),
+        length: line.next,
     }
 }

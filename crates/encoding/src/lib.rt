@@ -1,15 +1,13 @@
 // A tape as bytes: the one way from bytes to words and back.
 #![tactic(auto)]
 
-mod words;
-
-ghost use Rattle.std.specs.Prelude.{◌≡◌, [], ◌∷◌, ◌%◌};
+ghost use Rattle.std.specs.Prelude.{◌/◌, ◌≤◌, length};
 ghost use Rattle.text.specs.Rows.{Put};
-ghost use Rattle.encoding.specs.Encoding.{bytes_of, tape_in};
+ghost use Rattle.putting.specs.Buffers.{Puts};
+ghost use Rattle.encoding.specs.Encoding.{bytes_of, tape_of, tape_in};
 
-use putting::put_byte;
+use putting::Buffer;
 use tape::MAX_WORDS;
-use words::words;
 
 // The bytes of a word.
 pub const WORD_BYTES: usize = 4;
@@ -31,31 +29,23 @@ pub fn tape_words(bytes: &[u8], buffer: &mut [u32; MAX_WORDS]) -> usize
     words(bytes, buffer)
 }
 
-// The bytes of words, least significant first, from `at` on: the index past them. What doesn't fit the buffer is dropped.
-pub fn tape_bytes(buffer: &mut [u8], at: usize, words: &[u32]) -> usize
-    ensures { Put buffer.old at (bytes_of words.now) result buffer.new }
+// Writes the words from the buffer's start, and answers how many they are; up to three bytes left over are no word.
+fn words(bytes: &[u8], buffer: &mut [u32]) -> usize
+    requires { length bytes.now / 4 ≤ length buffer.old }
+    ensures { Put buffer.old 0 (tape_of bytes.now) result buffer.new }
 {
-    let mut next = at;
-    let mut i: usize = 0;
-    while i < words.len() {
-        next = word_bytes(buffer, next, words[i]);
-        i += 1;
+    let (words, _) = bytes.as_chunks::<WORD_BYTES>();
+    for (i, word) in words.iter().enumerate() {
+        buffer[i] = u32::from_le_bytes(*word);
     }
-    next
+    words.len()
 }
 
-// A word's four bytes.
-fn word_bytes(buffer: &mut [u8], at: usize, word: u32) -> usize
-    ensures { Put buffer.old at (bytes_of (word ∷ [])) result buffer.new }
+// Puts the bytes of words, least significant first.
+pub fn tape_bytes(buffer: &mut Buffer, words: &[u32])
+    ensures { Puts buffer.old (bytes_of words.now) buffer.new }
 {
-    let a = put_byte(buffer, at, low(word));
-    let b = put_byte(buffer, a, low(word / 0x100));
-    let c = put_byte(buffer, b, low(word / 0x10000));
-    put_byte(buffer, c, low(word / 0x1000000))
-}
-
-fn low(word: u32) -> u8
-    ensures { result ≡ word % 256 }
-{
-    (word % 0x100) as u8
+    for word in words {
+        buffer.put(&word.to_le_bytes());
+    }
 }

@@ -4,10 +4,11 @@
 ghost use Rattle.std.specs.Prelude.{◌≡◌, [], ◌∷◌, ◌++◌, ◌+◌, ◌<◌, length, drop};
 ghost use Rattle.text.specs.Text.{newline};
 ghost use Rattle.text.specs.Rows.{Put};
+ghost use Rattle.putting.specs.Buffers.{Puts};
 ghost use Rattle.program.specs.Same.{same_words};
 ghost use Rattle.scripting.specs.Script.{arguments_of, is_equals, equals_in, is_copied, verdict};
 
-use putting::{put, put_then};
+use putting::Buffer;
 use text::{BLANK, NEWLINE};
 
 const HASH: u8 = b'#';
@@ -58,8 +59,10 @@ fn is_equals(line: &[u8], at: usize) -> bool
 pub fn put_judged(text: &mut [u8], printed: &[u8], line: &[u8], at: usize) -> usize
     ensures { Put text.old 0 (printed.now ++ verdict printed.now (drop (at + 3) line.now)) result text.new }
 {
-    let next = put(text, 0, printed);
-    put_verdict(text, next, printed, past_equals(line, at))
+    let mut buffer = Buffer::new(text);
+    buffer.put(printed);
+    put_verdict(&mut buffer, printed, past_equals(line, at));
+    buffer.next
 }
 
 // What stands past an equals sign and its blanks.
@@ -76,15 +79,15 @@ fn past_equals(line: &[u8], at: usize) -> &[u8]
 }
 
 // Whether what was printed is what was said.
-fn put_verdict(row: &mut [u8], at: usize, printed: &[u8], said: &[u8]) -> usize
-    ensures { Put row.old at (verdict printed.now said.now) result row.new }
+fn put_verdict(buffer: &mut Buffer, printed: &[u8], said: &[u8])
+    ensures { Puts buffer.old (verdict printed.now said.now) buffer.new }
 {
-    let a = put(row, at, b"= ");
-    let b = put(row, a, said);
+    buffer.put(b"= ");
+    buffer.put(said);
     if is_line(printed, said) {
-        return put_then(row, b, b": yes", NEWLINE);
+        return buffer.put_then(b": yes", NEWLINE);
     }
-    put_then(row, b, b": no", NEWLINE)
+    buffer.put_then(b": no", NEWLINE);
 }
 
 // A text is a line and its end.

@@ -12,7 +12,7 @@ ghost use Rattle.listing.specs.Listing.{listing_number, listing_of, listing_answ
 use encoding::tape_words;
 use listing::{Listed, MAX_WRITTEN};
 use listing_lines::{first_line, refused_line, step_lines};
-use putting::put;
+use putting::{Buffer, put};
 use refusal::Refusal;
 use tape::{Header, MAX_WORDS};
 
@@ -73,10 +73,11 @@ fn list_accepted(tape: &[u32], header: Header, buffer: &mut [u8]) -> Listed
     ensures put { Put buffer.old 0 (lines_for (answered header) (steps_of tape.now)) result.written buffer.new }
     ensures number_value { result.number ≡ 0 }
 {
-    let next = first_line(buffer, 0, header);
-    let end = step_lines(buffer, next, parts::steps(tape));
+    let mut lines = Buffer::new(buffer);
+    first_line(&mut lines, header);
+    step_lines(&mut lines, parts::steps(tape));
     Listed {
-        written: end,
+        written: lines.next,
         number: 0,
     }
 }
@@ -87,9 +88,10 @@ fn list_refusal(e: Refusal, buffer: &mut [u8]) -> Listed
     ensures number_value { result.number ≡ number_of e }
 {
     let number = u32::from(e);
-    let end = refused_line(buffer, 0, number);
+    let mut line = Buffer::new(buffer);
+    refused_line(&mut line, number);
     Listed {
-        written: end,
+        written: line.next,
         number,
     }
 }

@@ -7,7 +7,7 @@ ghost use Rattle.tool.specs.Texts.{step_meaning, meaning};
 ghost use Rattle.tool.specs.Replies.{answers};
 ghost use Rattle.tool.specs.Rows.{Told};
 
-use putting::{put_number_then, put_then};
+use putting::{Buffer, put};
 use tape::{Decoded, Step};
 use text::{BLANK, NEWLINE};
 use tool::{ANSWERED, Reply};
@@ -42,10 +42,12 @@ fn one(buffer: &mut [u8], name: &[u8], n: u32) -> Reply
     requires { length name.now ≤ 7 }
     ensures { Told buffer.old (answers (line (name.now ∷ decimal n ∷ []))) result buffer.new }
 {
-    let a = put_then(buffer, 0, name, BLANK);
+    let mut line = Buffer::new(buffer);
+    line.put_then(name, BLANK);
+    line.put_number_then(n as u64, NEWLINE);
     Reply {
         status: ANSWERED,
-        length: put_number_then(buffer, a, n as u64, NEWLINE),
+        length: line.next,
     }
 }
 
@@ -54,11 +56,13 @@ fn two(buffer: &mut [u8], name: &[u8], m: u32, n: u32) -> Reply
     requires { length name.now ≤ 7 }
     ensures { Told buffer.old (answers (line (name.now ∷ decimal m ∷ decimal n ∷ []))) result buffer.new }
 {
-    let a = put_then(buffer, 0, name, BLANK);
-    let b = put_number_then(buffer, a, m as u64, BLANK);
+    let mut line = Buffer::new(buffer);
+    line.put_then(name, BLANK);
+    line.put_number_then(m as u64, BLANK);
+    line.put_number_then(n as u64, NEWLINE);
     Reply {
         status: ANSWERED,
-        length: put_number_then(buffer, b, n as u64, NEWLINE),
+        length: line.next,
     }
 }
 
@@ -67,6 +71,6 @@ fn none(buffer: &mut [u8]) -> Reply
 {
     Reply {
         status: ANSWERED,
-        length: put_then(buffer, 0, b"none", NEWLINE),
+        length: put(buffer, 0, b"none\n"),
     }
 }

@@ -70,9 +70,11 @@ pub fn build(own: u32, values: &[u64], text: &mut [u8]) -> Reply
     match answer {
         Ok(n) => {
             let count = n as usize;
+            let mut buffer = Buffer::new(text);
+            tape_bytes(&mut buffer, &row[..count]);
             Reply {
                 status: ANSWERED,
-                length: tape_bytes(text, 0, &row[..count]),
+                length: buffer.next,
             }
         }
         Err(e) => refuse(text, own, u32::from(e)),
@@ -84,9 +86,11 @@ fn places(n: u64, text: &mut [u8]) -> Reply
     ensures { Told text.old (number_reply NumberVerb.Places 0 (n ∷ [])) result text.new }
 {
     let form = zeckendorf::zeckendorf(n);
+    let mut line = Buffer::new(text);
+    bytes_line(&mut line, form.places());
     Reply {
         status: ANSWERED,
-        length: bytes_line(text, 0, form.places()),
+        length: line.next,
     }
 }
 

@@ -6,7 +6,7 @@ mod results;
 ghost use Rattle.std.specs.Prelude.{[], ◌∷◌, ◌++◌};
 ghost use Rattle.refusal.specs.Outcomes.{outcome_of};
 ghost use Rattle.text.specs.Text.{newline, number_line};
-ghost use Rattle.text.specs.Rows.{Put};
+ghost use Rattle.putting.specs.Buffers.{Puts};
 ghost use Rattle.machine.specs.Exponents.{exponents_outcome_of};
 ghost use Rattle.tables.specs.Tables.{table_outcome_of};
 ghost use Rattle.sequencer.specs.Records.{state_outcome_of};
@@ -17,7 +17,7 @@ ghost use Rattle.tool.specs.Rows.{Told};
 
 use machine::Exponents;
 use parsing::nth_word;
-use putting::{put, put_number, put_then};
+use putting::Buffer;
 use refusal::{OWN_REASONS, REASONS, Refusal};
 pub use results::{number, record};
 use results::{exponents, power, preview, rows};
@@ -26,30 +26,29 @@ use tables::Table;
 use text::NEWLINE;
 use tool::{REFUSED, Reply};
 
-const REFUSED_TEXT: [u8; 16] = *b"fibexp: refused ";
-
 // A refusal, with what it is given for.
 pub fn refuse(buffer: &mut [u8], own: u32, number: u32) -> Reply
     ensures { Told buffer.old (refuses own number) result buffer.new }
 {
-    let a = put(buffer, 0, &REFUSED_TEXT);
-    let b = put_number(buffer, a, number as u64);
-    let c = put(buffer, b, b": ");
-    let length = put_reason(buffer, c, own, number);
+    let mut line = Buffer::new(buffer);
+    line.put(b"fibexp: refused ");
+    line.put_number(number as u64);
+    line.put(b": ");
+    put_reason(&mut line, own, number);
     Reply {
         status: REFUSED,
-        length,
+        length: line.next,
     }
 }
 
 // What a refusal is given for, and the end of the line.
-fn put_reason(buffer: &mut [u8], at: usize, own: u32, number: u32) -> usize
-    ensures { Put buffer.old at (reason_for own number ++ newline ∷ []) result buffer.new }
+fn put_reason(buffer: &mut Buffer, own: u32, number: u32)
+    ensures { Puts buffer.old (reason_for own number ++ newline ∷ []) buffer.new }
 {
     if number == own {
-        return put_then(buffer, at, nth_word(&OWN_REASONS, number as usize), NEWLINE);
+        return buffer.put_then(nth_word(&OWN_REASONS, number as usize), NEWLINE);
     }
-    put_then(buffer, at, nth_word(&REASONS, number as usize), NEWLINE)
+    buffer.put_then(nth_word(&REASONS, number as usize), NEWLINE);
 }
 
 // One number, or the refusal.

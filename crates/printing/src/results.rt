@@ -1,7 +1,7 @@
 // Answers of numbers.
 ghost use Rattle.std.specs.Prelude.{[], ◌∷◌, ◌++◌, ◌≤◌, length};
 ghost use Rattle.text.specs.Text.{whole, number_line};
-ghost use Rattle.text.specs.Rows.{Put};
+ghost use Rattle.putting.specs.Buffers.{Puts};
 ghost use Rattle.machine.specs.Exponents.{exponents_of};
 ghost use Rattle.tables.specs.Tables.{matrix_of};
 ghost use Rattle.sequencer.specs.Records.{record_of};
@@ -12,7 +12,7 @@ ghost use Rattle.tool.specs.Rows.{Told};
 
 use lines::{number_line, numbers_line};
 use machine::Exponents;
-use putting::{put_byte, put_whole};
+use putting::Buffer;
 use sequencer::{Preview, State};
 use tables::Table;
 use text::{BLANK, NEWLINE};
@@ -22,9 +22,11 @@ use tool::{ANSWERED, Reply};
 pub fn number(buffer: &mut [u8], n: u64) -> Reply
     ensures { Told buffer.old (answers (number_line n)) result buffer.new }
 {
+    let mut line = Buffer::new(buffer);
+    number_line(&mut line, n);
     Reply {
         status: ANSWERED,
-        length: number_line(buffer, 0, n),
+        length: line.next,
     }
 }
 
@@ -32,9 +34,11 @@ pub fn number(buffer: &mut [u8], n: u64) -> Reply
 pub fn record(buffer: &mut [u8], state: State) -> Reply
     ensures { Told buffer.old (answers (record_line (record_of state))) result buffer.new }
 {
+    let mut line = Buffer::new(buffer);
+    put_record(&mut line, state);
     Reply {
         status: ANSWERED,
-        length: put_record(buffer, 0, state),
+        length: line.next,
     }
 }
 
@@ -43,16 +47,18 @@ pub(crate) fn power(buffer: &mut [u8], state: State) -> Reply
     ensures { Told buffer.old (answers (power_lines (record_of state))) result buffer.new }
 {
     let registers = state.registers;
-    let next = number_line(buffer, 0, registers.d as u64);
+    let mut lines = Buffer::new(buffer);
+    number_line(&mut lines, registers.d as u64);
+    put_record(&mut lines, state);
     Reply {
         status: ANSWERED,
-        length: put_record(buffer, next, state),
+        length: lines.next,
     }
 }
 
 // The four registers and the position, and the end of the line.
-fn put_record(buffer: &mut [u8], at: usize, state: State) -> usize
-    ensures put { Put buffer.old at (record_line (record_of state)) result buffer.new }
+fn put_record(buffer: &mut Buffer, state: State)
+    ensures put { Puts buffer.old (record_line (record_of state)) buffer.new }
     ensures short { length (record_line (record_of state)) ≤ 56 }
 {
     let registers = state.registers;
@@ -63,7 +69,7 @@ fn put_record(buffer: &mut [u8], at: usize, state: State) -> usize
         registers.f,
         state.position,
     ];
-    numbers_line(buffer, at, &values)
+    numbers_line(buffer, &values);
 }
 
 // The registers on a line, and the counts on the next.
@@ -72,14 +78,15 @@ pub(crate) fn preview(buffer: &mut [u8], shown: Preview) -> Reply
 {
     let registers = shown.registers;
     let counts = shown.counts;
-    let next = numbers_line(
-        buffer,
-        0,
+    let mut lines = Buffer::new(buffer);
+    numbers_line(
+        &mut lines,
         &[registers.c, registers.d, registers.e, registers.f],
     );
+    numbers_line(&mut lines, &[counts.mul, counts.div, counts.swp]);
     Reply {
         status: ANSWERED,
-        length: numbers_line(buffer, next, &[counts.mul, counts.div, counts.swp]),
+        length: lines.next,
     }
 }
 
@@ -87,9 +94,11 @@ pub(crate) fn preview(buffer: &mut [u8], shown: Preview) -> Reply
 pub(crate) fn exponents(buffer: &mut [u8], exponents: Exponents) -> Reply
     ensures { Told buffer.old (answers (exponents_line (exponents_of exponents))) result buffer.new }
 {
+    let mut line = Buffer::new(buffer);
+    put_row(&mut line, exponents);
     Reply {
         status: ANSWERED,
-        length: put_row(buffer, 0, exponents),
+        length: line.next,
     }
 }
 
@@ -97,31 +106,33 @@ pub(crate) fn exponents(buffer: &mut [u8], exponents: Exponents) -> Reply
 pub(crate) fn rows(buffer: &mut [u8], table: Table) -> Reply
     ensures { Told buffer.old (answers (table_lines (matrix_of table))) result buffer.new }
 {
-    let c = put_row(buffer, 0, table.c);
-    let d = put_row(buffer, c, table.d);
-    let e = put_row(buffer, d, table.e);
+    let mut lines = Buffer::new(buffer);
+    put_row(&mut lines, table.c);
+    put_row(&mut lines, table.d);
+    put_row(&mut lines, table.e);
+    put_row(&mut lines, table.f);
     Reply {
         status: ANSWERED,
-        length: put_row(buffer, e, table.f),
+        length: lines.next,
     }
 }
 
 // Four exponents, and the end of the line.
-fn put_row(buffer: &mut [u8], at: usize, row: Exponents) -> usize
-    ensures put { Put buffer.old at (exponents_line (exponents_of row)) result buffer.new }
+fn put_row(buffer: &mut Buffer, row: Exponents)
+    ensures put { Puts buffer.old (exponents_line (exponents_of row)) buffer.new }
     ensures short { length (exponents_line (exponents_of row)) ≤ 88 }
 {
-    let c = put_exponent(buffer, at, row.c, BLANK);
-    let d = put_exponent(buffer, c, row.d, BLANK);
-    let e = put_exponent(buffer, d, row.e, BLANK);
-    put_exponent(buffer, e, row.f, NEWLINE)
+    put_exponent(buffer, row.c, BLANK);
+    put_exponent(buffer, row.d, BLANK);
+    put_exponent(buffer, row.e, BLANK);
+    put_exponent(buffer, row.f, NEWLINE);
 }
 
 // A whole number, and a byte.
-fn put_exponent(buffer: &mut [u8], at: usize, n: i64, last: u8) -> usize
-    ensures put { Put buffer.old at (whole n ++ last ∷ []) result buffer.new }
+fn put_exponent(buffer: &mut Buffer, n: i64, last: u8)
+    ensures put { Puts buffer.old (whole n ++ last ∷ []) buffer.new }
     ensures short { length (whole n) ≤ 21 }
 {
-    let next = put_whole(buffer, at, n);
-    put_byte(buffer, next, last)
+    buffer.put_whole(n);
+    buffer.put_byte(last);
 }

@@ -3,6 +3,7 @@
 
 ghost use Rattle.std.specs.Prelude.{◌≡◌, [], ◌∷◌, min, ◌≤◌, length, take};
 ghost use Rattle.text.specs.Rows.{Put};
+ghost use Rattle.encoding.specs.Encoding.{bytes_of};
 ghost use Rattle.tool.specs.Verbs.{max_room};
 ghost use Rattle.scripting.specs.Script.{max_commanded, places_into, list_into, places_in, list_in};
 ghost use Rattle.scripting.specs.States.{capacity_of};
@@ -10,6 +11,7 @@ ghost use Rattle.scripting.specs.States.{capacity_of};
 use encoding::{WORD_BYTES, tape_bytes};
 use lines::{bytes_line, numbers_line};
 use printing::answer;
+use putting::Buffer;
 use scripting::{MAX_ROOM, MAX_TAPES};
 
 // What a byte of a buffer holds before a call.
@@ -36,7 +38,9 @@ fn places_into(own: u32, n: u64, row: &mut [u8], text: &mut [u8]) -> usize
 {
     let found = places::places(n, row);
     let next = answer(text, own, found).length;
-    bytes_line(text, next, row)
+    let mut buffer = Buffer { row: text, next };
+    bytes_line(&mut buffer, row);
+    buffer.next
 }
 
 // The listing of a tape, whose first `MAX_TAPES` words are used, into a buffer: how many bytes were written and its number, and the buffer.
@@ -47,9 +51,18 @@ pub fn list_in(tape: &[u32], room: usize, text: &mut [u8]) -> usize
     let words = tape.len().min(MAX_TAPES);
     let held = room.min(MAX_ROOM);
     let mut bytes = [0u8; MAX_TAPE_BYTES];
-    let count = tape_bytes(&mut bytes, 0, &tape[..words]);
+    let count = put_words(&mut bytes, &tape[..words]);
     let mut row = [HELD; MAX_ROOM];
     list_into(&bytes[..count], &mut row[..held], text)
+}
+
+// The bytes of words, from the row's start.
+fn put_words(row: &mut [u8], words: &[u32]) -> usize
+    ensures { Put row.old 0 (bytes_of words.now) result row.new }
+{
+    let mut buffer = Buffer::new(row);
+    tape_bytes(&mut buffer, words);
+    buffer.next
 }
 
 fn list_into(bytes: &[u8], row: &mut [u8], text: &mut [u8]) -> usize
@@ -59,6 +72,8 @@ fn list_into(bytes: &[u8], row: &mut [u8], text: &mut [u8]) -> usize
 {
     let listed = lister::listing(bytes, row);
     let said = [listed.written as u32, listed.number];
-    let next = numbers_line(text, 0, &said);
-    bytes_line(text, next, row)
+    let mut buffer = Buffer::new(text);
+    numbers_line(&mut buffer, &said);
+    bytes_line(&mut buffer, row);
+    buffer.next
 }

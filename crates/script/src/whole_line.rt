@@ -5,7 +5,7 @@ ghost use Rattle.scripting.specs.States.{state_in, Inside, Did, DidLine};
 
 use crate::commands::commanded;
 use judging::{equals_in, is_copied, put_judged, to_arguments};
-use putting::put_then;
+use putting::{Buffer, put};
 use scripting::{MAX_LINE, MAX_PRINTED, Marks, Printed};
 use text::NEWLINE;
 
@@ -15,12 +15,16 @@ pub(crate) fn done(line: &[u8], tapes: &mut [u32], marks: Marks, text: &mut [u8]
     ensures { DidLine (line_done (length tapes.old) line.now (state_in marks tapes.old)) text.old result tapes.new text.new }
 {
     if MAX_LINE < line.len() {
-        let length = put_then(text, 0, b"fibexp: a line of more than 4095 bytes", NEWLINE);
+        let length = put(text, 0, b"fibexp: a line of more than 4095 bytes\n");
         return Printed { marks, length };
     }
     if is_copied(line) {
-        let length = put_then(text, 0, line, NEWLINE);
-        return Printed { marks, length };
+        let mut copy = Buffer::new(text);
+        copy.put_then(line, NEWLINE);
+        return Printed {
+            marks,
+            length: copy.next,
+        };
     }
     let at = equals_in(line);
     if at < line.len() {

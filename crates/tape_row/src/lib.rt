@@ -6,7 +6,7 @@ ghost use Rattle.text.specs.Rows.{Put};
 ghost use Rattle.scripting.specs.Script.{full_line};
 ghost use Rattle.scripting.specs.States.{inside_of};
 
-use putting::{put, put_number, put_then};
+use putting::Buffer;
 use scripting::{MAX_ROOM, Marks};
 use text::NEWLINE;
 
@@ -27,7 +27,9 @@ pub fn inside(marks: Marks, capacity: usize) -> Marks
 pub fn put_full(text: &mut [u8], capacity: usize) -> usize
     ensures { Put text.old 0 (full_line capacity) result text.new }
 {
-    let a = put(text, 0, b"fibexp: a row of tapes has at most ");
-    let b = put_number(text, a, capacity as u64);
-    put_then(text, b, b" words", NEWLINE)
+    let mut line = Buffer::new(text);
+    line.put(b"fibexp: a row of tapes has at most ");
+    line.put_number(capacity as u64);
+    line.put_then(b" words", NEWLINE);
+    line.next
 }

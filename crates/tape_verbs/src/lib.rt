@@ -25,7 +25,7 @@ use lister::list_tape;
 use printing::{
     number, print_exponents, print_power, print_preview, print_record, print_table, refuse,
 };
-use putting::put_words;
+use putting::{Buffer, put};
 use sequencer::State;
 use sessions::{preview_once, step_once};
 use tool::{ANSWERED, MAX_PARAMETERS, Reply, TapeVerb};
@@ -125,7 +125,7 @@ fn raise(own: u32, values: &[u32], tape: &[u32], text: &mut [u8]) -> Reply
     ensures { Told text.old (raised_all own values.now tape.now) result text.new }
 {
     let mut row = [0u32; MAX_PARAMETERS];
-    let count = put_words(&mut row, 0, values);
+    let count = put(&mut row, 0, values);
     raise_row(own, &mut row[..count], tape, text)
 }
 
@@ -136,10 +136,14 @@ fn raise_row(own: u32, bases: &mut [u32], tape: &[u32], text: &mut [u8]) -> Repl
 {
     match raising::raise(tape, bases) {
         Err(e) => refuse(text, own, u32::from(e)),
-        Ok(_) => Reply {
-            status: ANSWERED,
-            length: numbers_line(text, 0, bases),
-        },
+        Ok(_) => {
+            let mut line = Buffer::new(text);
+            numbers_line(&mut line, bases);
+            Reply {
+                status: ANSWERED,
+                length: line.next,
+            }
+        }
     }
 }
 
@@ -149,9 +153,11 @@ fn cut(own: u32, tape: &[u32], first: u32, last: u32, text: &mut [u8]) -> Reply
 {
     match inspecting::cut(tape, first, last) {
         Err(e) => refuse(text, own, u32::from(e)),
-        Ok(words) => Reply {
+        Ok(words) => let mut line = Buffer::new(text);
+ numbers_line(&mut line, words);
+ Reply {
             status: ANSWERED,
-            length: numbers_line(text, 0, words),
+            length: line.next,
         },
     }
 }
@@ -164,9 +170,11 @@ fn play(values: &[u32], tapes: &[u32], text: &mut [u8]) -> Reply
     let requests = past_record(values);
     let mut told = [0u32; MAX_PARAMETERS];
     let length = runs(tapes, requests, record(values), &mut told);
+    let mut line = Buffer::new(text);
+    numbers_line(&mut line, &told[..length]);
     Reply {
         status: ANSWERED,
-        length: numbers_line(text, 0, &told[..length]),
+        length: line.next,
     }
 }
 

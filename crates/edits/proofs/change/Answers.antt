@@ -10,7 +10,7 @@ use Rattle.scripting.proofs.Laws.Edits.{did_changed, did_not_change}
 use Rattle.edits.proofs.change.Goals as goal
 
 pub returns-then-marks-index : goal.returns-then-marks-index
-returns-then-marks-index c = did_not_change c.requires (held_to largest32 c.args.values.now) (omega (arith, c.small-index.ensures, c.if-marks-index.true)) (did_print no_word_line c.requires refl c.put_then.ensures (omega arith))
+returns-then-marks-index c = did_not_change c.requires (held_to largest32 c.args.values.now) (omega (arith, c.small-index.ensures, c.if-marks-index.true)) (did_print no_word_line c.requires refl c.put.ensures (omega arith))
 
 pub returns : goal.returns
 returns c = let n : c.small-index.result ≡ get_or (held_to largest32 c.args.values.now) 0 0 = c.small-index.ensures in

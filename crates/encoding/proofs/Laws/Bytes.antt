@@ -6,9 +6,9 @@ use native.Mathlib.Numerals.{add-one}
 use native.Mathlib.Omega.{arith}
 use lib.ListN.{length, get_or, take}
 use lib.Seq.{take-suc}
+use Rattle.std.specs.Int.{to_le_bytes}
+use mir.Syntax.{w32}
 use Rattle.tape.specs.Layout.{max_words}
-use Rattle.text.specs.Rows.{Put}
-use Rattle.text.proofs.Laws.Puts.{puts_join}
 use Rattle.encoding.specs.Encoding.{word_of, tape_of, tape_in, bytes_of}
 use Rattle.encoding.proofs.Laws.Cases.{words_whole}
 
@@ -24,9 +24,10 @@ bytes_append [] ys = refl
 bytes_append (x ∷ xs) ys = rw (bytes_append xs ys)
 
 -- the bytes of the word at i, behind those of the words in front of it
-pub bytes_next : {a b c : List ℕ} {at m n : ℕ} (words : List ℕ) (i : ℕ) → i < length words → Put a at (bytes_of (take i words)) m b
-    → Put b m (bytes_of (get_or words i 0 ∷ [])) n c → Put a at (bytes_of (take (i + 1) words)) n c
-bytes_next words i h v w = rw (add-one i, take-suc words i 0, bytes_append) (puts_join v w)
+pub bytes_more : (words : List ℕ) (i : ℕ) → i < length words
+    → bytes_of (take (i + 1) words) ≡ bytes_of (take i words) ++ to_le_bytes w32 (get_or words i 0)
+unfolding bytes_of
+bytes_more words i h = rw (add-one i, take-suc words i 0, bytes_append)
 
 -- ---- what is written is read back as it was
 

@@ -1,9 +1,13 @@
 -- The words from an index of the bytes on: the word of the next four bytes and the words past them, or none.
 use mathlib.Core.Path.{◌≡◌, refl, ap, ◌∙◌}
 use mathlib.Core.List.{List, [], ◌∷◌}
-use Prim.Native.Nat.{ℕ, ◌+◌, ◌/◌, ◌≤◌, ◌<◌}
+use Prim.Native.Nat.{ℕ, zero, suc, ◌+◌, ◌*◌, ◌/◌, ◌≤◌, ◌<◌}
 use native.Mathlib.Omega.{arith}
-use lib.ListN.{length, get_or, drop, length-drop}
+use lib.ListN.{length, get_or, take, drop, length-drop}
+use mir.Syntax.{w32}
+use Rattle.std.specs.Int.{from_le_bytes}
+use Rattle.std.specs.Simd.{first_chunks}
+use Rattle.std.proofs.lemmas.List.{get_or-take, get_or-drop, drop-drop}
 use Rattle.tape.proofs.Laws.Rows.{drop_next}
 use Rattle.encoding.specs.Encoding.{word_of, tape_of}
 
@@ -37,3 +41,28 @@ tape_length (a ∷ []) = refl
 tape_length (a ∷ b ∷ []) = refl
 tape_length (a ∷ b ∷ c ∷ []) = refl
 tape_length (a ∷ b ∷ c ∷ d ∷ bytes) = omega (arith, tape_length bytes)
+
+-- ---- bytes in chunks of four
+
+pub chunk_at : (k : ℕ) (bytes : List ℕ) (i : ℕ) → i < k → get_or (first_chunks 4 k bytes) i [] ≡ take 4 (drop (4 * i) bytes)
+chunk_at zero bytes i h = absurd (omega arith)
+chunk_at (suc k) bytes zero h = refl
+chunk_at (suc k) bytes (suc i) h =
+    let e : 4 + 4 * i ≡ 4 * suc i = omega arith in
+    chunk_at k (drop 4 bytes) i (omega arith) ∙ ap (take 4) (drop-drop (4 * i) 4 bytes ∙ ap (λ (n : ℕ). drop n bytes) e)
+
+pub chunk_word : (bytes : List ℕ) (at : ℕ) → from_le_bytes w32 (take 4 (drop at bytes))
+    ≡ word_of (get_or bytes at 0) (get_or bytes (at + 1) 0) (get_or bytes (at + 2) 0) (get_or bytes (at + 3) 0)
+chunk_word bytes at =
+    let l = take 4 (drop at bytes) in
+    let read : from_le_bytes w32 l ≡ get_or l 0 0 + get_or l 1 0 * 256 + get_or l 2 0 * 65536 + get_or l 3 0 * 16777216 = refl in
+    let byte : (j n : ℕ) → j < 4 → at + j ≡ n → get_or l j 0 ≡ get_or bytes n 0 =
+            λ j n h e. get_or-take 4 (drop at bytes) j 0 h ∙ get_or-drop at bytes j 0 ∙ ap (λ (k : ℕ). get_or bytes k 0) e in
+    read
+    ∙ omega (
+      arith,
+      byte 0 at (omega arith) (omega arith),
+      byte 1 (at + 1) (omega arith) refl,
+      byte 2 (at + 2) (omega arith) refl,
+      byte 3 (at + 3) (omega arith) refl,
+    )

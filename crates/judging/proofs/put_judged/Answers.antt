@@ -1,6 +1,9 @@
 -- `put_judged` meets its contract: the verdict stands behind what was printed.
-use Rattle.text.proofs.Laws.Puts.{puts_join}
+use Rattle.std.proofs.Common.{rules}
+use Rattle.putting.proofs.Laws.Buffers.{puts_fresh, puts_both}
 use Rattle.judging.proofs.put_judged.Goals as goal
 
 pub returns : goal.returns
-returns c = rw c.past_equals.ensures at (puts_join c.put-next.ensures c.put_verdict.ensures)
+returns c =
+    let judged = rw c.past_equals.ensures at (puts_fresh c.new-buffer.ensures (puts_both c.put.ensures c.put_verdict.ensures)) in
+    search rules

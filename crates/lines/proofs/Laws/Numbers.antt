@@ -7,10 +7,11 @@ use native.Mathlib.Omega.{arith}
 use lib.ListN.{length, get_or, drop, length-append, length-map, drop_of_length-le}
 use lib.Seq.{drop-cons}
 use Rattle.text.specs.Text.{decimal, blank, newline, line, number_line, numbers_line}
-use Rattle.text.specs.Rows.{Put}
 use Rattle.text.proofs.Laws.Decimal.{decimal_length, decimal_64}
 use Rattle.text.proofs.Laws.Lines.{line_most}
-use Rattle.text.proofs.Laws.Puts.{RestToPut, puts_join, left_next}
+use Rattle.putting.specs.declared.Buffer.{Buffer}
+use Rattle.putting.specs.Buffers.{Puts}
+use Rattle.putting.proofs.Laws.Buffers.{puts_both, RestOf, rest_all, rest_next}
 
 -- what follows a number on its line
 unfoldable pub following : List ℕ → List ℕ
@@ -24,26 +25,23 @@ line_first n (m ∷ values) =
     ap (λ (l : List ℕ). decimal n ++ blank ∷ [] ++ l) (line_first m values)
     ∙ append_assoc (decimal n) (blank ∷ []) (decimal m ++ following values)
 
-pub no_numbers : {buffer after : List ℕ} {at next : ℕ} (values : List ℕ) → length values ≡ 0 → Put buffer at (newline ∷ []) next after
-    → Put buffer at (numbers_line values) next after
+pub no_numbers : (values : List ℕ) → length values ≡ 0 → numbers_line values ≡ newline ∷ []
 unfolding line
-no_numbers [] none w = w
-no_numbers (n ∷ values) none w = absurd (omega arith)
+no_numbers [] none = refl
+no_numbers (n ∷ values) none = absurd (omega arith)
 
 -- the first number, then what follows it
-pub numbers_line_lem : {a b c : List ℕ} {at m n : ℕ} (values : List ℕ) → 0 < length values → Put a at (decimal (get_or values 0 0)) m b
-    → Put b m (following (drop 1 values)) n c → Put a at (numbers_line values) n c
-numbers_line_lem [] some w v = absurd (omega arith)
-numbers_line_lem (n ∷ values) some w v = rw (line_first n values) (puts_join w v)
+pub first_left : {a b : Buffer} {values others : List ℕ} {n : ℕ} → values ≡ n ∷ others → Puts a (decimal n) b
+    → RestOf a (numbers_line values) b (following others)
+first_left {a} {others = others} {n} e w = rw (e, line_first n others) (rest_next (decimal n) (following others) (rest_all a _) w)
 
-module _ (values : List ℕ) (i : ℕ) {buffer : List ℕ} {at : ℕ} {whole : List ℕ} {next : ℕ} {now : List ℕ}
-    (left : RestToPut buffer at whole next now (following (drop i values))) where
-  pub next_left : {m n : ℕ} {b c : List ℕ} → i < length values → Put now next (blank ∷ []) m b → Put b m (decimal (get_or values i 0)) n c
-      → RestToPut buffer at whole n c (following (drop (i + 1) values))
+module _ (values : List ℕ) (i : ℕ) {a b : Buffer} {whole : List ℕ} (left : RestOf a whole b (following (drop i values))) where
+  pub next_left : {c d : Buffer} → i < length values → Puts b (blank ∷ []) c → Puts c (decimal (get_or values i 0)) d
+      → RestOf a whole d (following (drop (i + 1) values))
   unfolding following
-  next_left h w x = rw (add-one i) (left_next _ _ (rw (drop-cons values i 0 h) at left) (puts_join w x))
+  next_left h w x = rw (add-one i) (rest_next _ _ (rw (drop-cons values i 0 h) at left) (puts_both w x))
 
-  pub last_left : {end : ℕ} {after : List ℕ} → length values ≤ i → Put now next (newline ∷ []) end after → Put buffer at whole end after
+  pub last_left : {c : Buffer} → length values ≤ i → Puts b (newline ∷ []) c → Puts a whole c
   unfolding following
   last_left h w = left.whole (rw (drop_of_length-le values {i = i} h) w)
 

@@ -1,5 +1,5 @@
 -- `number_line` meets its contract: a line of one word is the word and byte 10, and a 64-bit number has at most 20 digits.
-use native.Mathlib.Omega.{arith}
+use Rattle.std.proofs.Common.{arith}
 use Rattle.text.specs.Text.{line}
 use Rattle.lines.proofs.Laws.Numbers.{number_short}
 use Rattle.lines.proofs.number_line.Goals as goal

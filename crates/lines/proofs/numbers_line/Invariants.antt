@@ -1,12 +1,9 @@
--- `numbers_line` meets its contract: with i numbers put, what follows them on the line is left; each has at most 10 digits.
-use Prim.Native.Nat.{◌-◌, ◌≤◌}
-use lib.ListN.{length, drop}
-use Rattle.text.proofs.Laws.Puts.{RestToPut}
+-- `numbers_line` meets its contract: with so many numbers put, what follows them on the line is left; each has at most 10 digits.
+use Rattle.std.proofs.Common.{drop}
+use Rattle.text.specs.Text.{numbers_line}
+use Rattle.putting.proofs.Laws.Buffers.{RestOf}
 use Rattle.lines.proofs.Laws.Numbers.{following}
 use Rattle.lines.proofs.numbers_line.Given as goal
 
-abbrev pub invariant-loop-i : goal.invariant-loop-i
-invariant-loop-i l = (l.i ≤ length l.values) × RestToPut l.initial.buffer l.initial.next (following (drop 1 l.values)) l.next l.buffer (following (drop l.i l.values))
-
-abbrev pub decreases-loop-i : goal.decreases-loop-i
-decreases-loop-i l = length l.values - l.i
+abbrev pub invariant-loop-n : goal.invariant-loop-n
+invariant-loop-n l = RestOf l.fn.buffer (numbers_line l.values) l.buffer (following (drop l.n-index l.others))

@@ -1,11 +1,9 @@
 -- `list_accepted` meets its contract: the first line, then the steps' lines.
-use mathlib.Core.Path.{refl}
-use Rattle.text.proofs.Laws.Puts.{puts_join}
+use Rattle.std.proofs.Common.{refl, rules}
+use Rattle.putting.proofs.Laws.Buffers.{puts_fresh, puts_both}
 use Rattle.lister.proofs.list_accepted.Goals as goal
 
 pub returns : goal.returns
 returns c =
-    record {
-      put = puts_join c.first_line-next.ensures (rw c.steps.ensures at c.step_lines-end.ensures);
-      number_value = refl;
-    }
+    let lines = puts_fresh c.new-lines.ensures (puts_both c.first_line.ensures (rw c.steps.ensures at c.step_lines.ensures)) in
+    record { put = search rules; number_value = refl }

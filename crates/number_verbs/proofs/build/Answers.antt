@@ -16,6 +16,8 @@ use Rattle.program.specs.Services.{build_outcome}
 use Rattle.program.proofs.Laws.Checking.{build_count, build_words}
 use Rattle.tool.specs.Replies.{built}
 use Rattle.tool.specs.Rows.{max_text}
+use Rattle.std.proofs.Common.{rules}
+use Rattle.putting.proofs.Laws.Buffers.{puts_fresh}
 use Rattle.number_verbs.proofs.build.Goals as goal
 
 made : {a : Result ℕ Refusal} {o : Outcome ℕ} {n : ℕ} → outcome_of a ≡ o → a ≡ Ok n → o ≡ answered n
@@ -42,8 +44,9 @@ unfolding built
 returns-in-Ok c =
     let told = made c.build-answer.ensures.result_value c.in-Ok.is in
     let words = ap (take c.in-Ok.n) c.build-answer.ensures.buffer_after ∙ build_words _ _ _ _ _ _ told in
+    let bytes = puts_fresh c.new-buffer.ensures (rw words at c.tape_bytes.ensures) in
     rw (← c.small-p.ensures, ← c.small-r.ensures, ← c.small-k.ensures, ← c.small.ensures, told)
-    (record { status = refl; text = rw words at c.tape_bytes.ensures; short = short _ _ _ _ _ told })
+    (record { status = refl; text = search rules; short = short _ _ _ _ _ told })
 
 pub returns-in-Err : goal.returns-in-Err
 unfolding built

@@ -1,27 +1,26 @@
--- `put` meets its contract: with i bytes put, the text's first i are put; a full buffer takes no more of them.
-use native.Mathlib.Omega.{arith}
-use borrow.Author.Rules.{rules}
-use lib.Seq.{take_all}
-use Rattle.text.proofs.Laws.Puts.{put_none, put_next, put_rest, put_length}
+-- `put` meets its contract: a full row takes nothing, and any other what fits, in one write.
+use Rattle.std.proofs.Common.{◌≡◌, ℕ, ◌+◌, ◌-◌, ◌≤◌, List, ◌++◌, length, take, drop, refl, sym, ap, ◌∙◌, arith}
+use borrow.Rule.Slice.PartMut.{put_mid}
+use Rattle.std.proofs.lemmas.List.{take_all, length-take}
+use Rattle.std.proofs.lemmas.List.Edits.{sets, sets-eq}
+use Rattle.std.proofs.lemmas.Slice.{put_mid-paste}
+use Rattle.text.proofs.Laws.Puts.{put_full, put_part}
 use Rattle.putting.proofs.put.Goals as goal
 
-pub loop-i-init : goal.loop-i-init
-loop-i-init c = (omega arith, put_none _ _)
+-- a write of a part sets its elements, one after another
+write_sets : {A : Type 0} (row part : List A) (at k : ℕ) → k ≡ length part → at + k ≤ length row → put_mid at k row part ≡ sets row at part
+write_sets {A} row part at k e h =
+    put_mid-paste at k row part part (length part) refl (sym e) refl
+    ∙ ap (λ (l : List A). take at row ++ l ++ drop (at + length part) row) (take_all (length part) part (omega arith))
+    ∙ sym (sets-eq part row at (omega arith))
 
-pub shape_of-buffer-then-buffer-next : goal.shape_of-buffer-then-buffer-next
-shape_of-buffer-then-buffer-next c = put_length c.loop-i.invariant.1
-
-pub returns-then-buffer-next : goal.returns-then-buffer-next
-returns-then-buffer-next c = put_rest _ c.loop-i.i c.if-buffer-next.true c.loop-i.invariant.1
-
-pub overflow_add-next : goal.overflow_add-next
-overflow_add-next c = omega (arith, put_length c.loop-i.invariant.1)
-
-pub loop-i-preserved : goal.loop-i-preserved
-loop-i-preserved c = (omega arith, put_next _ _ c.loop-i-test.true c.if-buffer-next.false c.loop-i.invariant.1)
-
-pub shape_of-buffer : goal.shape_of-buffer
-shape_of-buffer c = put_length c.loop-i.invariant.1
+pub returns-then-row-at : goal.returns-then-row-at
+returns-then-row-at g c = put_full _ _ _ c.if-row-at.true
 
 pub returns : goal.returns
-returns c = rw (take_all c.loop-i.i c.args.text.now (search rules)) at c.loop-i.invariant.1
+returns g c =
+    let count = c.min-count.result in
+    let part = c.copy_from_slice.new.self in
+    let long : length part ≡ count = ap length c.copy_from_slice.ensures.after ∙ omega (arith, length-take count c.args.items.now, c.min-count.ensures) in
+    rw (write_sets c.args.row.now part c.args.at (c.args.at + count - c.args.at) (omega (arith, long)) (omega (arith, c.min-count.ensures)))
+    (put_part c.args.row.now c.args.items.now part c.args.at count c.if-row-at.false c.min-count.ensures c.copy_from_slice.ensures.after)

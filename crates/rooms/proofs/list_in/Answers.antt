@@ -14,17 +14,17 @@ use Rattle.scripting.proofs.Laws.Rooms.{filled_part, put_list_in}
 use Rattle.rooms.proofs.list_in.Goals as goal
 
 pub slice_bounds-bytes-end : goal.slice_bounds-bytes-end
-slice_bounds-bytes-end c = put_inside c.tape_bytes-count.ensures (omega arith)
+slice_bounds-bytes-end c = put_inside c.put_words-count.ensures (omega arith)
 
 pub slice_bounds-list_into-end : goal.slice_bounds-list_into-end
-slice_bounds-list_into-end c = sym (length-take-le c.tape_bytes-count.result c.tape_bytes-count.new.buffer (put_inside c.tape_bytes-count.ensures (omega arith)))
+slice_bounds-list_into-end c = sym (length-take-le c.put_words-count.result c.put_words-count.new.row (put_inside c.put_words-count.ensures (omega arith)))
 
 pub returns : goal.returns
 returns c =
     let tape = c.args.tape.now in
     let used = c.min-words.ensures in
     let held = c.min-held.ensures in
-    let tapes = rw used at c.tape_bytes-count.ensures in
+    let tapes = rw used at c.put_words-count.ensures in
     let both = put_list_in (min c.args.room max_room) (take (capacity_of tape) tape) _ _ (filled_part max_room c.min-held.result (omega (arith, held)) ∙ ap filled held)
     (put_taken tapes (omega (arith, bytes_length (take (capacity_of tape) tape), length-take (capacity_of tape) tape, length-replicate {A = ℕ} 16384 0))) (c.list_into.ensures.put, c.list_into.ensures.short) in
     record { put = both.0; short = both.1 }

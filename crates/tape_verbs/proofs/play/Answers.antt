@@ -12,6 +12,8 @@ use Rattle.sequencer.specs.Lists.{requests_of}
 use Rattle.tool.specs.Verbs.{max_parameters}
 use Rattle.tool.specs.Replies.{runs_told}
 use Rattle.tool.proofs.Laws.Runs.{runs_told_lem}
+use Rattle.std.proofs.Common.{rules}
+use Rattle.putting.proofs.Laws.Buffers.{puts_fresh}
 use Rattle.tape_verbs.proofs.play.Goals as goal
 use Rattle.tape_verbs.proofs.play.Goals.{After-past_record-requests, After-runs-length}
 
@@ -53,5 +55,5 @@ slice_bounds-numbers_line-end c = sym (counted (goal.at.slice_bounds-numbers_lin
 pub returns : goal.returns
 returns c =
     let runs = (goal.at.returns c).After-runs-length in
-    let line = c.numbers_line.ensures in
-    runs_told_lem (values runs) (tapes runs) (told runs) line.put line.short (omega (arith, size runs, counted runs))
+    let line = puts_fresh c.new-line.ensures c.numbers_line.ensures.put in
+    runs_told_lem (values runs) (tapes runs) (told runs) (search rules) c.numbers_line.ensures.short (omega (arith, size runs, counted runs))

@@ -55,23 +55,9 @@ unfolding escapes
 escapes_one byte = append-nil (escaped byte)
 
 -- the byte at i, behind those in front of it
-pub escapes_next : {a b c : List ℕ} {at m n : ℕ} (bytes : List ℕ) (i : ℕ) → i < length bytes → Put a at (escapes (take i bytes)) m b
-    → Put b m (escaped (get_or bytes i 0)) n c → Put a at (escapes (take (i + 1) bytes)) n c
-escapes_next bytes i h v w =
-    rw (add-one i, take-suc bytes i 0, escapes_append (take i bytes) (get_or bytes i 0 ∷ []), escapes_one (get_or bytes i 0)) (puts_join v w)
-
--- ---- a word
-
-module _ {a b c : List ℕ} {at m n : ℕ} (word : List ℕ) (begin : Put a at (quote ∷ []) m b) where
-  pub quoted_all : length word ≤ shown → Put b m (escapes word) n c → {k : ℕ} {d : List ℕ} → Put c n (quote ∷ []) k d → Put a at (quoted word) k d
-  unfolding quoted
-  quoted_all h all end =
-      rw (le-leb (length word) shown h, take_all shown word h, append-nil (escapes word)) (puts_join (puts_join begin all) end)
-
-  pub quoted_part : shown < length word → Put b m (escapes (take shown word)) n c → {l : ℕ} {d : List ℕ} → Put c n (ascii "...") l d
-      → {k : ℕ} {e : List ℕ} → Put d l (quote ∷ []) k e → Put a at (quoted word) k e
-  unfolding quoted
-  quoted_part h part dots end = rw (lt-leb (length word) shown h) (puts_join (puts_join (puts_join begin part) dots) end)
+pub escapes_more : (bytes : List ℕ) (i : ℕ) → i < length bytes → escapes (take (i + 1) bytes) ≡ escapes (take i bytes) ++ escaped (get_or bytes i 0)
+escapes_more bytes i h =
+    rw (add-one i, take-suc bytes i 0, escapes_append (take i bytes) (get_or bytes i 0 ∷ []), escapes_one (get_or bytes i 0))
 
 -- ---- its length
 

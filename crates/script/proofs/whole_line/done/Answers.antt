@@ -10,7 +10,7 @@ use Rattle.scripting.proofs.Laws.Judging.{line_long, line_copied, line_judged, l
 use Rattle.script.proofs.whole_line.done.Goals as goal
 
 pub returns-then-line-gt-MAX_LINE : goal.returns-then-line-gt-MAX_LINE
-returns-then-line-gt-MAX_LINE c = rw (line_long _ c.args.line.now _ c.if-line-gt-MAX_LINE.true) (did_print long_line c.requires refl c.put_then-length.ensures (omega arith))
+returns-then-line-gt-MAX_LINE c = rw (line_long _ c.args.line.now _ c.if-line-gt-MAX_LINE.true) (did_print long_line c.requires refl c.put-length.ensures (omega arith))
 
 pub returns-then-is_copied : goal.returns-then-is_copied
 returns-then-is_copied c = rw (line_copied _ c.args.line.now _ c.if-line-gt-MAX_LINE.false (sym c.is_copied.ensures ∙ c.if-is_copied.true))

@@ -1,0 +1,2 @@
+-- What holds of the definitions, apart from the code.
+pub mod Laws

@@ -1,0 +1,2 @@
+-- A lent buffer.
+pub mod Buffers
