@@ -12,6 +12,7 @@ use encoding::tape_bytes;
 use lines::bytes_line;
 use meanings::meaning;
 use printing::{answer, number, refuse};
+use putting::Buffer;
 use tape::MAX_WORDS;
 use tool::{ANSWERED, MAX_PARAMETERS, NumberVerb, Reply};
 use widths::{bytes, large, small};

@@ -153,12 +153,14 @@ fn cut(own: u32, tape: &[u32], first: u32, last: u32, text: &mut [u8]) -> Reply
 {
     match inspecting::cut(tape, first, last) {
         Err(e) => refuse(text, own, u32::from(e)),
-        Ok(words) => let mut line = Buffer::new(text);
- numbers_line(&mut line, words);
- Reply {
-            status: ANSWERED,
-            length: line.next,
-        },
+        Ok(words) => {
+            let mut line = Buffer::new(text);
+            numbers_line(&mut line, words);
+            Reply {
+                status: ANSWERED,
+                length: line.next,
+            }
+        }
     }
 }
 
