@@ -42,7 +42,14 @@ pub fn build(p: u32, r: u32, k: u32, variant: u32, buffer: &mut [u32]) -> Result
 }
 
 // The room, the header, the steps and the end, whatever the variant: 5, else the word count.
-fn write(p: u32, r: u32, k: u32, variant: u32, forms: FormRows, buffer: &mut [u32]) -> Result<u64, Refusal>
+fn write(
+    p: u32,
+    r: u32,
+    k: u32,
+    variant: u32,
+    forms: FormRows,
+    buffer: &mut [u32],
+) -> Result<u64, Refusal>
     requires writable { Writable p r k variant }
     requires rows_from_table { RowsFromTable variant r k forms }
     ensures { Built (named_words p r k variant) buffer.old result buffer.new }

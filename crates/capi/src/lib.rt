@@ -24,7 +24,9 @@ ghost use Rattle.text.specs.Rows.{Put};
 ghost use Rattle.tool.specs.Replies.{reply, reads_tape};
 ghost use Rattle.tool.specs.Rows.{max_text};
 
-use memory::{bit, number_of, record_in, store_exponents, store_preview, store_record, store_table, store_u64};
+use memory::{
+    bit, number_of, record_in, store_exponents, store_preview, store_record, store_table, store_u64,
+};
 use refusal::Refusal;
 
 // A Fibonacci number by its index: 13.

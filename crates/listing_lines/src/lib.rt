@@ -28,10 +28,7 @@ pub fn refused_line(buffer: &mut Buffer, n: u32)
 pub fn first_line(buffer: &mut Buffer, header: Header)
     ensures { Puts buffer.old (first_line header) buffer.new }
 {
-    buffer.put_then(
-        nth_word(&VARIANT_NAMES, header.variant as usize),
-        BLANK,
-    );
+    buffer.put_then(nth_word(&VARIANT_NAMES, header.variant as usize), BLANK);
     put_labelled(buffer, b"p=", header.modulus, BLANK);
     put_labelled(buffer, b"r=", header.order, BLANK);
     put_labelled(buffer, b"k=", header.exponent, BLANK);

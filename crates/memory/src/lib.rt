@@ -62,7 +62,11 @@ pub fn store_record(answer: Result<State, Refusal>, row: &mut [u32; 5]) -> u32
     }
 }
 
-pub fn store_preview(answer: Result<Preview, Refusal>, registers: &mut [u32; 4], counts: &mut [u32; 3]) -> u32
+pub fn store_preview(
+    answer: Result<Preview, Refusal>,
+    registers: &mut [u32; 4],
+    counts: &mut [u32; 3],
+) -> u32
     ensures value { result ≡ refusal_number (preview_outcome_of answer) }
     ensures registers_after { registers.new ≡ after (registers_outcome (preview_outcome_of answer)) registers.old }
     ensures counts_after { counts.new ≡ after (counts_outcome (preview_outcome_of answer)) counts.old }

@@ -149,7 +149,6 @@ read_outcome tape =
     ∷ [])
     (header_of tape)
 
-
 -- ---- the words of a program
 
 -- the words before the steps

@@ -35,7 +35,7 @@ pub fn words(values: &[u64], row: &mut [u32], at: usize) -> usize
     next
 }
 
-// The same as bytes.
+// The same as bytes. The two loops stay apart: what is put is told of rows of numbers, and a row of any type would need a trait for that.
 pub fn bytes(values: &[u64], row: &mut [u8], at: usize) -> usize
     ensures { Put row.old at (held_to largest8 values.now) result row.new }
 {

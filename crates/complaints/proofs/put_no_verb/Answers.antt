@@ -9,6 +9,6 @@ pub returns : goal.returns
 unfolding no_verb_line
 returns c =
     let all =
-            puts_fresh c.new-line.ensures (puts_then (ascii ": no such verb; fibexp help lists them") (newline ∷ []) (puts_both c.put.ensures c.put_quoted.ensures) c.put_then.ensures)
+    puts_fresh c.new-line.ensures (puts_then (ascii ": no such verb; fibexp help lists them") (newline ∷ []) (puts_both c.put.ensures c.put_quoted.ensures) c.put_then.ensures)
     in
     search rules

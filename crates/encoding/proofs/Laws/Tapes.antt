@@ -57,7 +57,7 @@ chunk_word bytes at =
     let l = take 4 (drop at bytes) in
     let read : from_le_bytes w32 l ≡ get_or l 0 0 + get_or l 1 0 * 256 + get_or l 2 0 * 65536 + get_or l 3 0 * 16777216 = refl in
     let byte : (j n : ℕ) → j < 4 → at + j ≡ n → get_or l j 0 ≡ get_or bytes n 0 =
-            λ j n h e. get_or-take 4 (drop at bytes) j 0 h ∙ get_or-drop at bytes j 0 ∙ ap (λ (k : ℕ). get_or bytes k 0) e in
+    λ j n h e. get_or-take 4 (drop at bytes) j 0 h ∙ get_or-drop at bytes j 0 ∙ ap (λ (k : ℕ). get_or bytes k 0) e in
     read
     ∙ omega (
       arith,

@@ -14,6 +14,6 @@ returns c =
     let n = c.args.number in
     let number = puts_both (puts_both c.put.ensures c.put_number.ensures) c.put-2.ensures in
     let line : Put c.args.buffer.now 0 (refusal_line own n) c.put_reason.new.buffer.next c.put_reason.new.buffer.row.now =
-            puts_fresh c.new-line.ensures (puts_then (reason_for own n) (newline ∷ []) number c.put_reason.ensures)
+    puts_fresh c.new-line.ensures (puts_then (reason_for own n) (newline ∷ []) number c.put_reason.ensures)
     in
     record { status = refl; text = search rules; short = omega (arith, refusal_most own n (omega (arith, c.ranges.number))) }

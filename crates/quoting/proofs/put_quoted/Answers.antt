@@ -13,8 +13,8 @@ returns c =
     let word = c.args.word.now in
     let part = puts_both c.put_byte.ensures (rw (c.min.ensures, take_min shown word) at c.put_escapes.ensures) in
     elim c.if-word-gt-SHOWN.branch [
-      then-word-gt-SHOWN w ↦
-        rw (lt-leb (length word) shown w.if-word-gt-SHOWN.true) (puts_both (puts_both part w.put.ensures) (rw w.buffer-is at c.put_byte-2.ensures))
-    | else-word-gt-SHOWN w ↦
-        rw (le-leb (length word) shown w.if-word-gt-SHOWN.false, append-nil (escapes (take shown word))) (puts_both part (rw w.buffer-is at c.put_byte-2.ensures))
+      | then-word-gt-SHOWN w ↦
+          rw (lt-leb (length word) shown w.if-word-gt-SHOWN.true) (puts_both (puts_both part w.put.ensures) (rw w.buffer-is at c.put_byte-2.ensures))
+      | else-word-gt-SHOWN w ↦
+          rw (le-leb (length word) shown w.if-word-gt-SHOWN.false, append-nil (escapes (take shown word))) (puts_both part (rw w.buffer-is at c.put_byte-2.ensures))
     ]

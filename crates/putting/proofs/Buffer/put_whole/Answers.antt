@@ -11,6 +11,6 @@ returns c =
     let read = to_z-of_z w64 c.args.n c.ranges.n in
     let number = rw (c.unsigned_abs.ensures.value, read) at c.put_number.ensures in
     elim c.if-n-lt0.branch [
-      then-n-lt0 w ↦ rw (below _ (rw read at w.if-n-lt0.true)).spelt (puts_both w.put_byte.ensures (rw w.self-is at number))
-    | else-n-lt0 w ↦ rw (natural _ (rw read at w.if-n-lt0.false)).spelt (rw w.self-is at number)
+      | then-n-lt0 w ↦ rw (below _ (rw read at w.if-n-lt0.true)).spelt (puts_both w.put_byte.ensures (rw w.self-is at number))
+      | else-n-lt0 w ↦ rw (natural _ (rw read at w.if-n-lt0.false)).spelt (rw w.self-is at number)
     ]
