@@ -1,5 +1,5 @@
 -- The prime divisors of r, and the test of an order by them: it decides as `is_order` does (`order_by_primes` of proofs/Laws/Deciding).
-use Rattle.std.specs.Prelude.{Bool, true, not, ◌&&◌, cond, List, [], ◌∷◌, ◌++◌, ℕ, zero, suc, ◌-◌, ◌/◌, leb, length, replicate}
+use Rattle.std.specs.Prelude.{Bool, true, not, ◌&&◌, cond, List, [], ◌∷◌, ◌++◌, ℕ, zero, suc, ◌/◌, leb}
 use Rattle.divisors.specs.Search.{divides}
 use Rattle.modular.specs.Primes.{is_prime}
 use Rattle.orders.specs.Orders.{gives_one}
@@ -16,10 +16,6 @@ primes_of r = primes_to r r
 -- no number of 32 bits has more: each of them is 2 at least
 abbrev pub max_primes : ℕ
 max_primes = 32
-
--- in a row of so many, zeros past them
-abbrev pub prime_row : ℕ → List ℕ
-prime_row r = primes_of r ++ replicate (max_primes - length (primes_of r)) 0
 
 -- for no q of a list the exponent r / q gives 1
 unfoldable pub none_gives_one : ℕ → ℕ → ℕ → List ℕ → Bool

@@ -1,42 +1,79 @@
 // The prime divisors of r, by which it is decided whether r is the order of a base.
 #![tactic(auto)]
 
-ghost use Rattle.std.specs.Prelude.{◌≡◌, ◌≤◌, length};
-ghost use Rattle.orders.specs.PrimeDivisors.{primes_of, prime_row};
+ghost use Rattle.std.specs.Prelude.{◌≡◌, ◌<◌, ◌≤◌, ◌++◌, ◌∷◌, [], length};
+ghost use Rattle.orders.specs.PrimeDivisors.{primes_of};
 ghost use Rattle.orders.specs.Inner.Least.{LeastDivisor};
 
 use modular::is_prime;
+use std::marker::Model;
 
 // No number of 32 bits has more prime divisors.
 pub const MAX_PRIMES: usize = 32;
 
-// The prime divisors of a number, the least first, and how many there are; zeros past them.
-#[derive(Clone, Copy)]
+// A list of prime divisors. It isn't one type with the `Form` of `fibonacci`, since a generic struct can't hold an array of a type parameter.
+#[derive(Drop)]
 pub struct PrimeDivisors {
-    pub primes: [u32; MAX_PRIMES],
-    pub count: usize,
+    row: [u32; MAX_PRIMES],
+    count: usize,
 }
 
-// The prime divisors of r, each once; of 0 and 1 none. The least divisor of what is left is prime, and is divided out once a round: it is the
-// last one found again, or larger.
+impl Model for PrimeDivisors {
+    ghost use Rattle.std.specs.Prelude.{ℕ, List, ◌≤◌, take};
+
+    ghost Value = { List ℕ };
+
+    ghost view = { λ p. take p.count p.row };
+
+    ghost invariant = { λ p. p.count ≤ 32 };
+}
+
+impl PrimeDivisors {
+    // None yet.
+    fn new() -> PrimeDivisors
+        ensures { result ≡ [] }
+    {
+        PrimeDivisors {
+            row: [0; MAX_PRIMES],
+            count: 0,
+        }
+    }
+
+    // One more behind the others.
+    fn push(&mut self, prime: u32)
+        requires { length self.old < 32 }
+        ensures { self.new ≡ self.old ++ (prime ∷ []) }
+    {
+        self.row[self.count] = prime;
+        self.count += 1;
+    }
+
+    // The prime divisors.
+    pub fn primes(&self) -> &[u32]
+        ensures { result.now ≡ self.now }
+    {
+        &self.row[..self.count]
+    }
+}
+
+// The prime divisors of r, each once, the least first; of 0 and 1 none. The least divisor of what is left is prime, and is divided out once a
+// round: it is the last one found again, or larger.
 pub fn prime_divisors(r: u32) -> PrimeDivisors
-    ensures count_value { result.count ≡ length (primes_of r) }
-    ensures primes_value { result.primes ≡ prime_row r }
+    ensures { result ≡ primes_of r }
 {
-    let mut primes = [0u32; MAX_PRIMES];
-    let mut count: usize = 0;
+    let mut found = PrimeDivisors::new();
     let mut rest = r;
     let mut last: u32 = 1;
+    // By what is left, which is divided on: there is nothing to count.
     while 1 < rest {
         let d = least_divisor(rest);
         if last < d {
-            primes[count] = d;
-            count += 1;
+            found.push(d);
             last = d;
         }
         rest = rest / d;
     }
-    PrimeDivisors { primes, count }
+    found
 }
 
 // The least divisor of n above 1: 2, or n where it is prime, which takes less time to tell than divisions up to the root; else the first odd
@@ -51,9 +88,11 @@ fn least_divisor(n: u32) -> u32
     if is_prime(n) {
         return n;
     }
-    let mut d: u32 = 3;
-    while n % d != 0 {
-        d += 2;
+    // A number of 32 bits that isn't prime has a divisor below 65536.
+    for d in (3..65536).step_by(2) {
+        if n % d == 0 {
+            return d;
+        }
     }
-    d
+    n
 }

@@ -1,38 +1,32 @@
--- What the loop that finds the prime divisors of r keeps: those up to the last one are written into the row, and the rest of r has all those
--- above it and no divisor below it. Each entry halves the rest at least, so a row of 32 has room.
+-- What the loop that finds the prime divisors of r keeps: those up to the last one are found, and the rest of r has all those above it and no
+-- divisor below it. Each one found halves the rest at least, so a list of 32 has room.
 use mathlib.Core.Path.{◌≡◌, refl, sym, ap, subst, ◌∙◌}
 use mathlib.Core.List.{List, [], ◌∷◌, ◌++◌}
-use Prim.Native.Nat.{ℕ, zero, suc, ◌+◌, ◌-◌, ◌*◌, ◌/◌, ◌^◌, ◌≤◌, ◌<◌, ◌∣◌}
-use native.Mathlib.Nat.{div-le_self, div-mul_cancel, dvd-mul_right, dvd_refl, dvd_trans, le_of_dvd, mul_comm, mul-le-mul_left, mul-le-mul_right, one-le-pow, pos_of_dvd_of_pos, pow-le-pow_right, pow-suc, pow-zero, sub-zero, suc-sub-suc, zero-add, zero-sub}
-use native.Mathlib.Numerals.{add-one}
+use Prim.Native.Nat.{ℕ, suc, ◌+◌, ◌-◌, ◌*◌, ◌/◌, ◌^◌, ◌≤◌, ◌<◌, ◌∣◌}
+use native.Mathlib.Nat.{div-le_self, div-mul_cancel, dvd-mul_right, dvd_refl, dvd_trans, le_of_dvd, mul_comm, mul-le-mul_left, mul-le-mul_right, one-le-pow, pos_of_dvd_of_pos, pow-le-pow_right, pow-suc, pow-zero}
 use native.Mathlib.Omega.{arith}
 use native.Mathlib.Decide.{dec_lt, ℕ_discrete}
-use lib.ListN.{length, take, drop, set, replicate, length-append, length-replicate}
-use lib.Seq.{take-append_seam}
-use Rattle.refusal.specs.Rows.{Wrote}
-use Rattle.refusal.proofs.Laws.Rows.{wrote_front, wrote_next}
+use lib.ListN.{length, length-append}
 use Rattle.modular.specs.Primes.{Prime, is_prime}
-use Rattle.orders.specs.PrimeDivisors.{primes_to, primes_of, max_primes, prime_row}
+use Rattle.orders.specs.PrimeDivisors.{primes_to, primes_of, max_primes}
 use Rattle.orders.specs.Inner.Least.{LeastDivisor}
 use Rattle.orders.proofs.Laws.Factors.{prime_divides, Divisor, primes_none, primes_next}
 use Rattle.orders.proofs.Laws.Least.{least_prime}
 
-pub record Finding (r : ℕ) (row : List ℕ) (count rest last : ℕ) : Type 0 where
-  pub wrote : Wrote (replicate max_primes 0) 0 (primes_to r last) count row
-  pub room : count ≤ max_primes
-  pub half : rest * 2 ^ count ≤ r
+pub record Finding (r : ℕ) (found : List ℕ) (rest last : ℕ) : Type 0 where
+  pub list : found ≡ primes_to r last
+  pub half : rest * 2 ^ length found ≤ r
   pub divides : rest ∣ r
   pub left : (q : ℕ) → Prime q → last < q → q ∣ r → q ∣ rest
   pub none : (e : ℕ) → 2 ≤ e → e < last → ¬ (e ∣ rest)
   -- it is 1, or at most r
   pub high : last ≤ 1 + (r - 1)
 
-pub finding_starts : (r : ℕ) → Finding r (replicate max_primes 0) 0 r 1
+pub finding_starts : (r : ℕ) → Finding r [] r 1
 unfolding primes_to is_prime
 finding_starts r =
     record {
-      wrote = record { next_is = refl; after_is = refl };
-      room = omega arith;
+      list = refl;
       half = omega (arith, ap (λ (n : ℕ). r * n) (pow-zero 2));
       divides = dvd_refl r;
       left = λ q pr above h. h;
@@ -41,20 +35,20 @@ finding_starts r =
     }
 
 -- while something is left r isn't 0, and there is room for one more
-module _ {r : ℕ} {row : List ℕ} {count rest last : ℕ} (f : Finding r row count rest last) (two : 2 ≤ rest) where
+module _ {r : ℕ} {found : List ℕ} {rest last : ℕ} (f : Finding r found rest last) (two : 2 ≤ rest) where
   finding_some : 1 ≤ r
-  finding_some = omega (arith, f.half, mul-le-mul_left rest (one-le-pow count 2 (omega arith)))
+  finding_some = omega (arith, f.half, mul-le-mul_left rest (one-le-pow (length found) 2 (omega arith)))
 
-  pub finding_room : r < 2 ^ 32 → count < max_primes
+  pub finding_room : r < 2 ^ 32 → length found < max_primes
   finding_room small =
-      elim (dec_lt count max_primes) [
+      elim (dec_lt (length found) max_primes) [
         | yes h ↦ h
         | no h ↦
             absurd
-            (omega (arith, f.half, mul-le-mul_right {m = 2} {n = rest} (2 ^ count) two, pow-le-pow_right {n = 2} (omega arith) {i = max_primes} {j = count} (omega arith)))
+            (omega (arith, f.half, mul-le-mul_right {m = 2} {n = rest} (2 ^ length found) two, pow-le-pow_right {n = 2} (omega arith) {i = max_primes} {j = length found} (omega arith)))
       ]
 
-module _ {r : ℕ} {row : List ℕ} {count rest last : ℕ} (f : Finding r row count rest last) (d : ℕ) (l : LeastDivisor rest d) where
+module _ {r : ℕ} {found : List ℕ} {rest last : ℕ} (f : Finding r found rest last) (d : ℕ) (l : LeastDivisor rest d) where
   whole : rest / d * d ≡ rest
   whole = div-mul_cancel d l.divides
 
@@ -76,13 +70,12 @@ module _ {r : ℕ} {row : List ℕ} {count rest last : ℕ} (f : Finding r row c
   none_then e low high h = l.least e low high (dvd_trans e h quotient)
 
   -- the last one again
-  pub finding_again : d ≤ last → Finding r row count (rest / d) last
+  pub finding_again : d ≤ last → Finding r found (rest / d) last
   finding_again h =
       let same : d ≡ last = omega (arith, not_below) in
       record {
-        wrote = f.wrote;
-        room = f.room;
-        half = omega (arith, f.half, mul-le-mul_right {m = rest / d} {n = rest} (2 ^ count) (div-le_self rest d));
+        list = f.list;
+        half = omega (arith, f.half, mul-le-mul_right {m = rest / d} {n = rest} (2 ^ length found) (div-le_self rest d));
         divides = dvd_trans (rest / d) quotient f.divides;
         left = λ q pr above. left_then q pr (omega arith);
         none = λ e low high. none_then e low (omega arith);
@@ -90,36 +83,28 @@ module _ {r : ℕ} {row : List ℕ} {count rest last : ℕ} (f : Finding r row c
       }
 
   -- a larger one
-  pub finding_more : r < 2 ^ 32 → 2 ≤ rest → last < d → Finding r (set row count d) (count + 1) (rest / d) d
-  finding_more small two above =
+  pub finding_more : 2 ≤ rest → last < d → Finding r (found ++ d ∷ []) (rest / d) d
+  finding_more two above =
       record {
-        wrote = wrote_next f.wrote (record { next_is = refl; after_is = refl }) next;
-        room = omega (arith, finding_room f two small);
-        half = rw (add-one count, pow-suc 2 count) (omega (arith, f.half, halved));
+        list = rw f.list (sym next);
+        half = rw (more, pow-suc 2 (length found)) (omega (arith, f.half, halved));
         divides = dvd_trans (rest / d) quotient f.divides;
         left = left_then;
         none = none_then;
         high = omega (arith, le_of_dvd (finding_some f two) d_divides);
       }
     where
+      more : length (found ++ d ∷ []) ≡ suc (length found)
+      more = omega (arith, length-append found (d ∷ []))
+
       next : primes_to r d ≡ primes_to r last ++ d ∷ []
       next = primes_next r last d above (least_prime l, d_divides) (λ e low high is. l.least e is.0.least high (f.left e is.0 low is.1))
 
-      halved : rest / d * 2 * 2 ^ count ≤ rest * 2 ^ count
-      halved = mul-le-mul_right (2 ^ count) (omega (arith, whole, mul-le-mul_left (rest / d) l.low))
+      halved : rest / d * 2 * 2 ^ length found ≤ rest * 2 ^ length found
+      halved = mul-le-mul_right (2 ^ length found) (omega (arith, whole, mul-le-mul_left (rest / d) l.low))
 
-drop_zeros : (n m : ℕ) → drop {A = ℕ} m (replicate n 0) ≡ replicate (n - m) 0
-drop_zeros n zero = rw (sub-zero n)
-drop_zeros zero (suc m) = rw (zero-sub (suc m))
-drop_zeros (suc n) (suc m) = rw (suc-sub-suc n m) (drop_zeros n m)
-
-pub finding_ends : {r : ℕ} {row : List ℕ} {count rest last : ℕ} → Finding r row count rest last → rest ≤ 1
-    → (count ≡ length (primes_of r)) × (row ≡ prime_row r)
-finding_ends {r} {row} {count} {rest} {last} f done =
-    let wrote = subst (λ (l : List ℕ). Wrote (replicate max_primes 0) 0 l count row) all f.wrote in
-    let count_is : count ≡ length (primes_of r) = wrote.next_is ∙ zero-add (length (primes_of r)) in
-    let fits : length (primes_of r) ≤ length (replicate {A = ℕ} max_primes 0) = omega (arith, f.room, length-replicate {A = ℕ} max_primes 0) in
-    (count_is, wrote_front wrote fits ∙ ap (λ (l : List ℕ). primes_of r ++ l) (drop_zeros max_primes (length (primes_of r))))
+pub finding_ends : {r : ℕ} {found : List ℕ} {rest last : ℕ} → Finding r found rest last → rest ≤ 1 → found ≡ primes_of r
+finding_ends {r} {found} {rest} {last} f done = f.list ∙ all
   where
     none_above : (e : ℕ) → last < e → e ≤ r → ¬ (Divisor r e)
     none_above e low high is =
@@ -132,9 +117,3 @@ finding_ends {r} {row} {count} {rest} {last} f done =
           | yes z ↦ primes_none r r last (omega arith) (λ e low high is. omega (arith, is.0.least, f.high))
           | no some ↦ sym (primes_none r last r (omega (arith, f.high)) none_above)
         ]
-
--- what is taken of the row are the prime divisors
-pub row_primes : (r : ℕ) {count : ℕ} {row : List ℕ} → count ≡ length (primes_of r) → row ≡ prime_row r → (count ≤ length row) × (take count row ≡ primes_of r)
-row_primes r e f =
-    let zeros : List ℕ = replicate (max_primes - length (primes_of r)) 0 in
-    rw (e, f) (omega (arith, length-append (primes_of r) zeros), take-append_seam (primes_of r) zeros)

@@ -3,7 +3,7 @@ use Rattle.orders.proofs.Laws.Finding.{Finding}
 use Rattle.orders.proofs.prime_divisors.Given as goal
 
 abbrev pub invariant-loop-rest : goal.invariant-loop-rest
-invariant-loop-rest l = Finding l.r l.primes l.count l.rest l.last
+invariant-loop-rest l = Finding l.r l.found l.rest l.last
 
 abbrev pub decreases-loop-rest : goal.decreases-loop-rest
 decreases-loop-rest l = l.rest

@@ -1,8 +1,0 @@
--- `check_all` meets its contract: where the bases so far pass, the rules of those that are left decide.
-use Rattle.std.proofs.Common.{◌≡◌, ℕ, drop}
-use Rattle.refusal.specs.Outcomes.{outcome}
-use Rattle.sequencer.specs.Bases.{row_rules}
-use Rattle.conditions.proofs.check_all.Given as goal
-
-abbrev pub invariant-loop-base : goal.invariant-loop-base
-invariant-loop-base l = outcome {A = ℕ} (row_rules l.header (drop l.base-index l.bases)) 0 ≡ outcome (row_rules l.header l.bases) 0
