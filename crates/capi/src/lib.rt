@@ -24,9 +24,7 @@ ghost use Rattle.text.specs.Rows.{Put};
 ghost use Rattle.tool.specs.Replies.{reply, reads_tape};
 ghost use Rattle.tool.specs.Rows.{max_text};
 
-use memory::{
-    bit, number_of, record_in, store_exponents, store_preview, store_record, store_table, store_u64,
-};
+use memory::{bit, number_of, record_in, store, store_preview};
 use refusal::Refusal;
 
 // A Fibonacci number by its index: 13.
@@ -35,7 +33,7 @@ pub extern "C" fn fibexp_fibonacci(index: u32, value: &mut u64) -> u32
     ensures value { result ≡ refusal_number (fibonacci_outcome index) }
     ensures value_after { value.new ≡ after (fibonacci_outcome index) value.old }
 {
-    store_u64(golden::fibonacci(index), value)
+    store(golden::fibonacci(index), value)
 }
 
 // Number to list: 5.
@@ -54,7 +52,7 @@ pub extern "C" fn fibexp_number(places: &[u8], n: &mut u64) -> u32
     ensures value { result ≡ refusal_number (number_outcome places.now) }
     ensures n_after { n.new ≡ after (number_outcome places.now) n.old }
 {
-    store_u64(places::number_of_places(places), n)
+    store(places::number_of_places(places), n)
 }
 
 // Hofstadter's G, which refuses nothing: the answer is G(n) itself.
@@ -113,7 +111,7 @@ pub extern "C" fn fibexp_load(tape: &[u32], base: u32, row: &mut [u32; 5]) -> u3
     ensures value { result ≡ refusal_number (load_outcome tape.now base) }
     ensures row_after { row.new ≡ after (row_outcome (load_outcome tape.now base)) row.old }
 {
-    store_record(running::load(tape, base), row)
+    store(running::load(tape, base), row)
 }
 
 // Run, in place: check's refusals, 9, 10.
@@ -123,7 +121,7 @@ pub extern "C" fn fibexp_run(tape: &[u32], row: &mut [u32; 5], to: u32) -> u32
     ensures row_after { row.new ≡ after (row_outcome (run_outcome tape.now (record_in row.old) to)) row.old }
 {
     let held = record_in(*row);
-    store_record(running::run(tape, held, to), row)
+    store(running::run(tape, held, to), row)
 }
 
 // A single step, in place, forward where `backward` is 0: check's refusals, 9, 10.
@@ -133,7 +131,7 @@ pub extern "C" fn fibexp_step(tape: &[u32], row: &mut [u32; 5], backward: u32) -
     ensures row_after { row.new ≡ after (row_outcome (step_outcome tape.now (record_in row.old) (is_backward backward))) row.old }
 {
     let held = record_in(*row);
-    store_record(running::step(tape, held, backward != 0), row)
+    store(running::step(tape, held, backward != 0), row)
 }
 
 // The preview, the record only read: run's refusals.
@@ -168,7 +166,7 @@ pub extern "C" fn fibexp_trace(tape: &[u32], position: u32, exponents: &mut [i64
     ensures value { result ≡ refusal_number (trace_outcome tape.now position) }
     ensures exponents_after { exponents.new ≡ after (trace_outcome tape.now position) exponents.old }
 {
-    store_exponents(inspecting::trace(tape, position), exponents)
+    store(inspecting::trace(tape, position), exponents)
 }
 
 // The table at a position, row by row: check's refusals, 10, 12.
@@ -177,7 +175,7 @@ pub extern "C" fn fibexp_table(tape: &[u32], position: u32, table: &mut [i64; 16
     ensures value { result ≡ refusal_number (table_outcome tape.now position) }
     ensures table_after { table.new ≡ after (list_outcome (table_outcome tape.now position)) table.old }
 {
-    store_table(inspecting::table(tape, position), table)
+    store(inspecting::table(tape, position), table)
 }
 
 // Cut: check's refusals, 10. On success the count's words from the start on are the part that cut gives.
@@ -254,11 +252,13 @@ fn store_u32(answer: Result<u64, Refusal>, place: &mut u32) -> u32
     ensures value { result ≡ refusal_number (outcome_of answer) }
     ensures place_after { place.new ≡ after (outcome_of answer) place.old }
 {
-    match answer {
-        Ok(x) => {
-            *place = x as u32;
-            0
-        }
-        Err(e) => u32::from(e),
-    }
+    store(
+        answer.map(
+            |x| -> u32
+            requires { x < 2 ^ 32 }
+            ensures { result ≡ x }
+            { x as u32 },
+        ),
+        place,
+    )
 }

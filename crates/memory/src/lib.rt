@@ -3,17 +3,107 @@
 #![tactic(auto)]
 
 ghost use Rattle.std.specs.Prelude.{◌≡◌};
-ghost use Rattle.refusal.specs.Outcomes.{outcome_of, verdict_of, refusal_number, after};
+ghost use Rattle.refusal.specs.Outcomes.{verdict_of, outcome_by, refusal_number, after};
 ghost use Rattle.fibonacci.specs.Services.{bit};
-ghost use Rattle.machine.specs.Exponents.{exponents_outcome_of};
-ghost use Rattle.tables.specs.Tables.{table_outcome_of, list_outcome};
-ghost use Rattle.sequencer.specs.Records.{row_outcome, record_in, record_of, state_outcome_of};
+ghost use Rattle.machine.specs.Machine.{values_of};
+ghost use Rattle.machine.specs.Exponents.{exponents_of};
+ghost use Rattle.machine.specs.Ways.{count_numbers};
+ghost use Rattle.tables.specs.Tables.{matrix_of, row_by_row};
+ghost use Rattle.sequencer.specs.Records.{row_of, record_in, record_of};
 ghost use Rattle.sequencer.specs.Previews.{registers_outcome, counts_outcome, preview_outcome_of};
 
-use machine::{Exponents, Registers};
+use machine::{Counts, Exponents, Registers};
 use refusal::Refusal;
 use sequencer::{Preview, State};
 use tables::Table;
+
+// What a service answers, as the caller's memory holds it.
+pub trait Stored {
+    type Place: Drop;
+
+    ghost seen: { Self → Self.Place };
+
+    fn stored(self) -> Self::Place
+        ensures { result ≡ seen self };
+}
+
+impl Stored for u64 {
+    type Place = u64;
+
+    ghost seen = { λ n. n };
+
+    fn stored(self) -> u64 {
+        self
+    }
+}
+
+impl Stored for u32 {
+    type Place = u32;
+
+    ghost seen = { λ n. n };
+
+    fn stored(self) -> u32 {
+        self
+    }
+}
+
+// The registers, then the position.
+impl Stored for State {
+    type Place = [u32; 5];
+
+    ghost seen = { λ s. row_of (record_of s) };
+
+    fn stored(self) -> [u32; 5] {
+        let [c, d, e, f] = self.registers.stored();
+        [c, d, e, f, self.position]
+    }
+}
+
+impl Stored for Registers {
+    type Place = [u32; 4];
+
+    ghost seen = { values_of };
+
+    fn stored(self) -> [u32; 4] {
+        let Registers { c, d, e, f } = self;
+        [c, d, e, f]
+    }
+}
+
+impl Stored for Counts {
+    type Place = [u32; 3];
+
+    ghost seen = { count_numbers };
+
+    fn stored(self) -> [u32; 3] {
+        [self.mul, self.div, self.swp]
+    }
+}
+
+impl Stored for Exponents {
+    type Place = [i64; 4];
+
+    ghost seen = { exponents_of };
+
+    fn stored(self) -> [i64; 4] {
+        let Exponents { c, d, e, f } = self;
+        [c, d, e, f]
+    }
+}
+
+// Row by row.
+impl Stored for Table {
+    type Place = [i64; 16];
+
+    ghost seen = { λ t. row_by_row (matrix_of t) };
+
+    fn stored(self) -> [i64; 16] {
+        let Table { c, d, e, f } = self;
+        [
+            c.c, c.d, c.e, c.f, d.c, d.d, d.e, d.f, e.c, e.d, e.e, e.f, f.c, f.d, f.e, f.f,
+        ]
+    }
+}
 
 // The number of a service that answers nothing.
 pub fn number_of(answer: Result<(), Refusal>) -> u32
@@ -29,33 +119,16 @@ pub fn number_of(answer: Result<(), Refusal>) -> u32
 pub fn bit(truth: bool) -> u32
     ensures { result ≡ bit truth }
 {
-    if truth {
-        return 1;
-    }
-    0
+    u32::from(truth)
 }
 
-pub fn store_u64(answer: Result<u64, Refusal>, place: &mut u64) -> u32
-    ensures value { result ≡ refusal_number (outcome_of answer) }
-    ensures place_after { place.new ≡ after (outcome_of answer) place.old }
+pub fn store<T: Stored>(answer: Result<T, Refusal>, place: &mut T::Place) -> u32
+    ensures value { result ≡ refusal_number (outcome_by T.seen answer) }
+    ensures place_after { place.new ≡ after (outcome_by T.seen answer) place.old }
 {
     match answer {
         Ok(x) => {
-            *place = x;
-            0
-        }
-        Err(e) => u32::from(e),
-    }
-}
-
-pub fn store_record(answer: Result<State, Refusal>, row: &mut [u32; 5]) -> u32
-    ensures value { result ≡ refusal_number (state_outcome_of answer) }
-    ensures row_after { row.new ≡ after (row_outcome (state_outcome_of answer)) row.old }
-{
-    match answer {
-        Ok(state) => {
-            let r = state.registers;
-            *row = [r.c, r.d, r.e, r.f, state.position];
+            *place = x.stored();
             0
         }
         Err(e) => u32::from(e),
@@ -71,45 +144,8 @@ pub fn store_preview(
     ensures registers_after { registers.new ≡ after (registers_outcome (preview_outcome_of answer)) registers.old }
     ensures counts_after { counts.new ≡ after (counts_outcome (preview_outcome_of answer)) counts.old }
 {
-    match answer {
-        Ok(preview) => {
-            let r = preview.registers;
-            let n = preview.counts;
-            *registers = [r.c, r.d, r.e, r.f];
-            *counts = [n.mul, n.div, n.swp];
-            0
-        }
-        Err(e) => u32::from(e),
-    }
-}
-
-pub fn store_exponents(answer: Result<Exponents, Refusal>, row: &mut [i64; 4]) -> u32
-    ensures value { result ≡ refusal_number (exponents_outcome_of answer) }
-    ensures row_after { row.new ≡ after (exponents_outcome_of answer) row.old }
-{
-    match answer {
-        Ok(x) => {
-            *row = [x.c, x.d, x.e, x.f];
-            0
-        }
-        Err(e) => u32::from(e),
-    }
-}
-
-pub fn store_table(answer: Result<Table, Refusal>, row: &mut [i64; 16]) -> u32
-    ensures value { result ≡ refusal_number (table_outcome_of answer) }
-    ensures row_after { row.new ≡ after (list_outcome (table_outcome_of answer)) row.old }
-{
-    match answer {
-        Ok(x) => {
-            *row = [
-                x.c.c, x.c.d, x.c.e, x.c.f, x.d.c, x.d.d, x.d.e, x.d.f, x.e.c, x.e.d, x.e.e, x.e.f,
-                x.f.c, x.f.d, x.f.e, x.f.f,
-            ];
-            0
-        }
-        Err(e) => u32::from(e),
-    }
+    store(answer.map(|preview| preview.registers), registers);
+    store(answer.map(|preview| preview.counts), counts)
 }
 
 // The record that a row of five holds. It comes by value, because the length of an array behind a reference isn't known to a proof.

@@ -3,4 +3,6 @@ use Rattle.capi.proofs.Laws.Storing.{stored}
 use Rattle.capi.proofs.fibexp_trace.Goals as goal
 
 pub returns : goal.returns
-returns c = let both = stored _ c.trace.ensures.result_value (c.store_exponents.ensures.value, c.store_exponents.ensures.row_after) in record { value = both.0; exponents_after = both.1 }
+returns c =
+    let both = stored _ c.trace.ensures.result_value (c.store.ensures.value, c.store.ensures.place_after) in
+    record { value = both.0; exponents_after = both.1 }

@@ -1,7 +1,7 @@
--- `store_u32` meets its contract: an arm for an answer, which fits, and one for a refusal.
-use mathlib.Core.Path.{ap}
+-- `store_u32` meets its contract: an answer fits, so it is stored as it is; a refusal stores nothing.
+use Rattle.std.proofs.Common.{ap}
 use Rattle.refusal.specs.Outcomes.{outcome_of}
 use Rattle.capi.proofs.store_u32.Goals as goal
 
-pub overflow_cast-place : goal.overflow_cast-place
-overflow_cast-place c = record { fits = c.requires _ (ap outcome_of c.in-Ok.is) }
+pub map-requires : goal.map-requires
+map-requires c = λ x e. c.requires x (ap outcome_of e)
