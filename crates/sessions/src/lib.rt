@@ -1,9 +1,8 @@
-// Sessions: a session carries the tape it was opened on, its registers and its position, goes one step either way, and is previewed. The
-// functions over the struct are few and thin: the work is done by functions on the tape and the state.
+// Sessions: a session carries the tape it was opened on, its registers and its position, goes one step either way, and is previewed.
 #![tactic(auto)]
 
-ghost use Rattle.std.specs.Prelude.{cond, [], ◌≡◌, eqb};
-ghost use Rattle.refusal.specs.Outcomes.{refusal_number, after};
+ghost use Rattle.std.specs.Prelude.{◌≡◌};
+ghost use Rattle.refusal.specs.Outcomes.{verdict_of, refusal_number, after};
 ghost use Rattle.sequencer.specs.Records.{record_of};
 ghost use Rattle.sequencer.specs.Sessions.{open_outcome, step_outcome, session_outcome, held_tape, held_record};
 ghost use Rattle.sequencer.specs.Previews.{preview_outcome, session_preview, preview_outcome_of};
@@ -19,25 +18,25 @@ pub struct Session<'a> {
     pub state: State,
 }
 
-// A session with the number of what was asked of it: 0, or its refusal's.
+// A session with whether what was asked of it was refused.
 #[derive(Clone, Copy)]
 pub struct SessionAnswer<'a> {
     pub session: Session<'a>,
-    pub number: u32,
+    pub verdict: Result<(), Refusal>,
 }
 
-// A session that was opened and went one step: both numbers, and the register record that it holds then.
+// A session that was opened and went one step: whether either was refused, and the register record that it holds then.
 #[derive(Clone, Copy)]
 pub struct SteppedOnce {
-    pub opened: u32,
-    pub stepped: u32,
+    pub opened: Result<(), Refusal>,
+    pub stepped: Result<(), Refusal>,
     pub state: State,
 }
 
-// A session that was opened and previewed: opening's number, the preview, and the register record that the session holds then.
+// A session that was opened and previewed: whether opening was refused, the preview, and the register record that the session holds then.
 #[derive(Clone, Copy)]
 pub struct PreviewedOnce {
-    pub opened: u32,
+    pub opened: Result<(), Refusal>,
     pub preview: Result<Preview, Refusal>,
     pub state: State,
 }
@@ -47,16 +46,28 @@ pub struct PreviewedOnce {
 pub fn open<'a>(tape: &'a [u32], state: State) -> SessionAnswer<'a>
     ensures tape_value { result.session.tape.now ≡ held_tape (open_outcome tape.now (record_of state)) tape.now }
     ensures state_value { record_of result.session.state ≡ held_record (open_outcome tape.now (record_of state)) }
-    ensures number_value { result.number ≡ refusal_number (open_outcome tape.now (record_of state)) }
+    ensures number_value { refusal_number (verdict_of result.verdict) ≡ refusal_number (open_outcome tape.now (record_of state)) }
 {
-    let opened = state_opened(tape, state);
-    let held = tape_held(tape, opened.number);
-    SessionAnswer {
-        session: Session {
-            tape: held,
-            state: opened.state,
+    match running::run(tape, state, state.position) {
+        Ok(_) => SessionAnswer {
+            session: Session { tape, state },
+            verdict: Ok(()),
         },
-        number: opened.number,
+        Err(e) => SessionAnswer {
+            session: Session {
+                tape: &tape[..0],
+                state: State {
+                    registers: Registers {
+                        c: 1,
+                        d: 1,
+                        e: 1,
+                        f: 1,
+                    },
+                    position: 0,
+                },
+            },
+            verdict: Err(e),
+        },
     }
 }
 
@@ -64,29 +75,29 @@ pub fn open<'a>(tape: &'a [u32], state: State) -> SessionAnswer<'a>
 pub fn step<'a>(session: Session<'a>, backward: bool) -> SessionAnswer<'a>
     ensures tape_value { result.session.tape ≡ session.entry.tape }
     ensures state_value { record_of result.session.state ≡ after (step_outcome session.entry.tape.now (record_of session.entry.state) backward) (record_of session.entry.state) }
-    ensures number_value { result.number ≡ refusal_number (step_outcome session.entry.tape.now (record_of session.entry.state) backward) }
+    ensures number_value { refusal_number (verdict_of result.verdict) ≡ refusal_number (step_outcome session.entry.tape.now (record_of session.entry.state) backward) }
 {
-    let stepped = state_stepped(session.tape, session.state, backward);
+    let stepped = running::step(session.tape, session.state, backward);
     SessionAnswer {
         session: Session {
             tape: session.tape,
-            state: stepped.state,
+            state: stepped.unwrap_or(session.state),
         },
-        number: stepped.number,
+        verdict: stepped.map(|_| ()),
     }
 }
 
 // A session is opened, goes one step and is left. No struct that holds a reference goes in or out.
 pub fn step_once(tape: &[u32], state: State, backward: bool) -> SteppedOnce
-    ensures opened_value { result.opened ≡ refusal_number (open_outcome tape.now (record_of state)) }
-    ensures stepped_value { result.stepped ≡ refusal_number (session_outcome tape.now (record_of state) backward) }
+    ensures opened_value { refusal_number (verdict_of result.opened) ≡ refusal_number (open_outcome tape.now (record_of state)) }
+    ensures stepped_value { refusal_number (verdict_of result.stepped) ≡ refusal_number (session_outcome tape.now (record_of state) backward) }
     ensures state_value { record_of result.state ≡ after (session_outcome tape.now (record_of state) backward) (held_record (open_outcome tape.now (record_of state))) }
 {
     let opened = open(tape, state);
     let stepped = step(opened.session, backward);
     SteppedOnce {
-        opened: opened.number,
-        stepped: stepped.number,
+        opened: opened.verdict,
+        stepped: stepped.verdict,
         state: stepped.session.state,
     }
 }
@@ -102,71 +113,15 @@ pub fn preview<'a>(session: Session<'a>, to: u32) -> Result<Preview, Refusal>
 // A session is opened, previewed and left; the record that it holds then is the one that opening left. No struct that holds a reference
 // goes in or out, as in `step_once`.
 pub fn preview_once(tape: &[u32], state: State, to: u32) -> PreviewedOnce
-    ensures opened_value { result.opened ≡ refusal_number (open_outcome tape.now (record_of state)) }
+    ensures opened_value { refusal_number (verdict_of result.opened) ≡ refusal_number (open_outcome tape.now (record_of state)) }
     ensures preview_value { preview_outcome_of result.preview ≡ session_preview tape.now (record_of state) to }
     ensures state_value { record_of result.state ≡ held_record (open_outcome tape.now (record_of state)) }
 {
     let opened = open(tape, state);
     let shown = preview(opened.session, to);
     PreviewedOnce {
-        opened: opened.number,
+        opened: opened.verdict,
         preview: shown,
         state: opened.session.state,
-    }
-}
-
-// A register record with the number of what was asked: 0, or its refusal's.
-#[derive(Clone, Copy)]
-struct Numbered {
-    state: State,
-    number: u32,
-}
-
-// The record that a session holds after opening, and opening's number.
-fn state_opened(tape: &[u32], state: State) -> Numbered
-    ensures held_value { record_of result.state ≡ held_record (open_outcome tape.now (record_of state)) }
-    ensures number_value { result.number ≡ refusal_number (open_outcome tape.now (record_of state)) }
-{
-    match running::run(tape, state, state.position) {
-        Ok(_) => Numbered { state, number: 0 },
-        Err(e) => Numbered {
-            state: State {
-                registers: Registers {
-                    c: 1,
-                    d: 1,
-                    e: 1,
-                    f: 1,
-                },
-                position: 0,
-            },
-            number: u32::from(e),
-        },
-    }
-}
-
-// The tape that a session holds after opening with this number: all of it for 0, else an empty part.
-fn tape_held<'a>(tape: &'a [u32], number: u32) -> &'a [u32]
-    ensures { result.now ≡ cond (eqb number 0) tape.now [] }
-{
-    if number == 0 {
-        return tape;
-    }
-    &tape[..0]
-}
-
-// The record after a step, and the step's number.
-fn state_stepped(tape: &[u32], state: State, backward: bool) -> Numbered
-    ensures state_value { record_of result.state ≡ after (step_outcome tape.now (record_of state) backward) (record_of state) }
-    ensures number_value { result.number ≡ refusal_number (step_outcome tape.now (record_of state) backward) }
-{
-    match running::step(tape, state, backward) {
-        Ok(reached) => Numbered {
-            state: reached,
-            number: 0,
-        },
-        Err(e) => Numbered {
-            state,
-            number: u32::from(e),
-        },
     }
 }

@@ -97,11 +97,11 @@ fn step(own: u32, values: &[u32], tape: &[u32], text: &mut [u8]) -> Reply
     ensures { Told text.old (printed own (step_outcome tape.now (record_in values.now) (is_backward (get_or values.now 5 0))) record_line) result text.new }
 {
     let once = step_once(tape, record(values), parameter(values, 5) != 0);
-    if once.opened != 0 {
-        return refuse(text, own, once.opened);
+    if let Err(e) = once.opened {
+        return refuse(text, own, u32::from(e));
     }
-    if once.stepped != 0 {
-        return refuse(text, own, once.stepped);
+    if let Err(e) = once.stepped {
+        return refuse(text, own, u32::from(e));
     }
     let state = once.state;
     printing::record(text, state)
@@ -112,8 +112,8 @@ fn preview(own: u32, values: &[u32], tape: &[u32], text: &mut [u8]) -> Reply
     ensures { Told text.old (printed own (preview_outcome tape.now (record_in values.now) (get_or values.now 5 0)) preview_lines) result text.new }
 {
     let previewed = preview_once(tape, record(values), parameter(values, 5));
-    if previewed.opened != 0 {
-        return refuse(text, own, previewed.opened);
+    if let Err(e) = previewed.opened {
+        return refuse(text, own, u32::from(e));
     }
     let shown = previewed.preview;
     print_preview(text, own, shown)

@@ -1,11 +1,15 @@
--- `open` meets its contract: of the tape it holds what opening's number says.
-use Rattle.std.proofs.Common.{◌∙◌, sym, ap, cond, eqb, ℕ, []}
-use Rattle.sequencer.specs.Records.{record_of}
-use Rattle.sequencer.proofs.Laws.Sessions.{held_by_number}
+-- `open` meets its contract: opening comes to what a run to where the record stands does, and each arm of the `match` says whether that was
+-- refused.
+use Rattle.std.proofs.Common.{sym}
+use Rattle.sequencer.proofs.Laws.Sessions.{open_answered, open_refused}
 use Rattle.sessions.proofs.open.Goals as goal
 
-pub returns-clause-tape_value : goal.returns-clause-tape_value
-returns-clause-tape_value c =
-    c.tape_held-held.ensures
-    ∙ ap (λ (n : ℕ). cond (eqb n 0) c.args.tape.now []) c.state_opened-opened.ensures.number_value
-    ∙ sym (held_by_number c.args.tape.now (record_of c.args.state))
+pub returns-in-Ok : goal.returns-in-Ok
+returns-in-Ok c =
+    let e = open_answered _ _ (sym c.in-Ok.ensures) in
+    record { tape_value = rw e; state_value = rw e; number_value = rw e }
+
+pub returns-in-Err : goal.returns-in-Err
+returns-in-Err c =
+    let e = open_refused _ _ (sym c.in-Err.ensures) in
+    record { tape_value = rw e; state_value = rw e; number_value = rw e }

@@ -1,9 +1,7 @@
 -- `preview` meets its contract: told by opening's number, a preview of the session comes to the preview itself.
-use mathlib.Core.Path.{◌≡◌, sym, ◌∙◌}
-use mathlib.Core.List.{List}
-use Prim.Native.Nat.{ℕ}
-use lib.ListN.{get_or}
-use Rattle.refusal.specs.Outcomes.{refusal_number}
+use Rattle.std.proofs.Common.{◌≡◌, sym, ap, ◌∙◌, List, ℕ, get_or, arith}
+use Rattle.refusal.specs.Outcomes.{refusal_number, verdict_of}
+use Rattle.refusal.proofs.Laws.Rules.{number_range}
 use Rattle.sequencer.specs.Records.{Record, record_in}
 use Rattle.sequencer.specs.Sessions.{open_outcome}
 use Rattle.sequencer.specs.Previews.{session_preview, preview_outcome_of}
@@ -25,18 +23,21 @@ module _ (c : After-preview_once-previewed) where
   abbrev to : ℕ
   to = get_or values 5 0
 
-  opened_is : c.preview_once-previewed.result.opened ≡ refusal_number (open_outcome tape s)
+  opened_is : refusal_number (verdict_of c.preview_once-previewed.result.opened) ≡ refusal_number (open_outcome tape s)
   opened_is = rw c.record.ensures at c.preview_once-previewed.ensures.opened_value
 
   preview_is : preview_outcome_of c.preview_once-previewed.result.preview ≡ session_preview tape s to
   preview_is = rw (c.record.ensures, c.parameter.ensures) at c.preview_once-previewed.ensures.preview_value
 
-pub returns-then-previewed-ne0 : goal.returns-then-previewed-ne0
-returns-then-previewed-ne0 c =
-    let once = (goal.at.returns-then-previewed-ne0 c).After-preview_once-previewed in
-    rw (preview_not_opened (tape once) (s once) (to once) (λ zero. c.if-previewed-ne0.true (opened_is once ∙ zero)), ← opened_is once) c.refuse.ensures
+pub returns-in-Err : goal.returns-in-Err
+returns-in-Err c =
+    let once = (goal.at.returns-in-Err c).After-preview_once-previewed in
+    let number = sym (opened_is once) ∙ ap (λ o. refusal_number (verdict_of o)) c.in-Err.is in
+    let some = number_range c.in-Err.e in
+    rw (preview_not_opened (tape once) (s once) (to once) (λ zero. omega (arith, sym number ∙ zero, some.0)), number, ← c.from.ensures) c.refuse.ensures
 
 pub returns : goal.returns
 returns c =
     let once = (goal.at.returns c).After-preview_once-previewed in
-    rw (← preview_opened (tape once) (s once) (to once) (sym (opened_is once) ∙ c.if-previewed-ne0.false), ← preview_is once) c.print_preview.ensures
+    let none = sym (opened_is once) ∙ ap (λ o. refusal_number (verdict_of o)) c.in_default.is in
+    rw (← preview_opened (tape once) (s once) (to once) none, ← preview_is once) c.print_preview.ensures
