@@ -1,20 +1,21 @@
 // Trace, table and cut: what a tape shows without a run.
 #![tactic(auto)]
 
-ghost use Rattle.std.specs.Prelude.{◌≡◌};
-ghost use Rattle.refusal.specs.Outcomes.{answered, outcome_by};
+ghost use Rattle.std.specs.Prelude.{◌≡◌, ◌≤◌, ◌<◌, MatchResult};
+ghost use Rattle.refusal.specs.Outcomes.{outcome_by};
+ghost use Rattle.refusal.specs.declared.Refusal.TheVariants.{Position};
+ghost use Rattle.tape.specs.Layout.{part, step_words_of};
 ghost use Rattle.machine.specs.Exponents.{exponents_outcome_of};
 ghost use Rattle.tables.specs.Tables.{table_outcome_of};
-ghost use Rattle.program.specs.Services.{accept_outcome};
 ghost use Rattle.sequencer.specs.Services.{trace_outcome, cut_outcome, bad_cut};
 ghost use Rattle.sequencer.specs.Tracing.{NeverOutside, MeansPowers};
 ghost use Rattle.sequencer.specs.Tables.{table_outcome, MeansProducts, HasSign};
 
+use accepting::Accepted;
 use machine::Exponents;
-use parts::{part, step_words, steps};
+use parts::{part, step_words};
 use refusal::Refusal;
 use tables::Table;
-use tape::Header;
 
 // Each register's whole exponent at a position: check's refusals, 10, 12; no named program gets 12.
 pub fn trace(tape: &[u32], position: u32) -> Result<Exponents, Refusal>
@@ -22,8 +23,8 @@ pub fn trace(tape: &[u32], position: u32) -> Result<Exponents, Refusal>
     ensures never_outside { NeverOutside tape.now (exponents_outcome_of result) }
     ensures means_powers { MeansPowers tape.now position (exponents_outcome_of result) }
 {
-    let header = accepting::accept(tape)?;
-    trace_accepted(tape, header, position)
+    let accepted = accepting::accept_tape(tape)?;
+    trace_accepted(accepted, position)
 }
 
 // The exponent of each start value in each register at a position: check's refusals, 10, 12.
@@ -32,49 +33,52 @@ pub fn table(tape: &[u32], position: u32) -> Result<Table, Refusal>
     ensures means_products { MeansProducts tape.now position (table_outcome_of result) }
     ensures has_sign { HasSign tape.now position (table_outcome_of result) }
 {
-    let header = accepting::accept(tape)?;
-    table_accepted(tape, header, position)
+    let accepted = accepting::accept_tape(tape)?;
+    table_accepted(accepted, position)
 }
 
 // The part of the tape with the step words numbered first + 1 to last: check's refusals, 10.
 pub fn cut(tape: &[u32], first: u32, last: u32) -> Result<&[u32], Refusal>
     ensures { outcome_by (λ words. words.now) result ≡ cut_outcome tape.now first last }
 {
-    let header = accepting::accept(tape)?;
-    cut_accepted(tape, header, first, last)
+    let accepted = accepting::accept_tape(tape)?;
+    cut_accepted(accepted, first, last)
 }
 
 // Trace of a program that is accepted: 10, 12.
-fn trace_accepted(tape: &[u32], header: Header, position: u32) -> Result<Exponents, Refusal>
-    requires { accept_outcome tape.now ≡ answered header }
-    ensures { exponents_outcome_of result ≡ trace_outcome tape.now position }
+fn trace_accepted(accepted: Accepted, position: u32) -> Result<Exponents, Refusal>
+    ensures { exponents_outcome_of result ≡ trace_outcome accepted.entry.tape.now position }
 {
-    if header.steps < position {
-        return Err(Refusal::Position);
-    }
-    columns::column(part(steps(tape), 0, position), 1)
+    let words = words_before(accepted, position)?;
+    columns::column(words, 1)
 }
 
 // The table of a program that is accepted: 10, 12.
-fn table_accepted(tape: &[u32], header: Header, position: u32) -> Result<Table, Refusal>
-    requires { accept_outcome tape.now ≡ answered header }
-    ensures { table_outcome_of result ≡ table_outcome tape.now position }
+fn table_accepted(accepted: Accepted, position: u32) -> Result<Table, Refusal>
+    ensures { table_outcome_of result ≡ table_outcome accepted.entry.tape.now position }
 {
-    if header.steps < position {
+    let words = words_before(accepted, position)?;
+    columns::table(words)
+}
+
+// The words of the steps before a position: 10 past the step count.
+fn words_before<'a>(accepted: Accepted<'a>, position: u32) -> Result<&'a [u32], Refusal>
+    ensures { MatchResult result (λ words. (position ≤ accepted.entry.header.steps) × (words.now ≡ part (step_words_of accepted.entry.tape.now) 0 position)) (λ e. (accepted.entry.header.steps < position) × (e ≡ Position)) }
+{
+    if accepted.header.steps < position {
         return Err(Refusal::Position);
     }
-    columns::table(part(steps(tape), 0, position))
+    Ok(part(accepted.steps(), 0, position))
 }
 
 // Cut of a program that is accepted: 10.
-fn cut_accepted(tape: &[u32], header: Header, first: u32, last: u32) -> Result<&[u32], Refusal>
-    requires { accept_outcome tape.now ≡ answered header }
-    ensures { outcome_by (λ words. words.now) result ≡ cut_outcome tape.now first last }
+fn cut_accepted<'a>(accepted: Accepted<'a>, first: u32, last: u32) -> Result<&'a [u32], Refusal>
+    ensures { outcome_by (λ words. words.now) result ≡ cut_outcome accepted.entry.tape.now first last }
 {
-    if is_bad_cut(header.steps, first, last) {
+    if is_bad_cut(accepted.header.steps, first, last) {
         return Err(Refusal::Position);
     }
-    Ok(step_words(tape, first, last))
+    Ok(step_words(accepted.tape, first, last))
 }
 
 // Refusal 10 in a cut: a position above the step count, or first above last.

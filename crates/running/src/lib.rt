@@ -2,25 +2,23 @@
 #![tactic(auto)]
 
 ghost use Rattle.std.specs.Prelude.{◌≡◌};
-ghost use Rattle.refusal.specs.Outcomes.{answered};
 ghost use Rattle.tape.specs.Layout.{steps_in};
 ghost use Rattle.machine.specs.Machine.{values_of, run};
-ghost use Rattle.program.specs.Services.{accept_outcome};
 ghost use Rattle.sequencer.specs.Records.{record_of, state_outcome_of};
 ghost use Rattle.sequencer.specs.Services.{load_outcome, run_outcome, forward_outcome};
 ghost use Rattle.sequencer.specs.Sessions.{step_outcome};
 ghost use Rattle.sequencer.specs.Inner.Runs.{between, Runnable};
 ghost use Rattle.sequencer.specs.Inner.Goals.{step_goal};
 
+use accepting::Accepted;
 use conditions::{check_base, is_some_bad};
 use machine::Registers;
 use montgomery::Modulus;
-use parts::{part, steps};
+use parts::part;
 use refusal::Refusal;
 use register_forms::{forms_of, inverses, registers_of};
 use register_steps::do_steps;
 use sequencer::State;
-use tape::Header;
 
 // No program has so many steps.
 const NO_POSITION: u32 = 4294967295;
@@ -29,16 +27,16 @@ const NO_POSITION: u32 = 4294967295;
 pub fn load(tape: &[u32], base: u32) -> Result<State, Refusal>
     ensures { state_outcome_of result ≡ load_outcome tape.now base }
 {
-    let header = accepting::accept(tape)?;
-    load_accepted(tape, header, base)
+    let accepted = accepting::accept_tape(tape)?;
+    load_accepted(accepted, base)
 }
 
 // The record at position `to`, from where it stands: check's refusals, 9, 10.
 pub fn run(tape: &[u32], state: State, to: u32) -> Result<State, Refusal>
     ensures { state_outcome_of result ≡ run_outcome tape.now (record_of state) to }
 {
-    let header = accepting::accept(tape)?;
-    run_accepted(tape, header, state, to)
+    let accepted = accepting::accept_tape(tape)?;
+    run_accepted(accepted, state, to)
 }
 
 // The record one step on, or one step back: check's refusals, 9, 10, also for a step past either end.
@@ -53,16 +51,15 @@ pub fn step(tape: &[u32], state: State, backward: bool) -> Result<State, Refusal
 pub fn forward(tape: &[u32], base: u32) -> Result<State, Refusal>
     ensures { state_outcome_of result ≡ forward_outcome tape.now base }
 {
-    let header = accepting::accept(tape)?;
-    forward_accepted(tape, header, base)
+    let accepted = accepting::accept_tape(tape)?;
+    forward_accepted(accepted, base)
 }
 
 // Load on a program that is accepted: 9, 11.
-fn load_accepted(tape: &[u32], header: Header, base: u32) -> Result<State, Refusal>
-    requires { accept_outcome tape.now ≡ answered header }
-    ensures { state_outcome_of result ≡ load_outcome tape.now base }
+fn load_accepted(accepted: Accepted, base: u32) -> Result<State, Refusal>
+    ensures { state_outcome_of result ≡ load_outcome accepted.entry.tape.now base }
 {
-    check_base(header, base)?;
+    check_base(accepted.header, base)?;
     Ok(State {
         registers: Registers {
             c: 1,
@@ -75,10 +72,10 @@ fn load_accepted(tape: &[u32], header: Header, base: u32) -> Result<State, Refus
 }
 
 // Run of a program that is accepted: 9, 10.
-fn run_accepted(tape: &[u32], header: Header, state: State, to: u32) -> Result<State, Refusal>
-    requires { accept_outcome tape.now ≡ answered header }
-    ensures { state_outcome_of result ≡ run_outcome tape.now (record_of state) to }
+fn run_accepted(accepted: Accepted, state: State, to: u32) -> Result<State, Refusal>
+    ensures { state_outcome_of result ≡ run_outcome accepted.entry.tape.now (record_of state) to }
 {
+    let header = accepted.header;
     let registers = state.registers;
     let from = state.position;
     if is_some_bad(header.modulus, registers) {
@@ -90,7 +87,7 @@ fn run_accepted(tape: &[u32], header: Header, state: State, to: u32) -> Result<S
     if header.steps < to {
         return Err(Refusal::Position);
     }
-    let reached = run_steps(steps(tape), header.modulus, registers, from, to);
+    let reached = run_steps(accepted.steps(), header.modulus, registers, from, to);
     Ok(State {
         registers: reached,
         position: to,
@@ -98,12 +95,11 @@ fn run_accepted(tape: &[u32], header: Header, state: State, to: u32) -> Result<S
 }
 
 // Forward through a program that is accepted: load's refusals, and run has none left.
-fn forward_accepted(tape: &[u32], header: Header, base: u32) -> Result<State, Refusal>
-    requires { accept_outcome tape.now ≡ answered header }
-    ensures { state_outcome_of result ≡ forward_outcome tape.now base }
+fn forward_accepted(accepted: Accepted, base: u32) -> Result<State, Refusal>
+    ensures { state_outcome_of result ≡ forward_outcome accepted.entry.tape.now base }
 {
-    let state = load_accepted(tape, header, base)?;
-    run_accepted(tape, header, state, header.steps)
+    let state = load_accepted(accepted, base)?;
+    run_accepted(accepted, state, accepted.header.steps)
 }
 
 // Where run is told to go for a step: the neighbouring position. Before 0 and behind the largest number there is none, and `NO_POSITION` is

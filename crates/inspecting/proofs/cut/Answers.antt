@@ -5,9 +5,9 @@ use Rattle.program.proofs.Laws.Door.{tape_refused}
 use Rattle.sequencer.specs.Services.{cut_outcome}
 use Rattle.inspecting.proofs.cut.Goals as goal
 
-pub cut_accepted-requires : goal.cut_accepted-requires
-cut_accepted-requires c = sym c.in_ok-header.ensures
-
-pub returns-in_err-header : goal.returns-in_err-header
+pub returns-in_err-accepted : goal.returns-in_err-accepted
 unfolding cut_outcome
-returns-in_err-header c = exit_by _ _ _ c.from_residual.ensures.1 ∙ sym (tape_refused _ _ _ (sym c.in_err-header.ensures))
+returns-in_err-accepted c = exit_by _ _ _ c.from_residual.ensures.1 ∙ sym (tape_refused _ _ _ c.in_err-accepted.ensures)
+
+pub returns : goal.returns
+returns c = rw c.in_ok-accepted.ensures.0 at c.cut_accepted.ensures

@@ -1,12 +1,21 @@
 -- `table_accepted` meets its contract: past the step count 10, else what the four columns come to.
-use mathlib.Core.Path.{sym, ◌∙◌}
+use Rattle.std.proofs.Common.{sym, ap, ◌∙◌}
+use Rattle.refusal.specs.declared.Refusal.{Refusal}
+use Rattle.refusal.specs.Refusals.{number_of}
+use Rattle.refusal.specs.Outcomes.{refused}
+use Rattle.refusal.proofs.Laws.Exits.{exit_by}
+use Rattle.tables.specs.Tables.{matrix_of}
 use Rattle.sequencer.proofs.Laws.Cases.{table_past, table_by_columns}
 use Rattle.inspecting.proofs.table_accepted.Goals as goal
 
-pub returns-then-header-position : goal.returns-then-header-position
-returns-then-header-position c = sym (table_past _ _ c.requires _ c.if-header-position.true)
+pub returns-in_err-words : goal.returns-in_err-words
+returns-in_err-words c =
+    let past = c.in_err-words.ensures in
+    exit_by _ matrix_of _ c.from_residual.ensures.1
+    ∙ ap (λ (e : Refusal). refused (number_of e)) past.1
+    ∙ sym (table_past _ _ c.args.accepted.is_accepted _ past.0)
 
 pub returns : goal.returns
 returns c =
-    rw (c.part.ensures, c.steps.ensures) at c.table.ensures
-    ∙ sym (table_by_columns _ _ c.requires _ c.if-header-position.false)
+    let before = c.in_ok-words.ensures in
+    rw before.1 at c.table.ensures ∙ sym (table_by_columns _ _ c.args.accepted.is_accepted _ before.0)

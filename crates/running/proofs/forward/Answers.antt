@@ -7,10 +7,10 @@ use Rattle.sequencer.specs.Services.{load_outcome}
 use Rattle.sequencer.proofs.Laws.Forward.{forward_refused}
 use Rattle.running.proofs.forward.Goals as goal
 
-pub forward_accepted-requires : goal.forward_accepted-requires
-forward_accepted-requires c = sym c.in_ok-header.ensures
-
-pub returns-in_err-header : goal.returns-in_err-header
+pub returns-in_err-accepted : goal.returns-in_err-accepted
 unfolding load_outcome
-returns-in_err-header c =
-    exit_by _ record_of _ c.from_residual.ensures.1 ∙ sym (forward_refused _ _ (tape_refused _ _ _ (sym c.in_err-header.ensures)))
+returns-in_err-accepted c =
+    exit_by _ record_of _ c.from_residual.ensures.1 ∙ sym (forward_refused _ _ (tape_refused _ _ _ c.in_err-accepted.ensures))
+
+pub returns : goal.returns
+returns c = rw c.in_ok-accepted.ensures.0 at c.forward_accepted.ensures

@@ -13,7 +13,7 @@ returns-in_err-state c = exit_by _ record_of _ c.from_residual.ensures.1 ∙ sym
 
 pub returns : goal.returns
 returns c =
-    let tape = c.args.tape.now in
+    let tape = c.args.accepted.tape.now in
     c.run_accepted.ensures
-    ∙ ap (λ (h : Header). run_outcome tape (record_of c.in_ok-state.state) h.steps) (header_is tape c.args.header c.requires)
+    ∙ ap (λ (h : Header). run_outcome tape (record_of c.in_ok-state.state) h.steps) (header_is tape c.args.accepted.header c.args.accepted.is_accepted)
     ∙ sym (forward_loaded tape c.args.base (sym c.in_ok-state.ensures))

@@ -15,13 +15,13 @@ use Rattle.running.proofs.run_accepted.Goals as goal
 
 pub returns-then-is_some_bad : goal.returns-then-is_some_bad
 unfolding record_rules goal_rules
-returns-then-is_some_bad c = sym (run_rules_lem _ _ c.requires _ _ ∙ gives _ _ _ (sym c.is_some_bad.ensures ∙ c.if-is_some_bad.true))
+returns-then-is_some_bad c = sym (run_rules_lem _ _ c.args.accepted.is_accepted _ _ ∙ gives _ _ _ (sym c.is_some_bad.ensures ∙ c.if-is_some_bad.true))
 
 pub returns-then-header-from : goal.returns-then-header-from
 unfolding record_rules goal_rules
 returns-then-header-from c =
     sym
-    (run_rules_lem _ _ c.requires _ _
+    (run_rules_lem _ _ c.args.accepted.is_accepted _ _
     ∙ passes _ _ _ (sym c.is_some_bad.ensures ∙ c.if-is_some_bad.false)
     ∙ gives _ _ _ (lt-ltb _ _ c.if-header-from.true))
 
@@ -29,14 +29,14 @@ pub returns-then-header-to : goal.returns-then-header-to
 unfolding record_rules goal_rules
 returns-then-header-to c =
     sym
-    (run_rules_lem _ _ c.requires _ _
+    (run_rules_lem _ _ c.args.accepted.is_accepted _ _
     ∙ passes _ _ _ (sym c.is_some_bad.ensures ∙ c.if-is_some_bad.false)
     ∙ passes _ _ _ (le-ltb _ _ c.if-header-from.false)
     ∙ gives _ _ _ (lt-ltb _ _ c.if-header-to.true))
 
 pub run_steps-reached-requires : goal.run_steps-reached-requires
 run_steps-reached-requires c =
-    let accept = c.requires in
+    let accept = c.args.accepted.is_accepted in
     let long = ap length c.steps.ensures ∙ words_are _ _ accept in
     record {
       inside = record { are_steps = ap all_steps c.steps.ensures ∙ words_steps _ _ accept; from_inside = omega arith; goal_inside = omega arith };
@@ -50,10 +50,10 @@ unfolding record_rules goal_rules
 returns c =
     let given = c.args in
     sym
-    (run_rules_lem _ _ c.requires _ _
+    (run_rules_lem _ _ c.args.accepted.is_accepted _ _
     ∙ passes _ _ _ (sym c.is_some_bad.ensures ∙ c.if-is_some_bad.false)
     ∙ passes _ _ _ (le-ltb _ _ c.if-header-from.false)
     ∙ passes _ _ _ (le-ltb _ _ c.if-header-to.false)
     ∙ answers _
     ∙ ap (λ (v : List ℕ). answered (record { registers = v; position = given.to }))
-    (sym (c.run_steps-reached.ensures ∙ ap (λ (l : List ℕ). run given.header.modulus (steps_in l) given.state.position given.to (values_of given.state.registers)) c.steps.ensures)))
+    (sym (c.run_steps-reached.ensures ∙ ap (λ (l : List ℕ). run given.accepted.header.modulus (steps_in l) given.state.position given.to (values_of given.state.registers)) c.steps.ensures)))
