@@ -15,9 +15,6 @@ use refusal::Refusal;
 use running::run;
 use sequencer::State;
 
-// The words of a request in a list of runs.
-const REQUEST_WORDS: usize = 4;
-
 // A list of runs, one after another, each on the record that those before it left, with its own turn made; the number of each, 0 or its
 // refusal's, goes into the lent buffer, as far as that has places. A request is four words: where its tape begins and ends in the row of tapes, its turn and
 // its goal. A tape past that row is the empty one, so run refuses it with 6. Nothing is refused here: one to three words left over are
@@ -29,15 +26,15 @@ pub fn play(tapes: &[u32], requests: &[u32], state: State, numbers: &mut [u32]) 
     ensures rewind_ends { RewindEnds (requests_of tapes.now requests.now) (record_of state) numbers.new (record_of result) }
 {
     let mut after = state;
-    let mut i: usize = 0;
     let mut n: usize = 0;
-    while REQUEST_WORDS <= requests.len() - i {
-        let given = turned(after, requests[i + 2]);
-        let answer = run_part(tapes, requests[i], requests[i + 1], given, requests[i + 3]);
+    let mut left = requests;
+    while let [begin, end, turn, goal, rest @ ..] = left {
+        let given = turned(after, *turn);
+        let answer = run_part(tapes, *begin, *end, given, *goal);
         note(numbers, n, answer);
         after = after_run(answer, given);
-        i += REQUEST_WORDS;
         n += 1;
+        left = rest;
     }
     after
 }
@@ -49,10 +46,9 @@ fn turned(state: State, turn: u32) -> State
     if turn == 0 {
         return state;
     }
-    let registers = state.registers;
     State {
-        registers,
         position: turn - 1,
+        ..state
     }
 }
 
@@ -67,10 +63,7 @@ fn run_part(tapes: &[u32], begin: u32, end: u32, given: State, goal: u32) -> Res
 fn after_run(answer: Result<State, Refusal>, given: State) -> State
     ensures { record_of result ≡ after (state_outcome_of answer) (record_of given) }
 {
-    match answer {
-        Ok(reached) => reached,
-        Err(e) => given,
-    }
+    answer.unwrap_or(given)
 }
 
 // The number of a run, 0 or its refusal's, put into a row; past the row there is no place for it.

@@ -1,14 +1,15 @@
--- `after_run` meets its contract: an arm for an answer, and one for a refusal.
-use Rattle.std.specs.Prelude.{Result}
-use mathlib.Core.Path.{sym, ap}
+-- `after_run` meets its contract: an answer is the record reached, and a refusal leaves the one given.
+use Rattle.std.proofs.Common.{◌≡◌, refl, ap, ◌∙◌, Result, Ok, Err}
+use Rattle.std.specs.Result.{result_unwrap_or}
 use Rattle.refusal.specs.declared.Refusal.{Refusal}
 use Rattle.refusal.specs.Outcomes.{after}
 use Rattle.sequencer.specs.declared.State.{State}
 use Rattle.sequencer.specs.Records.{record_of, state_outcome_of}
 use Rattle.playing.proofs.after_run.Goals as goal
 
-pub returns-in-Ok : goal.returns-in-Ok
-returns-in-Ok c = sym (ap (λ (s : Result State Refusal). after (state_outcome_of s) (record_of c.args.given)) c.in-Ok.is)
+kept : (answer : Result State Refusal) (given : State) → record_of (result_unwrap_or answer given) ≡ after (state_outcome_of answer) (record_of given)
+kept (Ok reached) given = refl
+kept (Err e) given = refl
 
-pub returns-in-Err : goal.returns-in-Err
-returns-in-Err c = sym (ap (λ (s : Result State Refusal). after (state_outcome_of s) (record_of c.args.given)) c.in-Err.is)
+pub returns : goal.returns
+returns c = ap record_of c.unwrap_or.ensures ∙ kept c.args.answer c.args.given
