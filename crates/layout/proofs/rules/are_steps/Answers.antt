@@ -1,18 +1,24 @@
--- `rules::are_steps` meets its contract: the test of all words is the test of those that are left.
-use mathlib.Core.Path.{refl, sym, ◌∙◌}
-use Rattle.tape.proofs.Laws.Rows.{steps_stop, steps_on, steps_end}
+-- `rules::are_steps` meets its contract: all words pass the test exactly where each does.
+use Rattle.std.proofs.Common.{rules, refl, ap, ◌∙◌, ◌≡◌, List, [], ◌∷◌, ℕ, Bool, true}
+use Rattle.std.specs.Prelude.{◌&&◌, ◌↔◌, IsTrue, All, eqb}
+use Rattle.std.specs.List.{list_all}
+use Rattle.std.proofs.lemmas.List.Sums.{AllPass-from_list_all, list_all-from_AllPass}
+use Rattle.refusal.proofs.Laws.Tests.{agree}
+use Rattle.tape.specs.Words.{decoded}
+use Rattle.tape.specs.Layout.{sort_of, all_steps}
 use Rattle.layout.proofs.rules.are_steps.Goals as goal
 
-pub loop-i-init : goal.loop-i-init
-loop-i-init c = refl
+passes : ℕ → Bool
+passes w = eqb (sort_of (decoded w)) 5
 
-pub returns-then-not-is_step : goal.returns-then-not-is_step
-returns-then-not-is_step c =
-    sym (sym c.loop-i.invariant ∙ steps_stop _ _ c.loop-i-test.true (sym c.is_step.ensures ∙ c.if-not-is_step.true))
-
-pub loop-i-preserved : goal.loop-i-preserved
-loop-i-preserved c =
-    sym (steps_on _ _ c.loop-i-test.true (sym c.is_step.ensures ∙ c.if-not-is_step.false)) ∙ c.loop-i.invariant
+all_pass : (words : List ℕ) → list_all passes words ≡ all_steps words
+unfolding passes all_steps
+all_pass [] = refl
+all_pass (w ∷ words) = ap (λ (b : Bool). passes w && b) (all_pass words)
 
 pub returns : goal.returns
-returns c = sym (sym c.loop-i.invariant ∙ steps_end _ _ c.loop-i-test.false)
+unfolding passes
+returns c =
+    let words = c.args.words.now in
+    let each : IsTrue c.all.result ↔ All (λ w. passes w ≡ true) words = search rules in
+    agree _ _ (λ e. list_all-from_AllPass passes words (each.0 e)) (λ e. each.1 (AllPass-from_list_all passes words e)) ∙ all_pass words
