@@ -56,12 +56,10 @@ fn shift_all(words: &[u32], exponents: &mut [i64]) -> bool
     ensures value { result ≡ stays_in_range (raw_steps words.now) exponents.old }
     ensures exponents_after { result ≡ true → exponents.new ≡ shift_all (raw_steps words.now) exponents.old }
 {
-    let mut i: usize = 0;
-    while i < words.len() {
-        if !shift(exponents, operation_of(words[i])) {
+    for word in words {
+        if !shift(exponents, operation_of(*word)) {
             return false;
         }
-        i += 1;
     }
     true
 }

@@ -7,38 +7,37 @@ use Rattle.tape.proofs.Laws.Rows.{raw_count, raw_nth}
 use Rattle.machine.proofs.Laws.Traces.{all_left, none_left, leaves, goes_on}
 use Rattle.columns.proofs.shift_all.Goals as goal
 
-pub loop-i-init : goal.loop-i-init
-loop-i-init c = (omega arith, refl, all_left _ _ c.requires)
+pub loop-word-init : goal.loop-word-init
+loop-word-init c = (refl, all_left _ _ c.requires)
 
 pub shape_of-exponents-then-not-shift : goal.shape_of-exponents-then-not-shift
-shape_of-exponents-then-not-shift c = c.shift.auto.exponents ∙ c.loop-i.invariant.1
+shape_of-exponents-then-not-shift c = c.shift.auto.exponents ∙ c.loop-word.invariant.0
 
 pub returns-then-not-shift : goal.returns-then-not-shift
 returns-then-not-shift c =
     let words = c.args.words.now in
-    let read = c.operation_of.ensures ∙ sym (raw_nth words c.loop-i.i) in
-    let gone = leaves _ _ _ _ read (omega (arith, raw_count words)) c.loop-i.invariant.2 (sym c.if-not-shift.true ∙ c.shift.ensures.value) in
+    let read = c.operation_of.ensures ∙ sym (raw_nth words c.loop-word.word-index) in
+    let gone = leaves _ _ _ _ read (omega (arith, raw_count words)) c.loop-word.invariant.1 (sym c.if-not-shift.true ∙ c.shift.ensures.value) in
     record {
       value = gone;
       exponents_after = λ e. absurd (true≢false (sym e));
     }
 
-pub loop-i-preserved : goal.loop-i-preserved
-loop-i-preserved c =
+pub loop-word-preserved : goal.loop-word-preserved
+loop-word-preserved c =
     let words = c.args.words.now in
-    let read = c.operation_of.ensures ∙ sym (raw_nth words c.loop-i.i) in (
-      omega arith,
-      c.shift.auto.exponents ∙ c.loop-i.invariant.1,
-      goes_on _ _ _ _ read (omega (arith, raw_count words)) c.loop-i.invariant.2 _ (sym c.if-not-shift.false ∙ c.shift.ensures.value) c.shift.ensures.exponents_after,
+    let read = c.operation_of.ensures ∙ sym (raw_nth words c.loop-word.word-index) in (
+      c.shift.auto.exponents ∙ c.loop-word.invariant.0,
+      goes_on _ _ _ _ read (omega (arith, raw_count words)) c.loop-word.invariant.1 _ (sym c.if-not-shift.false ∙ c.shift.ensures.value) c.shift.ensures.exponents_after,
     )
 
 pub shape_of-exponents : goal.shape_of-exponents
-shape_of-exponents c = c.loop-i.invariant.1
+shape_of-exponents c = c.loop-word.invariant.0
 
 pub returns : goal.returns
 returns c =
     let words = c.args.words.now in
-    let done = none_left c.loop-i.i _ (omega (arith, raw_count words)) c.loop-i.invariant.2 in
+    let done = none_left c.loop-word.word-index _ (omega (arith, raw_count words)) c.loop-word.invariant.1 in
     record {
       value = done.0;
       exponents_after = λ e. done.1;
