@@ -17,7 +17,7 @@ ghost use Rattle.program.specs.Inner.Building.{Writable, Built};
 use drawing::draw;
 use forms::{forms, step_count};
 use named::Variant;
-use parameters::{good_inverse, is_bad_modulus};
+use parameters::is_bad_modulus;
 use program::FormRows;
 use refusal::Refusal;
 use tape::Header;
@@ -33,10 +33,7 @@ pub fn build(p: u32, r: u32, k: u32, variant: u32, buffer: &mut [u32]) -> Result
     if is_bad_order(p, r) {
         return Err(Refusal::Order);
     }
-    let inverse = good_inverse(k, r);
-    if inverse == 0 {
-        return Err(Refusal::Exponent);
-    }
+    let inverse = modular::exponent_inverse(k, r).ok_or(Refusal::Exponent)?;
     let named = Variant::try_from(variant)?;
     write(p, r, k, variant, forms(named, r, k, inverse), buffer)
 }

@@ -170,10 +170,7 @@ static FIBONACCI: [u64; 94] = [
 pub fn fibonacci(index: u32) -> Result<u64, Refusal>
     ensures { outcome_of result ≡ fibonacci_outcome index }
 {
-    if 93 < index {
-        return Err(Refusal::Index);
-    }
-    Ok(fibonacci_or_zero(index))
+    fibonacci_of(index).ok_or(Refusal::Index)
 }
 
 // Hofstadter's G: n + 1 divided by the golden ratio, rounded down. F_48 / F_47 in the ratio's place gives the same or one more, and the

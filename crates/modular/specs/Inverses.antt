@@ -1,5 +1,5 @@
 -- REQUIREMENTS 2: the inverse of k modulo r, and the inverse service.
-use Rattle.std.specs.Prelude.{◌≡◌, Bool, ◌&&◌, ◌||◌, [], ◌∷◌, Option, Some, None, ℕ, zero, suc, ◌*◌, ◌-◌, ◌%◌, ◌≤◌, ◌<◌, leb, ltb, eqb}
+use Rattle.std.specs.Prelude.{◌≡◌, Bool, ◌&&◌, ◌||◌, cond, [], ◌∷◌, Option, Some, None, ℕ, zero, suc, ◌*◌, ◌-◌, ◌%◌, ◌≤◌, ◌<◌, leb, ltb, eqb}
 use Rattle.std.specs.Int.{◌∣◌}
 use Rattle.refusal.specs.declared.Refusal.TheVariants.{Order, Exponent}
 use Rattle.refusal.specs.Outcomes.{Outcome, outcome, ◌given_if◌}
@@ -31,6 +31,10 @@ nonzero (suc n) = Some (suc n)
 -- refusal 3: k is not from 1 to r - 1, or shares a factor above 1 with r
 unfoldable pub bad_exponent : ℕ → ℕ → Bool
 bad_exponent k r = eqb k 0 || leb r k || ltb 1 (gcd k r)
+
+-- the inverse of an exponent k of an order r, where refusal 3 lets it pass
+unfoldable pub exponent_inverse : ℕ → ℕ → Option ℕ
+exponent_inverse k r = cond (bad_exponent k r) None (Some (inverse r k))
 
 -- the inverse service
 unfoldable pub inverse_outcome : ℕ → ℕ → Outcome ℕ

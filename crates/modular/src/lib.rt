@@ -5,7 +5,7 @@ ghost use Rattle.std.specs.Prelude.{◌≡◌, ◌*◌};
 ghost use Rattle.refusal.specs.Outcomes.{outcome_of};
 ghost use Rattle.modular.specs.Residues.{remainder};
 ghost use Rattle.modular.specs.Primes.{is_prime};
-ghost use Rattle.modular.specs.Inverses.{inverse, nonzero, inverse_outcome};
+ghost use Rattle.modular.specs.Inverses.{inverse, nonzero, exponent_inverse, inverse_outcome};
 
 use refusal::Refusal;
 
@@ -84,6 +84,16 @@ pub fn inverse_or_zero(x: u32, m: u32) -> u32
     inverse_of(x, m).unwrap_or(0)
 }
 
+// The inverse of an exponent k of an order r, where refusal 3 lets it pass: k is below r and shares no factor with it.
+pub fn exponent_inverse(k: u32, r: u32) -> Option<u32>
+    ensures { result ≡ exponent_inverse k r }
+{
+    if r <= k {
+        return None;
+    }
+    inverse_of(k, r)
+}
+
 // The inverse service.
 pub fn inverse(k: u32, r: u32) -> Result<u64, Refusal>
     ensures { outcome_of result ≡ inverse_outcome k r }
@@ -91,15 +101,6 @@ pub fn inverse(k: u32, r: u32) -> Result<u64, Refusal>
     if r < 2 {
         return Err(Refusal::Order);
     }
-    if k == 0 {
-        return Err(Refusal::Exponent);
-    }
-    if r <= k {
-        return Err(Refusal::Exponent);
-    }
-    let value = inverse_or_zero(k, r);
-    if value == 0 {
-        return Err(Refusal::Exponent);
-    }
-    Ok(value as u64)
+    let value = exponent_inverse(k, r).ok_or(Refusal::Exponent)?;
+    Ok(u64::from(value))
 }

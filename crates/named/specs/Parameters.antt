@@ -1,8 +1,7 @@
 -- REQUIREMENTS 7.1: what p, r, k and the variant of a named program may be. Each test says that a number is refused.
-use Rattle.std.specs.Prelude.{Bool, not, ◌&&◌, ◌||◌, cond, ℕ, ◌-◌, leb, ltb, eqb}
+use Rattle.std.specs.Prelude.{Bool, not, ◌&&◌, ◌||◌, ℕ, ◌-◌, leb, ltb, eqb}
 use Rattle.modular.specs.Search.{divides}
 use Rattle.modular.specs.Primes.{is_prime}
-use Rattle.modular.specs.Inverses.{inverse, bad_exponent}
 use Rattle.tape.specs.Words.{number_limit}
 use Rattle.named.specs.Named.{last_variant}
 
@@ -13,10 +12,6 @@ bad_modulus p = not (is_prime p && (leb 3 p && ltb p number_limit))
 -- refusal 2: r < 2, or r doesn't divide p - 1
 unfoldable pub bad_order : ℕ → ℕ → Bool
 bad_order p r = ltb r 2 || not (divides r (p - 1))
-
--- K, and 0 where refusal 3 applies
-unfoldable pub good_inverse : ℕ → ℕ → ℕ
-good_inverse k r = cond (bad_exponent k r) 0 (inverse r k)
 
 -- refusal 4 in build: no variant of the table has the number
 unfoldable pub bad_variant : ℕ → Bool

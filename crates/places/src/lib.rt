@@ -33,25 +33,23 @@ pub fn places(n: u64, buffer: &mut [u8]) -> Result<u64, Refusal>
 pub fn number_of_places(list: &[u8]) -> Result<u64, Refusal>
     ensures { outcome_of result ≡ number_outcome list.now }
 {
-    if list.len() == 0 {
+    let Some(highest) = list.first() else {
         return Ok(0);
-    }
+    };
     let mut above = ABOVE_LAST;
     let mut sum: u64 = 0;
-    let mut i: usize = 0;
-    while i < list.len() {
-        let place = list[i] as u32;
+    for place in list {
+        let place = u32::from(*place);
         if above < place + 2 {
             return Err(Refusal::Index);
         }
         sum = wrapping_add_u64(sum, fibonacci_or_zero(place + 1));
         above = place;
-        i += 1;
     }
     if above == 0 {
         return Err(Refusal::Index);
     }
-    if sum < fibonacci_or_zero(list[0] as u32 + 1) {
+    if sum < fibonacci_or_zero(u32::from(*highest) + 1) {
         return Err(Refusal::Range);
     }
     Ok(sum)

@@ -17,6 +17,7 @@ pub fn zeckendorf(n: u64) -> Form
     let mut form = Form::new();
     let mut rest = n;
     let mut at = high_enough(n);
+    // By the place that is at hand, which goes down with its two weights: there is no row to go through.
     while at.place > 0 {
         if at.weight <= rest {
             form.push(at.place as u8);

@@ -2,17 +2,18 @@
 -- is not refused has one, and the inverse is such an exponent itself, whose inverse is k.
 use mathlib.Core.Path.{◌≡◌, refl, sym, ◌∙◌, ap, ap₂, subst}
 use mathlib.Core.Logic.{⊎_elim}
-use mathlib.Core.Bool.{true, false, ◌&&◌, ◌||◌}
+use mathlib.Core.Bool.{true, false, true≢false, ◌&&◌, ◌||◌}
 use Prim.Native.Nat.{ℕ, zero, suc, ◌*◌, ◌-◌, ◌%◌, ◌≤◌, ◌<◌, ◌∣◌}
 use native.Mathlib.Nat.{dvd-mod_iff, dvd-mul_right_of_dvd, dvd_of_mod-eq-zero, eq-one_of_dvd-one, eq-zero-or-pos, le_of_dvd, mod-eq_of_lt, mod-eq-zero_of_dvd, mod-one, mul-one, one-dvd, one-mul, pos_of_dvd_of_pos, zero-mod, zero-mul}
 use native.Mathlib.Omega.{arith}
 use Rattle.std.specs.Prelude.{Some, None}
 use Rattle.std.specs.Option.{unwrap_or}
+use Rattle.std.proofs.lemmas.Option.{none-some, same_Some}
 use lib.Dec.{leb, ltb, eqb}
 use borrow.Author.Tests.{eqb-true, eqb-false, eq-eqb, ne_eqb, leb-false, lt-leb, ltb-false, le-ltb}
 use Rattle.divisors.specs.Search.{divides}
-use Rattle.modular.specs.Inverses.{Coprime, gcd, Inverse, inverse, nonzero, bad_exponent}
-use Rattle.refusal.proofs.Laws.Tests.{test_true, both, neither}
+use Rattle.modular.specs.Inverses.{Coprime, gcd, Inverse, inverse, nonzero, bad_exponent, exponent_inverse}
+use Rattle.refusal.proofs.Laws.Tests.{by_test, test_true, both, neither}
 use Rattle.divisors.proofs.Laws.Search.{greatest_at_most, greatest_passes, greatest_most, greatest_is}
 use Rattle.modular.proofs.Laws.Residues.{mul_mod_left, mul_mod_right}
 use Rattle.modular.proofs.Laws.Ends.{coprime_inverse}
@@ -142,3 +143,37 @@ pub nonzero_or_zero : (n : ℕ) → unwrap_or (nonzero n) 0 ≡ n
 unfolding nonzero
 nonzero_or_zero zero = refl
 nonzero_or_zero (suc n) = refl
+
+-- ---- the inverse of an exponent
+
+module _ (k r : ℕ) where
+  pub exponent_past : r ≤ k → None ≡ exponent_inverse k r
+  unfolding exponent_inverse
+  exponent_past past = rw (bad_exponent_lem k r (λ g. omega (arith, g.high))) refl
+
+  -- below r what is left of refusal 3 is 0 or a shared factor, where there is no inverse
+  pub exponent_below : k < r → nonzero (inverse r k) ≡ exponent_inverse k r
+  unfolding exponent_inverse
+  exponent_below high =
+      by_test (bad_exponent k r)
+      (λ bad. sym (nonzero_none _ (none bad)) ∙ rw bad refl)
+      (λ good. sym (nonzero_some _ (inverse_order k r good).low) ∙ rw good refl)
+    where
+      none : bad_exponent k r ≡ true → inverse r k ≡ 0
+      none bad =
+          ⊎_elim
+          (λ zero. rw zero (inverse_zero r))
+          (λ low. inverse_none r k (λ coprime. true≢false (sym bad ∙ exponent_good (record { low = low; high = high; coprime = coprime }))))
+          (eq-zero-or-pos k)
+
+  -- there is none where refusal 3 applies, and only there
+  pub exponent_none : exponent_inverse k r ≡ None → bad_exponent k r ≡ true
+  unfolding exponent_inverse
+  exponent_none e = by_test (bad_exponent k r) (λ bad. bad) (λ good. absurd (none-some _ (sym (rw good at e))))
+
+  pub exponent_some : {v : ℕ} → exponent_inverse k r ≡ Some v → (bad_exponent k r ≡ false) × (v ≡ inverse r k)
+  unfolding exponent_inverse
+  exponent_some e =
+      by_test (bad_exponent k r)
+      (λ bad. absurd (none-some _ (rw bad at e)))
+      (λ good. (good, sym (same_Some _ _ (rw good at e))))

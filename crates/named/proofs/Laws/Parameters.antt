@@ -11,14 +11,12 @@ use lib.Dec.{leb, ltb, eqb}
 use borrow.Author.Tests.{leb-true, le-leb, lt-leb, ltb-true, ltb-false, lt-ltb, le-ltb, eqb-true, eqb-false, ne_eqb, not-false}
 use Rattle.modular.specs.Search.{divides}
 use Rattle.modular.specs.Primes.{is_prime}
-use Rattle.modular.specs.Inverses.{inverse, bad_exponent}
-use Rattle.refusal.proofs.Laws.Tests.{by_test, both, neither}
-use Rattle.modular.proofs.Laws.Inverses.{inverse_none, exponent_good}
+use Rattle.refusal.proofs.Laws.Tests.{both, neither}
 use Rattle.tape.specs.Words.{number_limit}
 use Rattle.named.specs.declared.Variant.{Variant}
 use Rattle.named.specs.declared.Variant.TheVariants.{Basic, Dual, Hybrid}
 use Rattle.named.specs.Named.{last_variant}
-use Rattle.named.specs.Parameters.{bad_modulus, bad_order, good_inverse, bad_variant}
+use Rattle.named.specs.Parameters.{bad_modulus, bad_order, bad_variant}
 use Rattle.named.specs.Variants.{variant_number, Names}
 
 -- ---- the modulus
@@ -79,26 +77,6 @@ order_below p r modulus order =
 
 pub order_small : (p r : ℕ) → bad_modulus p ≡ false → bad_order p r ≡ false → r < number_limit
 order_small p r modulus order = omega (arith, (good_modulus_lem p modulus).high, order_below p r modulus order)
-
--- ---- the exponent and its inverse
-
-module _ (k r : ℕ) where
-  pub inverse_refused : bad_exponent k r ≡ true → good_inverse k r ≡ 0
-  unfolding good_inverse
-  inverse_refused bad = rw bad
-
-  pub inverse_passed : bad_exponent k r ≡ false → good_inverse k r ≡ inverse r k
-  unfolding good_inverse
-  inverse_passed good = rw good
-
-  -- from 1 to r - 1 what is left of refusal 3 is a shared factor, where there is no inverse
-  pub inverse_between : 1 ≤ k → k < r → good_inverse k r ≡ inverse r k
-  inverse_between low high =
-      by_test (bad_exponent k r)
-      (λ bad.
-      inverse_refused bad
-      ∙ sym (inverse_none r k (λ coprime. true≢false (sym bad ∙ exponent_good (record { low = low; high = high; coprime = coprime })))))
-      (λ good. inverse_passed good)
 
 -- ---- the variant
 

@@ -5,16 +5,13 @@ use mathlib.Core.Path.{◌≡◌, sym, ap, ◌∙◌}
 use mathlib.Core.Bool.{true, false}
 use mathlib.Core.List.{List}
 use Prim.Native.Nat.{ℕ}
-use native.Mathlib.Omega.{arith}
 use lib.ListN.{length}
 use Rattle.refusal.specs.declared.Refusal.{Refusal}
 use Rattle.refusal.specs.Outcomes.{Outcome, refused, outcome_of, gives, passes, buffer_after, row_kept}
-use Rattle.modular.specs.Inverses.{bad_exponent}
-use Rattle.refusal.proofs.Laws.Tests.{by_test}
-use Rattle.modular.proofs.Laws.Inverses.{inverse_order}
+use Rattle.modular.specs.Inverses.{inverse, bad_exponent}
 use Rattle.named.specs.Named.{named_words}
-use Rattle.named.specs.Parameters.{bad_modulus, bad_order, good_inverse, bad_variant}
-use Rattle.named.proofs.Laws.Parameters.{good_modulus_lem, order_small, inverse_refused, inverse_passed}
+use Rattle.named.specs.Parameters.{bad_modulus, bad_order, bad_variant}
+use Rattle.named.proofs.Laws.Parameters.{good_modulus_lem, order_small}
 use Rattle.program.specs.Services.{room_outcome, build_outcome, build_buffer}
 use Rattle.program.specs.Inner.Forms.{Invertible}
 use Rattle.program.specs.Inner.Building.{Writable, Built}
@@ -56,22 +53,11 @@ module _ (p r k variant : ℕ) (row : List ℕ) where
             sym (passes _ _ _ modulus ∙ passes _ _ _ order ∙ passes _ _ _ exponent ∙ passes _ _ _ is_named_lem) in
             (b.outcome_is ∙ e, b.row_is ∙ ap (λ (o : Outcome ℕ). buffer_after o words row) e)
 
--- ---- the exponent by its inverse
-
-module _ (k r : ℕ) where
-  pub no_inverse : good_inverse k r ≡ 0 → bad_exponent k r ≡ true
-  no_inverse none =
-      by_test (bad_exponent k r) (λ bad. bad)
-      (λ good. absurd (omega (arith, (inverse_order k r good).low, inverse_passed k r good)))
-
-  pub some_inverse : ¬ (good_inverse k r ≡ 0) → bad_exponent k r ≡ false
-  some_inverse some = by_test (bad_exponent k r) (λ bad. absurd (some (inverse_refused k r bad))) (λ good. good)
-
 -- ---- what the tests leave
 
 module _ (p r k : ℕ) (modulus : bad_modulus p ≡ false) (order : bad_order p r ≡ false) (exponent : bad_exponent k r ≡ false) where
-  pub invertible : {K : ℕ} → K ≡ good_inverse k r → Invertible r k K
-  invertible e = record { order = order_small p r modulus order; exponent = exponent; inverse_is = e ∙ inverse_passed k r exponent }
+  pub invertible : {K : ℕ} → K ≡ inverse r k → Invertible r k K
+  invertible e = record { order = order_small p r modulus order; exponent = exponent; inverse_is = e }
 
   pub writable : (variant : ℕ) → bad_variant variant ≡ false → Writable p r k variant
   writable variant named =
