@@ -122,6 +122,7 @@ pub fn bit(truth: bool) -> u32
     u32::from(truth)
 }
 
+// An answer is stored, and 0 comes back; of a refusal its number comes back, and the place stays as it is.
 pub fn store<T: Stored>(answer: Result<T, Refusal>, place: &mut T::Place) -> u32
     ensures value { result ≡ refusal_number (outcome_by T.seen answer) }
     ensures place_after { place.new ≡ after (outcome_by T.seen answer) place.old }
@@ -149,7 +150,7 @@ pub fn store_preview(
     store(answer.map(|preview| preview.counts), counts)
 }
 
-// The record that a row of five holds. It comes by value, because the length of an array behind a reference isn't known to a proof.
+// The record that a row of five holds, a function since an impl of From would stand with `State`. It comes by value, because the length of an array behind a reference isn't known to a proof.
 pub fn record_in(row: [u32; 5]) -> State
     ensures { record_of result ≡ record_in row }
 {
