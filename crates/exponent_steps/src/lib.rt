@@ -30,6 +30,7 @@ pub fn shift(exponents: &mut [i64], op: Operation) -> bool
     match op.opcode {
         Opcode::Mul => set_made(exponents, op.target, sum(x, y)),
         Opcode::Div => set_made(exponents, op.target, difference(x, y)),
+        // By two sets: `swap` wants both in the row, and here an exponent that is missing reads as 0 and is not set.
         Opcode::Swp => {
             set_exponent(exponents, op.target, y);
             set_exponent(exponents, op.source, x);

@@ -18,6 +18,7 @@ pub struct Modulus {
     pub square: u32,
 }
 
+// Numbers are widened by `as`: in the products of these formulas `u64::from` is no plainer.
 impl Modulus {
     // A modulus made ready: Newton's iteration from 1, which is the inverse of an odd number modulo 2, and one division.
     pub fn new(p: u32) -> Modulus

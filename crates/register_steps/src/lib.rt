@@ -17,7 +17,7 @@ use row::{exchange, multiply_register};
 use tape::{Opcode, Operation};
 
 // The steps that some words have in their digits, done from the first to the last, or undone from the last to the first. There is one loop for both, so that
-// the compiler has one place where a step is done and puts it there in full.
+// the compiler has one place where a step is done and puts it there in full. The two rows are slices of any length: a struct of both would take four registers only.
 pub fn do_steps(words: &[u32], undone: bool, m: Modulus, values: &mut [u32], inverses: &mut [u32])
     ensures values_after { values.new ≡ do_all_with (form_times m) (directed_steps undone (raw_steps words.now)) values.old inverses.old }
     ensures inverses_after { inverses.new ≡ do_all_with (form_times m) (directed_steps undone (raw_steps words.now)) inverses.old values.old }

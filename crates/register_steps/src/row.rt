@@ -14,7 +14,7 @@ pub(crate) fn multiply_register(values: &mut [u32], t: u32, y: u32, m: Modulus)
     set_register(values, t, x)
 }
 
-// Two registers exchanged.
+// Two registers exchanged. By two sets: `swap` wants both in the row, and here one that is missing reads as 0 and is not set.
 pub(crate) fn exchange(values: &mut [u32], t: u32, s: u32)
     ensures { values.new ≡ set (set values.old t (reg values.old s)) s (reg values.old t) }
 {

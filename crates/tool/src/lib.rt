@@ -115,7 +115,7 @@ pub const LARGEST_32: u64 = 4294967295;
 
 pub const LARGEST_64: u64 = 18446744073709551615;
 
-// The verbs' names, a zero byte after each.
+// The verbs' names, a zero byte after each. They stand beside the rows in one text, as the variants' names do: one function looks a word up in either.
 pub const NAMES: [u8; 225] =
     *b"build\0script\0help\0--help\0-h\0version\0--version\0check\0list\0load\0run\0step\0preview\0power\0raise\0trace\0table\0cut\0play\0decode\0fibonacci\0places\0number\0hofstadter\0inverse\0height\0prime\0mulmod\0powmod\0tape\0append\0change\0drop\0behind\0room\0";
 
