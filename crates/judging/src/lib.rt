@@ -69,13 +69,7 @@ pub fn put_judged(text: &mut [u8], printed: &[u8], line: &[u8], at: usize) -> us
 fn past_equals(line: &[u8], at: usize) -> &[u8]
     ensures { result.now ≡ drop (at + 3) line.now }
 {
-    if line.len() <= at {
-        return &line[..0];
-    }
-    if line.len() - at < EQUALS_BYTES {
-        return &line[..0];
-    }
-    &line[at + EQUALS_BYTES..]
+    line.get(at.saturating_add(EQUALS_BYTES)..).unwrap_or(&[])
 }
 
 // Whether what was printed is what was said.
