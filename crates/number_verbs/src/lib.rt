@@ -11,7 +11,7 @@ ghost use Rattle.tool.specs.Inner.Held.{held_to};
 use encoding::tape_bytes;
 use lines::bytes_line;
 use meanings::meaning;
-use printing::{answer, number, refuse};
+use printing::{print, refuse, show};
 use putting::Buffer;
 use tape::MAX_WORDS;
 use tool::{ANSWERED, MAX_PARAMETERS, NumberVerb, Reply};
@@ -23,25 +23,25 @@ pub fn on_numbers(verb: NumberVerb, own: u32, values: &[u64], text: &mut [u8]) -
 {
     match verb {
         NumberVerb::Decode => meaning(text, decoding::decode(small(values, 0))),
-        NumberVerb::Fibonacci => answer(text, own, golden::fibonacci(small(values, 0))),
+        NumberVerb::Fibonacci => print(text, own, golden::fibonacci(small(values, 0))),
         NumberVerb::Places => places(large(values, 0), text),
         NumberVerb::NumberOf => number_of(own, values, text),
-        NumberVerb::Hofstadter => number(text, golden::hofstadter(large(values, 0))),
-        NumberVerb::Inverse => answer(
+        NumberVerb::Hofstadter => show(text, golden::hofstadter(large(values, 0))),
+        NumberVerb::Inverse => print(
             text,
             own,
             modular::inverse(small(values, 0), small(values, 1)),
         ),
-        NumberVerb::Height => number(text, golden::height(small(values, 0)) as u64),
-        NumberVerb::Prime => number(text, bit(modular::is_prime(small(values, 0)))),
+        NumberVerb::Height => show(text, golden::height(small(values, 0)) as u64),
+        NumberVerb::Prime => show(text, bit(modular::is_prime(small(values, 0)))),
         NumberVerb::MulMod => {
-            number(
+            show(
                 text,
                 modular::product(small(values, 0), small(values, 1), small(values, 2)) as u64,
             )
         }
         NumberVerb::PowMod => {
-            number(
+            show(
                 text,
                 montgomery::power(small(values, 0), small(values, 1), small(values, 2)) as u64,
             )
@@ -101,5 +101,5 @@ fn number_of(own: u32, values: &[u64], text: &mut [u8]) -> Reply
 {
     let mut row = [0u8; MAX_PARAMETERS];
     let count = bytes(values, &mut row, 0);
-    answer(text, own, places::number_of_places(&row[..count]))
+    print(text, own, places::number_of_places(&row[..count]))
 }

@@ -3,28 +3,20 @@
 
 mod results;
 
-ghost use Rattle.std.specs.Prelude.{[], ◌∷◌, ◌++◌};
+ghost use Rattle.std.specs.Prelude.{List, [], ◌∷◌, ◌++◌, ℕ, ◌≤◌, length};
 ghost use Rattle.refusal.specs.Outcomes.{outcome_of};
-ghost use Rattle.text.specs.Text.{newline, number_line};
+ghost use Rattle.text.specs.Text.{newline};
 ghost use Rattle.putting.specs.Buffers.{Puts};
-ghost use Rattle.machine.specs.Exponents.{exponents_outcome_of};
-ghost use Rattle.tables.specs.Tables.{table_outcome_of};
-ghost use Rattle.sequencer.specs.Records.{state_outcome_of};
-ghost use Rattle.sequencer.specs.Previews.{preview_outcome_of};
-ghost use Rattle.tool.specs.Texts.{exponents_line, table_lines, record_line, preview_lines, power_lines, reason_for};
-ghost use Rattle.tool.specs.Replies.{refuses, printed};
-ghost use Rattle.tool.specs.Rows.{Told};
+ghost use Rattle.tool.specs.Texts.{reason_for};
+ghost use Rattle.tool.specs.Replies.{answers, refuses, printed};
+ghost use Rattle.tool.specs.Rows.{Told, max_text};
 
-use machine::Exponents;
 use parsing::nth_word;
 use putting::Buffer;
 use refusal::{OWN_REASONS, REASONS, Refusal};
-pub use results::{number, record};
-use results::{exponents, power, preview, rows};
-use sequencer::{Preview, State};
-use tables::Table;
+pub use results::Power;
 use text::NEWLINE;
-use tool::{REFUSED, Reply};
+use tool::{ANSWERED, REFUSED, Reply};
 
 // A refusal, with what it is given for.
 pub fn refuse(buffer: &mut [u8], own: u32, number: u32) -> Reply
@@ -51,62 +43,33 @@ fn put_reason(buffer: &mut Buffer, own: u32, number: u32)
     buffer.put_then(nth_word(&REASONS, number as usize), NEWLINE);
 }
 
-// One number, or the refusal.
-pub fn answer(buffer: &mut [u8], own: u32, answer: Result<u64, Refusal>) -> Reply
-    ensures { Told buffer.old (printed own (outcome_of answer) number_line) result buffer.new }
+// The answer of a service, which is put as lines.
+pub trait Shown: Sized {
+    ghost text: { Self → List ℕ };
+
+    fn put(self, lines: &mut Buffer)
+        ensures put { Puts lines.old (text self) lines.new }
+        ensures short { length (text self) ≤ max_text };
+}
+
+// An answer as it is shown.
+pub fn show<T: Shown>(buffer: &mut [u8], value: T) -> Reply
+    ensures { Told buffer.old (answers (T.text value)) result buffer.new }
 {
-    match answer {
-        Ok(n) => number(buffer, n),
-        Err(e) => refuse(buffer, own, u32::from(e)),
+    let mut lines = Buffer::new(buffer);
+    value.put(&mut lines);
+    Reply {
+        status: ANSWERED,
+        length: lines.next,
     }
 }
 
-// A record, or the refusal.
-pub fn print_record(buffer: &mut [u8], own: u32, answer: Result<State, Refusal>) -> Reply
-    ensures { Told buffer.old (printed own (state_outcome_of answer) record_line) result buffer.new }
+// What a service answers, or the refusal.
+pub fn print<T: Shown>(buffer: &mut [u8], own: u32, answer: Result<T, Refusal>) -> Reply
+    ensures { Told buffer.old (printed own (outcome_of answer) T.text) result buffer.new }
 {
     match answer {
-        Ok(state) => record(buffer, state),
-        Err(e) => refuse(buffer, own, u32::from(e)),
-    }
-}
-
-// The same, with register 1 on a line of its own before it.
-pub fn print_power(buffer: &mut [u8], own: u32, answer: Result<State, Refusal>) -> Reply
-    ensures { Told buffer.old (printed own (state_outcome_of answer) power_lines) result buffer.new }
-{
-    match answer {
-        Ok(state) => power(buffer, state),
-        Err(e) => refuse(buffer, own, u32::from(e)),
-    }
-}
-
-// What a preview shows, or the refusal.
-pub fn print_preview(buffer: &mut [u8], own: u32, answer: Result<Preview, Refusal>) -> Reply
-    ensures { Told buffer.old (printed own (preview_outcome_of answer) preview_lines) result buffer.new }
-{
-    match answer {
-        Ok(shown) => preview(buffer, shown),
-        Err(e) => refuse(buffer, own, u32::from(e)),
-    }
-}
-
-// Four exponents, or the refusal.
-pub fn print_exponents(buffer: &mut [u8], own: u32, answer: Result<Exponents, Refusal>) -> Reply
-    ensures { Told buffer.old (printed own (exponents_outcome_of answer) exponents_line) result buffer.new }
-{
-    match answer {
-        Ok(values) => exponents(buffer, values),
-        Err(e) => refuse(buffer, own, u32::from(e)),
-    }
-}
-
-// A table, a line for each register, or the refusal.
-pub fn print_table(buffer: &mut [u8], own: u32, answer: Result<Table, Refusal>) -> Reply
-    ensures { Told buffer.old (printed own (table_outcome_of answer) table_lines) result buffer.new }
-{
-    match answer {
-        Ok(table) => rows(buffer, table),
+        Ok(value) => show(buffer, value),
         Err(e) => refuse(buffer, own, u32::from(e)),
     }
 }

@@ -1,4 +1,4 @@
-// Answers of numbers.
+// The answers of services as they are shown.
 ghost use Rattle.std.specs.Prelude.{[], ◌∷◌, ◌++◌, ◌≤◌, length};
 ghost use Rattle.text.specs.Text.{whole, number_line};
 ghost use Rattle.putting.specs.Buffers.{Puts};
@@ -7,52 +7,47 @@ ghost use Rattle.tables.specs.Tables.{matrix_of};
 ghost use Rattle.sequencer.specs.Records.{record_of};
 ghost use Rattle.sequencer.specs.Previews.{shown_of};
 ghost use Rattle.tool.specs.Texts.{exponents_line, table_lines, record_line, preview_lines, power_lines};
-ghost use Rattle.tool.specs.Replies.{answers};
-ghost use Rattle.tool.specs.Rows.{Told};
 
+use crate::Shown;
 use lines::{number_line, numbers_line};
 use machine::Exponents;
 use putting::Buffer;
 use sequencer::{Preview, State};
 use tables::Table;
 use text::{BLANK, NEWLINE};
-use tool::{ANSWERED, Reply};
 
 // A number on a line of its own.
-pub fn number(buffer: &mut [u8], n: u64) -> Reply
-    ensures { Told buffer.old (answers (number_line n)) result buffer.new }
-{
-    let mut line = Buffer::new(buffer);
-    number_line(&mut line, n);
-    Reply {
-        status: ANSWERED,
-        length: line.next,
+impl Shown for u64 {
+    ghost text = { number_line };
+
+    fn put(self, lines: &mut Buffer) {
+        number_line(lines, self);
     }
 }
 
 // A record on a line of its own.
-pub fn record(buffer: &mut [u8], state: State) -> Reply
-    ensures { Told buffer.old (answers (record_line (record_of state))) result buffer.new }
-{
-    let mut line = Buffer::new(buffer);
-    put_record(&mut line, state);
-    Reply {
-        status: ANSWERED,
-        length: line.next,
+impl Shown for State {
+    ghost text = { λ s. record_line (record_of s) };
+
+    fn put(self, lines: &mut Buffer) {
+        put_record(lines, self);
     }
 }
 
-// Register 1, and the record.
-pub(crate) fn power(buffer: &mut [u8], state: State) -> Reply
-    ensures { Told buffer.old (answers (power_lines (record_of state))) result buffer.new }
-{
-    let registers = state.registers;
-    let mut lines = Buffer::new(buffer);
-    number_line(&mut lines, registers.d as u64);
-    put_record(&mut lines, state);
-    Reply {
-        status: ANSWERED,
-        length: lines.next,
+// A record that is shown with register 1 on a line of its own before it.
+#[derive(Clone, Copy)]
+pub struct Power {
+    pub state: State,
+}
+
+impl Shown for Power {
+    ghost text = { λ p. power_lines (record_of p.state) };
+
+    fn put(self, lines: &mut Buffer) {
+        let state = self.state;
+        let registers = state.registers;
+        number_line(lines, registers.d as u64);
+        put_record(lines, state);
     }
 }
 
@@ -73,47 +68,35 @@ fn put_record(buffer: &mut Buffer, state: State)
 }
 
 // The registers on a line, and the counts on the next.
-pub(crate) fn preview(buffer: &mut [u8], shown: Preview) -> Reply
-    ensures { Told buffer.old (answers (preview_lines (shown_of shown))) result buffer.new }
-{
-    let registers = shown.registers;
-    let counts = shown.counts;
-    let mut lines = Buffer::new(buffer);
-    numbers_line(
-        &mut lines,
-        &[registers.c, registers.d, registers.e, registers.f],
-    );
-    numbers_line(&mut lines, &[counts.mul, counts.div, counts.swp]);
-    Reply {
-        status: ANSWERED,
-        length: lines.next,
+impl Shown for Preview {
+    ghost text = { λ w. preview_lines (shown_of w) };
+
+    fn put(self, lines: &mut Buffer) {
+        let registers = self.registers;
+        let counts = self.counts;
+        numbers_line(lines, &[registers.c, registers.d, registers.e, registers.f]);
+        numbers_line(lines, &[counts.mul, counts.div, counts.swp]);
     }
 }
 
 // Four exponents on one line.
-pub(crate) fn exponents(buffer: &mut [u8], exponents: Exponents) -> Reply
-    ensures { Told buffer.old (answers (exponents_line (exponents_of exponents))) result buffer.new }
-{
-    let mut line = Buffer::new(buffer);
-    put_row(&mut line, exponents);
-    Reply {
-        status: ANSWERED,
-        length: line.next,
+impl Shown for Exponents {
+    ghost text = { λ e. exponents_line (exponents_of e) };
+
+    fn put(self, lines: &mut Buffer) {
+        put_row(lines, self);
     }
 }
 
 // The rows of a table, a line each.
-pub(crate) fn rows(buffer: &mut [u8], table: Table) -> Reply
-    ensures { Told buffer.old (answers (table_lines (matrix_of table))) result buffer.new }
-{
-    let mut lines = Buffer::new(buffer);
-    put_row(&mut lines, table.c);
-    put_row(&mut lines, table.d);
-    put_row(&mut lines, table.e);
-    put_row(&mut lines, table.f);
-    Reply {
-        status: ANSWERED,
-        length: lines.next,
+impl Shown for Table {
+    ghost text = { λ t. table_lines (matrix_of t) };
+
+    fn put(self, lines: &mut Buffer) {
+        put_row(lines, self.c);
+        put_row(lines, self.d);
+        put_row(lines, self.e);
+        put_row(lines, self.f);
     }
 }
 

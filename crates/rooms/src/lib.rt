@@ -10,7 +10,7 @@ ghost use Rattle.scripting.specs.States.{capacity_of};
 
 use encoding::{WORD_BYTES, tape_bytes};
 use lines::{bytes_line, numbers_line};
-use printing::answer;
+use printing::print;
 use putting::Buffer;
 use scripting::{MAX_ROOM, MAX_TAPES};
 
@@ -37,7 +37,7 @@ fn places_into(own: u32, n: u64, row: &mut [u8], text: &mut [u8]) -> usize
     ensures short { length (places_into row.old own (n ∷ [])) ≤ max_commanded }
 {
     let found = places::places(n, row);
-    let next = answer(text, own, found).length;
+    let next = print(text, own, found).length;
     let mut buffer = Buffer { row: text, next };
     bytes_line(&mut buffer, row);
     buffer.next

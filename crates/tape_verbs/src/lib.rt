@@ -10,21 +10,19 @@ ghost use Rattle.text.specs.Text.{number_line, numbers_line};
 ghost use Rattle.tape.specs.Layout.{steps_of};
 ghost use Rattle.program.specs.Services.{accept_outcome, check_outcome};
 ghost use Rattle.sequencer.specs.Records.{record_numbers, row_of, record_in, record_of};
-ghost use Rattle.sequencer.specs.Services.{run_outcome, cut_outcome};
+ghost use Rattle.sequencer.specs.Services.{run_outcome, forward_outcome, cut_outcome};
 ghost use Rattle.sequencer.specs.Sessions.{step_outcome, is_backward};
 ghost use Rattle.sequencer.specs.Previews.{preview_outcome};
 ghost use Rattle.sequencer.specs.Lists.{requests_of};
 ghost use Rattle.listing.specs.Listing.{lines_for};
 ghost use Rattle.tool.specs.Verbs.{max_parameters};
-ghost use Rattle.tool.specs.Texts.{record_line, preview_lines};
+ghost use Rattle.tool.specs.Texts.{record_line, preview_lines, power_lines};
 ghost use Rattle.tool.specs.Replies.{answers, printed, raised_all, runs_told, played, tape_reply};
 ghost use Rattle.tool.specs.Rows.{Told};
 
 use lines::numbers_line;
 use lister::list_tape;
-use printing::{
-    number, print_exponents, print_power, print_preview, print_record, print_table, refuse,
-};
+use printing::{Power, print, refuse, show};
 use putting::{Buffer, put};
 use sequencer::State;
 use sessions::{preview_once, step_once};
@@ -50,14 +48,14 @@ pub fn on_tape(
     match verb {
         TapeVerb::Check => check(own, tape, text),
         TapeVerb::Listing => list(tape, text),
-        TapeVerb::Load => print_record(text, own, running::load(tape, parameter(given, 0))),
+        TapeVerb::Load => print(text, own, running::load(tape, parameter(given, 0))),
         TapeVerb::Run => run(own, given, tape, text),
         TapeVerb::SingleStep => step(own, given, tape, text),
         TapeVerb::Preview => preview(own, given, tape, text),
-        TapeVerb::Power => print_power(text, own, running::forward(tape, parameter(given, 0))),
+        TapeVerb::Power => power(own, tape, parameter(given, 0), text),
         TapeVerb::Raise => raise(own, given, tape, text),
-        TapeVerb::Trace => print_exponents(text, own, inspecting::trace(tape, parameter(given, 0))),
-        TapeVerb::Table => print_table(text, own, inspecting::table(tape, parameter(given, 0))),
+        TapeVerb::Trace => print(text, own, inspecting::trace(tape, parameter(given, 0))),
+        TapeVerb::Table => print(text, own, inspecting::table(tape, parameter(given, 0))),
         TapeVerb::Cut => cut(own, tape, parameter(given, 0), parameter(given, 1), text),
         TapeVerb::Play => play(given, tapes, text),
     }
@@ -68,7 +66,7 @@ fn check(own: u32, tape: &[u32], text: &mut [u8]) -> Reply
     ensures { Told text.old (printed own (check_outcome tape.now) number_line) result text.new }
 {
     match accepting::check(tape) {
-        Ok(()) => number(text, 0),
+        Ok(()) => show(text, 0u64),
         Err(e) => refuse(text, own, u32::from(e)),
     }
 }
@@ -89,7 +87,7 @@ fn run(own: u32, values: &[u32], tape: &[u32], text: &mut [u8]) -> Reply
     ensures { Told text.old (printed own (run_outcome tape.now (record_in values.now) (get_or values.now 5 0)) record_line) result text.new }
 {
     let answer = running::run(tape, record(values), parameter(values, 5));
-    print_record(text, own, answer)
+    print(text, own, answer)
 }
 
 // A single step, of a session that is opened for it: so a program uses sessions, for the price of checking the tape twice.
@@ -104,7 +102,7 @@ fn step(own: u32, values: &[u32], tape: &[u32], text: &mut [u8]) -> Reply
         return refuse(text, own, u32::from(e));
     }
     let state = once.state;
-    printing::record(text, state)
+    show(text, state)
 }
 
 // A preview, of a session that is opened for it, as `step` is.
@@ -116,7 +114,15 @@ fn preview(own: u32, values: &[u32], tape: &[u32], text: &mut [u8]) -> Reply
         return refuse(text, own, u32::from(e));
     }
     let shown = previewed.preview;
-    print_preview(text, own, shown)
+    print(text, own, shown)
+}
+
+// Power, which shows register 1 before the record.
+fn power(own: u32, tape: &[u32], base: u32, text: &mut [u8]) -> Reply
+    ensures { Told text.old (printed own (forward_outcome tape.now base) power_lines) result text.new }
+{
+    let answer = running::forward(tape, base);
+    print(text, own, answer.map(|state| Power { state }))
 }
 
 // Raise, its bases the parameters, which are copied since they are replaced.

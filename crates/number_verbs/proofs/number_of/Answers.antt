@@ -15,4 +15,4 @@ slice_bounds-number_of_places-end c = sym (length-take-le _ _ (put_inside c.byte
 -- the row's bytes are the parameters
 pub returns : goal.returns
 unfolding number_reply
-returns c = rw (← put_front c.bytes-count.ensures, ← c.number_of_places.ensures) c.answer.ensures
+returns c = rw (← put_front c.bytes-count.ensures, ← c.number_of_places.ensures) c.print.ensures

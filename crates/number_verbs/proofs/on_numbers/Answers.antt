@@ -25,7 +25,7 @@ returns-in-Decode c = rw (c.in-Decode.is, first, ← c.small.ensures, ← c.deco
 
 pub returns-in-Fibonacci : goal.returns-in-Fibonacci
 unfolding number_reply
-returns-in-Fibonacci c = rw (c.in-Fibonacci.is, first, ← c.small-in-Fibonacci.ensures, ← c.fibonacci.ensures) c.answer.ensures
+returns-in-Fibonacci c = rw (c.in-Fibonacci.is, first, ← c.small-in-Fibonacci.ensures, ← c.fibonacci.ensures) c.print.ensures
 
 pub returns-in-Places : goal.returns-in-Places
 unfolding number_reply
@@ -37,24 +37,24 @@ returns-in-NumberOf c = rw c.in-NumberOf.is c.number_of.ensures
 
 pub returns-in-Hofstadter : goal.returns-in-Hofstadter
 unfolding number_reply
-returns-in-Hofstadter c = rw (c.in-Hofstadter.is, first, ← c.large-in-Hofstadter.ensures, ← c.hofstadter.ensures) c.number.ensures
+returns-in-Hofstadter c = rw (c.in-Hofstadter.is, first, ← c.large-in-Hofstadter.ensures, ← c.hofstadter.ensures) c.show.ensures
 
 pub returns-in-Inverse : goal.returns-in-Inverse
 unfolding number_reply
-returns-in-Inverse c = rw (c.in-Inverse.is, first, second, ← c.small-in-Inverse.ensures, ← c.small-in-Inverse-2.ensures, ← c.inverse.ensures) c.answer-in-Inverse.ensures
+returns-in-Inverse c = rw (c.in-Inverse.is, first, second, ← c.small-in-Inverse.ensures, ← c.small-in-Inverse-2.ensures, ← c.inverse.ensures) c.print-in-Inverse.ensures
 
 pub returns-in-Height : goal.returns-in-Height
 unfolding number_reply
-returns-in-Height c = rw (c.in-Height.is, first, ← c.small-in-Height.ensures, ← c.height.ensures) c.number-in-Height.ensures
+returns-in-Height c = rw (c.in-Height.is, first, ← c.small-in-Height.ensures, ← c.height.ensures) c.show-in-Height.ensures
 
 pub returns-in-Prime : goal.returns-in-Prime
 unfolding number_reply
-returns-in-Prime c = rw (c.in-Prime.is, first, ← c.small-in-Prime.ensures, ← c.is_prime.ensures, ← c.bit.ensures) c.number-in-Prime.ensures
+returns-in-Prime c = rw (c.in-Prime.is, first, ← c.small-in-Prime.ensures, ← c.is_prime.ensures, ← c.bit.ensures) c.show-in-Prime.ensures
 
 pub returns-in-MulMod : goal.returns-in-MulMod
 unfolding number_reply
-returns-in-MulMod c = rw (c.in-MulMod.is, first, second, third, ← c.small-in-MulMod.ensures, ← c.small-in-MulMod-2.ensures, ← c.small-in-MulMod-3.ensures, ← c.product.ensures) c.number-in-MulMod.ensures
+returns-in-MulMod c = rw (c.in-MulMod.is, first, second, third, ← c.small-in-MulMod.ensures, ← c.small-in-MulMod-2.ensures, ← c.small-in-MulMod-3.ensures, ← c.product.ensures) c.show-in-MulMod.ensures
 
 pub returns-in-PowMod : goal.returns-in-PowMod
 unfolding number_reply
-returns-in-PowMod c = rw (c.in-PowMod.is, first, second, third, ← c.small-in-PowMod.ensures, ← c.small-in-PowMod-2.ensures, ← c.small-in-PowMod-3.ensures, ← c.power.ensures) c.number-in-PowMod.ensures
+returns-in-PowMod c = rw (c.in-PowMod.is, first, second, third, ← c.small-in-PowMod.ensures, ← c.small-in-PowMod-2.ensures, ← c.small-in-PowMod-3.ensures, ← c.power.ensures) c.show-in-PowMod.ensures

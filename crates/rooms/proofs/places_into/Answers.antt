@@ -8,6 +8,6 @@ use Rattle.rooms.proofs.places_into.Goals as goal
 
 pub returns : goal.returns
 returns c =
-    let both = put_places_into c.args.row.now c.args.n c.args.own c.places-found.result (omega (arith, ap length c.places-found.ensures.buffer_after, c.places-found.auto.buffer, c.requires)) c.places-found.ensures.result_value c.answer-next.ensures (rw c.places-found.ensures.buffer_after at c.bytes_line.ensures.put.put) (rw c.places-found.ensures.buffer_after at c.bytes_line.ensures.short) in
+    let both = put_places_into c.args.row.now c.args.n c.args.own c.places-found.result (omega (arith, ap length c.places-found.ensures.buffer_after, c.places-found.auto.buffer, c.requires)) c.places-found.ensures.result_value c.print-next.ensures (rw c.places-found.ensures.buffer_after at c.bytes_line.ensures.put.put) (rw c.places-found.ensures.buffer_after at c.bytes_line.ensures.short) in
     let text = both.0 in
     record { put = search rules; short = both.1 }

@@ -2,8 +2,13 @@
 use Prim.Native.Nat.{◌≤◌}
 use native.Mathlib.Omega.{arith}
 use lib.ListN.{length, length-take}
+use Rattle.machine.specs.Exponents.{exponents_of}
+use Rattle.tables.specs.Tables.{matrix_of}
+use Rattle.sequencer.specs.Records.{record_of}
 use Rattle.tool.specs.Verbs.{max_parameters}
+use Rattle.tool.specs.Texts.{exponents_line, table_lines, record_line}
 use Rattle.tool.specs.Replies.{tape_reply}
+use Rattle.printing.proofs.Laws.Seen.{printed_by}
 use Rattle.tape_verbs.proofs.on_tape.Goals as goal
 
 -- the first parameters
@@ -30,7 +35,7 @@ returns-in-Listing c = rw c.in-Listing.is c.list.ensures
 
 pub returns-in-Load : goal.returns-in-Load
 unfolding tape_reply
-returns-in-Load c = rw c.in-Load.is (rw (c.load.ensures, c.parameter.ensures, c.first-given.ensures) at c.print_record.ensures)
+returns-in-Load c = rw c.in-Load.is (rw (printed_by c.args.own record_of record_line c.load.result, c.load.ensures, c.parameter.ensures, c.first-given.ensures) at c.print.ensures)
 
 pub returns-in-Run : goal.returns-in-Run
 unfolding tape_reply
@@ -46,7 +51,7 @@ returns-in-Preview c = rw c.in-Preview.is (rw c.first-given.ensures at c.preview
 
 pub returns-in-Power : goal.returns-in-Power
 unfolding tape_reply
-returns-in-Power c = rw c.in-Power.is (rw (c.forward.ensures, c.parameter-in-Power.ensures, c.first-given.ensures) at c.print_power.ensures)
+returns-in-Power c = rw c.in-Power.is (rw (c.parameter-in-Power.ensures, c.first-given.ensures) at c.power.ensures)
 
 pub returns-in-Raise : goal.returns-in-Raise
 unfolding tape_reply
@@ -54,11 +59,11 @@ returns-in-Raise c = rw c.in-Raise.is (rw c.first-given.ensures at c.raise.ensur
 
 pub returns-in-Trace : goal.returns-in-Trace
 unfolding tape_reply
-returns-in-Trace c = rw c.in-Trace.is (rw (c.trace.ensures.result_value, c.parameter-in-Trace.ensures, c.first-given.ensures) at c.print_exponents.ensures)
+returns-in-Trace c = rw c.in-Trace.is (rw (printed_by c.args.own exponents_of exponents_line c.trace.result, c.trace.ensures.result_value, c.parameter-in-Trace.ensures, c.first-given.ensures) at c.print-in-Trace.ensures)
 
 pub returns-in-Table : goal.returns-in-Table
 unfolding tape_reply
-returns-in-Table c = rw c.in-Table.is (rw (c.table.ensures.result_value, c.parameter-in-Table.ensures, c.first-given.ensures) at c.print_table.ensures)
+returns-in-Table c = rw c.in-Table.is (rw (printed_by c.args.own matrix_of table_lines c.table.result, c.table.ensures.result_value, c.parameter-in-Table.ensures, c.first-given.ensures) at c.print-in-Table.ensures)
 
 pub returns-in-Cut : goal.returns-in-Cut
 unfolding tape_reply

@@ -4,8 +4,10 @@ use Rattle.refusal.specs.Outcomes.{refusal_number, verdict_of}
 use Rattle.refusal.proofs.Laws.Rules.{number_range}
 use Rattle.sequencer.specs.Records.{Record, record_in}
 use Rattle.sequencer.specs.Sessions.{open_outcome}
-use Rattle.sequencer.specs.Previews.{session_preview, preview_outcome_of}
+use Rattle.sequencer.specs.Previews.{session_preview, preview_outcome_of, shown_of}
 use Rattle.sequencer.proofs.Laws.Previews.{preview_not_opened, preview_opened}
+use Rattle.tool.specs.Texts.{preview_lines}
+use Rattle.printing.proofs.Laws.Seen.{printed_by}
 use Rattle.tape_verbs.proofs.preview.Goals as goal
 use Rattle.tape_verbs.proofs.preview.Goals.{After-preview_once-previewed}
 
@@ -40,4 +42,5 @@ pub returns : goal.returns
 returns c =
     let once = (goal.at.returns c).After-preview_once-previewed in
     let none = sym (opened_is once) ∙ ap (λ o. refusal_number (verdict_of o)) c.in_default.is in
-    rw (← preview_opened (tape once) (s once) (to once) none, ← preview_is once) c.print_preview.ensures
+    let answer = once.preview_once-previewed.result.preview in
+    rw (← preview_opened (tape once) (s once) (to once) none, ← preview_is once, ← printed_by c.args.own shown_of preview_lines answer) c.print.ensures

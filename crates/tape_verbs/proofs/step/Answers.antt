@@ -51,4 +51,4 @@ returns c =
     let once = (goal.at.returns c).After-step_once-once in
     let opened = sym (opened_is once) ∙ ap (λ o. refusal_number (verdict_of o)) c.in_default.is in
     let done = sym (stepped_is once) ∙ ap (λ o. refusal_number (verdict_of o)) c.in_default-stepped.is in
-    rw (stepped (tape once) (s once) (backward once) opened done, ← state_is once) c.record-2.ensures
+    rw (stepped (tape once) (s once) (backward once) opened done, ← state_is once) c.show.ensures

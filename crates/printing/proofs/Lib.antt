@@ -1,0 +1,2 @@
+-- What holds of the replies, apart from the code.
+pub mod Laws
