@@ -255,8 +255,8 @@ fn store_u32(answer: Result<u64, Refusal>, place: &mut u32) -> u32
     store(
         answer.map(
             |x| -> u32
-            requires { x < 2 ^ 32 }
-            ensures { result ≡ x }
+                requires { x < 2 ^ 32 }
+                ensures { result ≡ x }
             { x as u32 },
         ),
         place,
