@@ -9,21 +9,31 @@ use std::marker::Model;
 // No 64-bit number's form has more places.
 pub const MAX_PLACES: usize = 46;
 
-// A list of places, as of the Zeckendorf form of a 64-bit number.
-#[derive(Drop)]
+// A list of places, as of the Zeckendorf form of a 64-bit number. Zeros stand past it, so that the list tells the row and the count, and a
+// form can be copied.
+#[derive(Clone, Copy)]
 pub struct Form {
     row: [u8; MAX_PLACES],
     count: usize,
 }
 
 impl Model for Form {
-    ghost use Rattle.std.specs.Prelude.{ℕ, List, ◌≤◌, take};
+    ghost use Rattle.std.specs.Prelude.{ℕ, List, ◌≡◌, ◌≤◌, ◌-◌, ◌++◌, length, take, drop, replicate};
+    ghost use Rattle.std.proofs.Common.{arith, length-take-le};
+    ghost use Rattle.refusal.proofs.Laws.Zeros.{row_told};
 
     ghost Value = { List ℕ };
 
     ghost view = { λ f. take f.count f.row };
 
-    ghost invariant = { λ f. f.count ≤ 46 };
+    ghost invariant = { λ f. (f.count ≤ 46) × (length f.row ≡ 46) × (drop f.count f.row ≡ replicate (46 - f.count) 0) };
+
+    ghost inverse = { λ l. record { row = l ++ replicate (46 - length l) 0; count = length l } };
+
+    ghost inverse_ok = { λ f held i. record {
+      row = row_told 46 f.row f.count held.2 (omega (arith, held.0, held.1)) i;
+      count = length-take-le f.count f.row (omega (arith, held.0, held.1)) i;
+    } };
 }
 
 impl Form {

@@ -11,21 +11,31 @@ use std::marker::Model;
 // No number of 32 bits has more prime divisors.
 pub const MAX_PRIMES: usize = 32;
 
-// A list of prime divisors. It isn't one type with the `Form` of `fibonacci`, since a generic struct can't hold an array of a type parameter.
-#[derive(Drop)]
+// A list of prime divisors. Zeros stand past it, so that the list tells the row and the count, and a list can be copied. It isn't one type
+// with the `Form` of `fibonacci`, since a generic struct can't hold an array of a type parameter.
+#[derive(Clone, Copy)]
 pub struct PrimeDivisors {
     row: [u32; MAX_PRIMES],
     count: usize,
 }
 
 impl Model for PrimeDivisors {
-    ghost use Rattle.std.specs.Prelude.{ℕ, List, ◌≤◌, take};
+    ghost use Rattle.std.specs.Prelude.{ℕ, List, ◌≡◌, ◌≤◌, ◌-◌, ◌++◌, length, take, drop, replicate};
+    ghost use Rattle.std.proofs.Common.{arith, length-take-le};
+    ghost use Rattle.refusal.proofs.Laws.Zeros.{row_told};
 
     ghost Value = { List ℕ };
 
     ghost view = { λ p. take p.count p.row };
 
-    ghost invariant = { λ p. p.count ≤ 32 };
+    ghost invariant = { λ p. (p.count ≤ 32) × (length p.row ≡ 32) × (drop p.count p.row ≡ replicate (32 - p.count) 0) };
+
+    ghost inverse = { λ l. record { row = l ++ replicate (32 - length l) 0; count = length l } };
+
+    ghost inverse_ok = { λ p held i. record {
+      row = row_told 32 p.row p.count held.2 (omega (arith, held.0, held.1)) i;
+      count = length-take-le p.count p.row (omega (arith, held.0, held.1)) i;
+    } };
 }
 
 impl PrimeDivisors {
