@@ -3,7 +3,7 @@
 #![tactic(auto)]
 
 ghost use Rattle.std.specs.Prelude.{◌≡◌};
-ghost use Rattle.refusal.specs.Outcomes.{verdict_of, outcome_by, refusal_number, after};
+ghost use Rattle.refusal.specs.Outcomes.{outcome_of, outcome_by, refusal_number, after};
 ghost use Rattle.fibonacci.specs.Services.{bit};
 ghost use Rattle.machine.specs.Machine.{values_of};
 ghost use Rattle.machine.specs.Exponents.{exponents_of};
@@ -105,12 +105,12 @@ impl Stored for Table {
     }
 }
 
-// The number of a service that answers nothing.
-pub fn number_of(answer: Result<(), Refusal>) -> u32
-    ensures { result ≡ refusal_number (verdict_of answer) }
+// The number of a service whose answer is stored nowhere.
+pub fn number_of<T: Drop>(answer: Result<T, Refusal>) -> u32
+    ensures { result ≡ refusal_number (outcome_of answer) }
 {
     match answer {
-        Ok(()) => 0,
+        Ok(_) => 0,
         Err(e) => u32::from(e),
     }
 }
