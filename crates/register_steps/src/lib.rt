@@ -16,6 +16,9 @@ use register_forms::register;
 use row::{exchange, multiply_register};
 use tape::{Opcode, Operation};
 
+// What undoes the step of each opcode.
+static OPPOSITES: [Opcode; 3] = [Opcode::Div, Opcode::Mul, Opcode::Swp];
+
 // The steps that some words have in their digits, done from the first to the last, or undone from the last to the first. There is one loop for both, so that
 // the compiler has one place where a step is done and puts it there in full. The two rows are slices of any length: a struct of both would take four registers only.
 pub fn do_steps(words: &[u32], undone: bool, m: Modulus, values: &mut [u32], inverses: &mut [u32])
@@ -56,14 +59,12 @@ fn apply_with(values: &mut [u32], inverses: &mut [u32], m: Modulus, op: Operatio
     multiply_register(inverses, op.target, inverse_factor, m)
 }
 
-// Undone, mul is div, div is mul, swp is swp.
+// Undone, mul is div, div is mul, swp is swp: looked up, since the compiler makes branches of a `match`.
 fn inverse_operation(op: Operation) -> Operation
     ensures { step_for result ≡ inverse_step (step_for op) }
 {
-    let opcode = match op.opcode {
-        Opcode::Mul => Opcode::Div,
-        Opcode::Div => Opcode::Mul,
-        Opcode::Swp => Opcode::Swp,
-    };
-    Operation { opcode, ..op }
+    Operation {
+        opcode: OPPOSITES[op.opcode as usize],
+        ..op
+    }
 }

@@ -1,6 +1,9 @@
 // REQUIREMENTS 5: what a word means, and the layout of a tape. The definitions and laws of this layer, and the types and
-// limits that they name; it has no functions.
+// limits that they name.
 #![tactic(auto)]
+
+ghost use Rattle.std.specs.Prelude.{◌≡◌};
+ghost use Rattle.tape.specs.Inner.Operations.{opcode_of};
 
 // A step with its target and its source register.
 #[derive(Clone, Copy)]
@@ -16,6 +19,19 @@ pub enum Opcode {
     Mul,
     Div,
     Swp,
+}
+
+// By their numbers.
+static OPCODES: [Opcode; 3] = [Opcode::Mul, Opcode::Div, Opcode::Swp];
+
+// What the steps of a number do: every number has an opcode. It is looked up, since the compiler makes branches of a `match`, and one is
+// mispredicted at every other step.
+impl From<u32> for Opcode {
+    ghost from_gives = { λ number opcode. opcode ≡ opcode_of number };
+
+    fn from(number: u32) -> Opcode {
+        OPCODES[number.min(2) as usize]
+    }
 }
 
 // A step by its opcode, with its registers.

@@ -1,16 +1,22 @@
--- `inverse_operation` meets its contract: its arms are those of the definition.
+-- `inverse_operation` meets its contract: what the table has for each opcode undoes its step.
+use Rattle.std.proofs.Common.{◌≡◌, refl, ℕ, [], ◌∷◌, slice_index_or}
+use denote.Enum.Enum.{tag}
+use denote.Enum.Declared.{intoss}
+use denote.Struct.Field.{rows}
+use Rattle.tape.specs.contracts.Opcode.{as_values}
+use Rattle.tape.specs.declared.Opcode.{Opcode}
+use Rattle.tape.specs.declared.Opcode.TheVariants.{Mul as ByMul, Div as ByDiv, Swp as BySwp}
 use Rattle.tape.specs.Inner.Operations.{step_by}
 use Rattle.machine.specs.Machine.{inverse_step}
 use Rattle.register_steps.proofs.inverse_operation.Goals as goal
 
-pub returns-in-Mul : goal.returns-in-Mul
+undone : (o : Opcode) (t s : ℕ)
+    → step_by (slice_index_or (ByDiv ∷ ByMul ∷ BySwp ∷ []) (tag (rows [] ∷ rows [] ∷ rows [] ∷ []) (intoss ([] ∷ [] ∷ [] ∷ []) (as_values o))) ByMul) t s
+    ≡ inverse_step (step_by o t s)
 unfolding step_by inverse_step
-returns-in-Mul c = rw c.in-Mul.is
+undone ByMul t s = refl
+undone ByDiv t s = refl
+undone BySwp t s = refl
 
-pub returns-in-Div : goal.returns-in-Div
-unfolding step_by inverse_step
-returns-in-Div c = rw c.in-Div.is
-
-pub returns-in-Swp : goal.returns-in-Swp
-unfolding step_by inverse_step
-returns-in-Swp c = rw c.in-Swp.is
+pub returns : goal.returns
+returns c = undone c.args.op.opcode c.args.op.target c.args.op.source

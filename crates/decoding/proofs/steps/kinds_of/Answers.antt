@@ -1,14 +1,14 @@
--- `steps::kinds_of` meets its contract: each order is a case of the definition by its tests.
+-- `steps::kinds_of` meets its contract: each return is a case of the definition by its tests.
 use mathlib.Core.Path.{sym}
-use Rattle.std.proofs.lemmas.Cmp.{ranked}
+use native.Mathlib.Nat.{le_antisymm}
 use Rattle.tape.proofs.Laws.Shapes.{kinds_below, kinds_above, kinds_none}
 use Rattle.decoding.proofs.steps.kinds_of.Goals as goal
 
-pub returns-in-Less : goal.returns-in-Less
-returns-in-Less c = sym (kinds_below _ _ (ranked _ _ _ c.in-Less.ensures))
+pub returns-then-target-source : goal.returns-then-target-source
+returns-then-target-source c = sym (kinds_below _ _ c.if-target-source.true)
 
-pub returns-in-Greater : goal.returns-in-Greater
-returns-in-Greater c = sym (kinds_above _ _ (ranked _ _ _ c.in-Greater.ensures))
+pub returns-then-source-target : goal.returns-then-source-target
+returns-then-source-target c = sym (kinds_above _ _ c.if-source-target.true)
 
-pub returns-in-Equal : goal.returns-in-Equal
-returns-in-Equal c = sym (kinds_none _ _ (ranked _ _ _ c.in-Equal.ensures))
+pub returns : goal.returns
+returns c = sym (kinds_none _ _ (le_antisymm c.if-source-target.false c.if-target-source.false))

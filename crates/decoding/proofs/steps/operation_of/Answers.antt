@@ -4,4 +4,4 @@ use Rattle.decoding.proofs.steps.operation_of.Goals as goal
 
 pub returns : goal.returns
 unfolding raw_step
-returns c = rw c.opcode_of.ensures
+returns c = rw (c.from.ensures, c.saturating_sub.ensures)
