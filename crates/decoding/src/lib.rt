@@ -29,6 +29,7 @@ pub fn decode(word: u32) -> Decoded
             None => Decoded::Bad,
         },
         15 => Decoded::End(payload),
+        0 | 8..=14 => Decoded::Bad,
         _ => Decoded::Bad,
     }
 }

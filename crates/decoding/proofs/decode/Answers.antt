@@ -46,8 +46,11 @@ nothing word past not_15 =
       not_15 = not_15;
     }))
 
+pub returns-in-0 : goal.returns-in-0
+returns-in-0 c = nothing c.args.word (λ h. omega arith) (λ e. omega arith)
+
+pub returns-in-0-2 : goal.returns-in-0-2
+returns-in-0-2 c = nothing c.args.word (λ h. omega arith) (λ e. omega arith)
+
 pub returns-in_default : goal.returns-in_default
 returns-in_default c = nothing c.args.word (λ h. omega arith) (λ e. omega arith)
-
-pub returns-in_default-2 : goal.returns-in_default-2
-returns-in_default-2 c = nothing c.args.word (λ h. omega arith) (λ e. omega arith)
