@@ -18,7 +18,10 @@ pub fn put<T: Copy>(row: &mut [T], at: usize, items: &[T]) -> usize
         return at;
     }
     let count = (row.len() - at).min(items.len());
-    row[at..at + count].copy_from_slice(&items[..count]);
+    // By the index: `copy_from_slice` makes the archive for C ask for `memmove` beside `memcpy` and `memset`.
+    for i in 0..count {
+        row[at + i] = items[i];
+    }
     at + count
 }
 
