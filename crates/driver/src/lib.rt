@@ -77,8 +77,10 @@ impl Reading {
         Ok(())
     }
 
-    // Does the line and prints what it comes to.
-    fn end_line(&mut self, rt: HostRuntime) -> Result<(), Told> {
+    // Does the line and prints what it comes to. The next line begins with nothing held, whether the text was taken or not.
+    fn end_line(&mut self, rt: HostRuntime) -> Result<(), Told>
+        ensures { self.new.used ≡ 0 }
+    {
         let mut text = [0u8; MAX_PRINTED];
         let printed = whole_line(
             &self.held[..self.used],

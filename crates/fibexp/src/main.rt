@@ -2,7 +2,7 @@
 // reply.
 #![tactic(auto)]
 
-ghost use Rattle.std.specs.Prelude.{◌≡◌, ◌≤◌, length, take, IfOk, IfSome};
+ghost use Rattle.std.specs.Prelude.{◌≡◌, ◌<◌, ◌≤◌, length, take, IfOk, IfSome};
 ghost use Rattle.text.specs.Reading.{split_words};
 ghost use Rattle.tool.specs.Replies.{reply};
 ghost use Rattle.tool.specs.Rows.{max_text};
@@ -49,7 +49,7 @@ fn gather(rt: HostRuntime, row: &mut [u8]) -> Option<usize>
 
 // Puts argument i and a zero byte at the row's start, and answers how many bytes they take.
 fn add(rt: HostRuntime, i: usize, row: &mut [u8]) -> Result<usize, FillError>
-    ensures { IfOk result (λ count. count ≤ length row.new) }
+    ensures { IfOk result (λ count. (0 < count) × (count ≤ length row.new)) }
 {
     let length = rt.arg(i, row)?;
     let end = row.get_mut(length).ok_or(FillError::TooLong)?;
