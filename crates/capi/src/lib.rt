@@ -192,14 +192,13 @@ pub extern "C" fn fibexp_cut(
     ensures count_after { count.new ≡ after (cut_count tape.now first last) count.old }
     ensures tape_after { result ≡ 0 → take count.new (drop start.new tape.now) ≡ cut_part (cut_outcome tape.now first last) }
 {
-    match inspecting::cut(tape, first, last) {
-        Ok(words) => {
-            *start = parts::step_index(tape, first) as u32;
-            *count = words.len() as u32;
-            0
-        }
-        Err(e) => u32::from(e),
+    let answer = inspecting::cut(tape, first, last);
+    if let Err(e) = answer.verdict {
+        return u32::from(e);
     }
+    *start = parts::step_index(tape, first) as u32;
+    *count = answer.part.len() as u32;
+    0
 }
 
 // The listing of a tape that is given as bytes: 5 and nothing written where the row is shorter, else the listing's own number, which

@@ -7,7 +7,7 @@ ghost use Rattle.refusal.specs.declared.Refusal.TheVariants.{Position};
 ghost use Rattle.tape.specs.Layout.{part, step_words_of};
 ghost use Rattle.machine.specs.Exponents.{exponents_outcome_of};
 ghost use Rattle.tables.specs.Tables.{table_outcome_of};
-ghost use Rattle.sequencer.specs.Services.{trace_outcome, cut_outcome, bad_cut};
+ghost use Rattle.sequencer.specs.Services.{trace_outcome, cut_outcome, cut_part, bad_cut};
 ghost use Rattle.sequencer.specs.Tracing.{NeverOutside, MeansPowers};
 ghost use Rattle.sequencer.specs.Tables.{table_outcome, MeansProducts, HasSign};
 
@@ -16,6 +16,13 @@ use machine::Exponents;
 use parts::{part, step_words};
 use refusal::Refusal;
 use tables::Table;
+
+// A part of the caller's tape, and whether the cut that gives it is refused.
+#[derive(Clone, Copy)]
+pub struct CutAnswer<'a> {
+    pub part: &'a [u32],
+    pub verdict: Result<(), Refusal>,
+}
 
 // Each register's whole exponent at a position: check's refusals, 10, 12; no named program gets 12.
 pub fn trace(tape: &[u32], position: u32) -> Result<Exponents, Refusal>
@@ -37,12 +44,22 @@ pub fn table(tape: &[u32], position: u32) -> Result<Table, Refusal>
     table_accepted(accepted, position)
 }
 
-// The part of the tape with the step words numbered first + 1 to last: check's refusals, 10.
-pub fn cut(tape: &[u32], first: u32, last: u32) -> Result<&[u32], Refusal>
-    ensures { outcome_by (λ words. words.now) result ≡ cut_outcome tape.now first last }
+// The part of the tape with the step words numbered first + 1 to last: check's refusals, 10. A refused cut is an empty part beside its
+// refusal.
+pub fn cut<'a>(tape: &'a [u32], first: u32, last: u32) -> CutAnswer<'a>
+    ensures result_value { outcome_by (λ passed. result.part.now) result.verdict ≡ cut_outcome tape.now first last }
+    ensures part_value { result.part.now ≡ cut_part (cut_outcome tape.now first last) }
 {
-    let accepted = accepting::accept_tape(tape)?;
-    cut_accepted(accepted, first, last)
+    match words_between(tape, first, last) {
+        Ok(part) => CutAnswer {
+            part,
+            verdict: Ok(()),
+        },
+        Err(e) => CutAnswer {
+            part: &tape[..0],
+            verdict: Err(e),
+        },
+    }
 }
 
 // Trace of a program that is accepted: 10, 12.
@@ -69,6 +86,14 @@ fn words_before<'a>(accepted: Accepted<'a>, position: u32) -> Result<&'a [u32], 
         return Err(Refusal::Position);
     }
     Ok(part(accepted.steps(), 0, position))
+}
+
+// The step words of a cut, where it isn't refused.
+fn words_between<'a>(tape: &'a [u32], first: u32, last: u32) -> Result<&'a [u32], Refusal>
+    ensures { outcome_by (λ words. words.now) result ≡ cut_outcome tape.now first last }
+{
+    let accepted = accepting::accept_tape(tape)?;
+    cut_accepted(accepted, first, last)
 }
 
 // Cut of a program that is accepted: 10.

@@ -157,16 +157,15 @@ fn raise_row(own: u32, bases: &mut [u32], tape: &[u32], text: &mut [u8]) -> Repl
 fn cut(own: u32, tape: &[u32], first: u32, last: u32, text: &mut [u8]) -> Reply
     ensures { Told text.old (printed own (cut_outcome tape.now first last) numbers_line) result text.new }
 {
-    match inspecting::cut(tape, first, last) {
-        Err(e) => refuse(text, own, u32::from(e)),
-        Ok(words) => {
-            let mut line = Buffer::new(text);
-            numbers_line(&mut line, words);
-            Reply {
-                status: ANSWERED,
-                length: line.next,
-            }
-        }
+    let answer = inspecting::cut(tape, first, last);
+    if let Err(e) = answer.verdict {
+        return refuse(text, own, u32::from(e));
+    }
+    let mut line = Buffer::new(text);
+    numbers_line(&mut line, answer.part);
+    Reply {
+        status: ANSWERED,
+        length: line.next,
     }
 }
 

@@ -1,9 +1,9 @@
--- `cut` meets its contract: what check refuses, cut refuses, and the rule past it is `cut_accepted`'s.
+-- `words_between` meets its contract: what check refuses, it refuses, and the rule past it is `cut_accepted`'s.
 use Rattle.std.proofs.Common.{sym, ◌∙◌}
 use Rattle.refusal.proofs.Laws.Exits.{exit_by}
 use Rattle.program.proofs.Laws.Door.{tape_refused}
 use Rattle.sequencer.specs.Services.{cut_outcome}
-use Rattle.inspecting.proofs.cut.Goals as goal
+use Rattle.inspecting.proofs.words_between.Goals as goal
 
 pub returns-in_err-accepted : goal.returns-in_err-accepted
 unfolding cut_outcome
