@@ -23,7 +23,7 @@ pub fn understand(arguments: &[u8], in_script: bool) -> CommandLine
     let Some(row) = row_named(nth_word(arguments, 0)) else {
         return without_parameters(Call::NoVerb);
     };
-    if is_hidden(in_script, row.verb) {
+    if is_hidden(in_script, Some(row.verb)) {
         return without_parameters(Call::NoVerb);
     }
     let given = words - 1;
@@ -38,7 +38,7 @@ pub fn understand(arguments: &[u8], in_script: bool) -> CommandLine
 pub fn reads_tape(arguments: &[u8]) -> bool
     ensures { result ≡ reads_tape (split_words arguments.now) }
 {
-    verb_in(arguments).is_some_and(takes_tape)
+    takes_tape(verb_in(arguments))
 }
 
 // Whether it reads a script.
@@ -46,7 +46,7 @@ pub fn reads_tape(arguments: &[u8]) -> bool
 pub fn reads_script(arguments: &[u8]) -> bool
     ensures { result ≡ reads_script (split_words arguments.now) }
 {
-    verb_in(arguments).is_some_and(takes_lines)
+    takes_lines(verb_in(arguments))
 }
 
 // Whether its reply, where it is answered, is the bytes of a tape.
@@ -54,7 +54,7 @@ pub fn reads_script(arguments: &[u8]) -> bool
 pub fn writes_tape(arguments: &[u8]) -> bool
     ensures { result ≡ writes_tape (split_words arguments.now) }
 {
-    verb_in(arguments).is_some_and(gives_tape)
+    gives_tape(verb_in(arguments))
 }
 
 // The verb of a command line that is understood.
@@ -102,7 +102,7 @@ fn parameters(arguments: &[u8], row: Row, count: usize) -> CommandLine
 fn parameter(row: Row, place: usize, word: &[u8]) -> Option<u64>
     ensures { result ≡ parameter_in row place word.now }
 {
-    if is_variant(row.verb, place) {
+    if is_variant(Some(row.verb), place) {
         return variant(word);
     }
     parse_number(word, row.largest)

@@ -138,7 +138,7 @@ fn version(text: &mut [u8]) -> Reply
 fn own_in(row: Row, whole: bool) -> u32
     ensures { result ≡ own_in row whole }
 {
-    if takes_tape(row.verb) && !whole {
+    if takes_tape(Some(row.verb)) && !whole {
         return u32::from(Refusal::Length);
     }
     row.own

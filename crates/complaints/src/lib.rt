@@ -76,7 +76,7 @@ pub fn put_unread(buffer: &mut [u8], word: &[u8], verb: Row, place: usize) -> us
     let mut line = Buffer::new(buffer);
     line.put(TOOL);
     put_quoted(&mut line, word);
-    if is_variant(verb.verb, place) {
+    if is_variant(Some(verb.verb), place) {
         line.put_then(&NO_VARIANT, NEWLINE);
         return line.next;
     }

@@ -1,5 +1,5 @@
 -- The reply to a command line: a status and a text, which goes to standard output where the call is answered, else to standard error.
-use Rattle.std.specs.Prelude.{Option, Some, None, ◌≡◌, Bool, false, not, ◌&&◌, cond, List, [], ◌++◌, ℕ, ◌*◌, ◌^◌, ◌%◌, ◌<◌, eqb, length, get_or, drop}
+use Rattle.std.specs.Prelude.{Option, Some, None, ◌≡◌, Bool, true, false, not, ◌&&◌, cond, List, [], ◌++◌, ℕ, ◌*◌, ◌^◌, ◌%◌, ◌<◌, eqb, length, get_or, drop}
 use Rattle.refusal.specs.Outcomes.{Outcome, refused, answered}
 use Rattle.text.specs.Text.{number_line, numbers_line}
 use Rattle.modular.specs.Residues.{remainder}
@@ -164,6 +164,11 @@ verb_in words = verb_of (asked_by false words)
 abbrev pub is_verb : (Verb → Bool) → Option Verb → Bool
 is_verb holds None = false
 is_verb holds (Some verb) = holds verb
+
+-- no known verb, or one of which something holds
+abbrev pub is_none_or : (Verb → Bool) → Option Verb → Bool
+is_none_or holds None = true
+is_none_or holds (Some verb) = holds verb
 
 -- standard input is read for a tape
 unfoldable pub reads_tape : List (List ℕ) → Bool
