@@ -2,11 +2,11 @@
 use mathlib.Core.Path.{◌≡◌, refl, sym, ap, ◌∙◌}
 use mathlib.Core.Bool.{Bool, true, false, ◌&&◌}
 use mathlib.Core.List.{List, [], ◌∷◌}
-use Prim.Native.Nat.{ℕ, zero, suc, ◌≤◌, ◌<◌}
+use Prim.Native.Nat.{ℕ, zero, suc, ◌+◌, ◌≤◌, ◌<◌}
 use native.Mathlib.Omega.{arith}
 use borrow.Author.Tests.{leb-true, ltb-true, ltb-false}
 use lib.Dec.{leb, ltb}
-use lib.ListN.{length, get_or}
+use lib.ListN.{length, get_or, take, drop}
 use Rattle.refusal.proofs.Laws.Tests.{test_false, by_test, both}
 use Rattle.std.specs.Prelude.{Option, Some, None, MatchOption, slice_get}
 use Rattle.std.proofs.lemmas.Option.{slice_get_past}
@@ -23,6 +23,7 @@ use Rattle.tool.specs.declared.Verb.{Verb}
 use Rattle.tool.specs.declared.Verb.TheVariants.{Build, Script, Help, Version, OnTape, OnNumbers, InScript}
 use Rattle.tool.specs.declared.Row.{Row}
 use Rattle.tool.specs.Verbs.{max_parameters, largest32, largest64, entries, names, rows, index_in, row_named, limit_on, limit_in, limit_of, is_variant, variant_in, parameter_in}
+use Rattle.tool.specs.Inner.Kinds.{kind_rows}
 use Rattle.tool.specs.Inner.Understood.{longest_name, Placed}
 
 -- ---- where a name stands
@@ -135,6 +136,21 @@ names_short = refl
 as_many : length names ≡ length rows
 unfolding names rows entries
 as_many = refl
+
+get_taken : {A : Type 0} (xs : List A) (count place : ℕ) → place < count → slice_get (take count xs) place ≡ slice_get xs place
+get_taken xs zero place h = absurd (omega arith)
+get_taken [] (suc count) place h = refl
+get_taken (x ∷ xs) (suc count) zero h = refl
+get_taken (x ∷ xs) (suc count) (suc place) h = get_taken xs count place (omega arith)
+
+get_dropped : {A : Type 0} (xs : List A) (before place : ℕ) → slice_get (drop before xs) place ≡ slice_get xs (before + place)
+get_dropped xs zero place = let e : 0 + place ≡ place = omega arith in rw e refl
+get_dropped [] (suc before) place = refl
+get_dropped (x ∷ xs) (suc before) place = let e : suc before + place ≡ suc (before + place) = omega arith in rw e (get_dropped xs before place)
+
+-- a row of a kind is the table's, and past the table's end there is none
+pub kind_row : (before count : ℕ) {place i : ℕ} → place < count → before + place ≡ i → slice_get (kind_rows before count) place ≡ slice_get rows i
+kind_row before count {place} h e = rw (← e) (get_taken (drop before rows) count place h ∙ get_dropped rows before place)
 
 -- a word that is no name has no verb
 pub row_nowhere : (name : List ℕ) → length names ≤ index_in name names → row_named name ≡ None
