@@ -16,7 +16,8 @@ pub fn is_bad_modulus(p: u32) -> bool
     !modular::is_prime(p)
 }
 
-// Refusal 4 in build: the number names no variant.
+// Refusal 4 in build, which asks `Variant` itself: the number names no variant. Check asks it here, to tell the tapes of named programs
+// from others.
 pub fn is_bad_variant(variant: u32) -> bool
     ensures { result ≡ bad_variant variant }
 {
