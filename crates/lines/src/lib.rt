@@ -41,9 +41,9 @@ pub fn bytes_line(buffer: &mut Buffer, values: &[u8])
         return buffer.put_byte(NEWLINE);
     };
     buffer.put_number(u64::from(*first));
-    for n in others {
+    for byte in others {
         buffer.put_byte(BLANK);
-        buffer.put_number(u64::from(*n));
+        buffer.put_number(u64::from(*byte));
     }
     buffer.put_byte(NEWLINE);
 }

@@ -9,14 +9,14 @@ returns-in_default c = record {
   short = numbers_short 2 c.args.values.now (λ i. omega (arith, c.type_inv.values i));
 }
 
-pub loop-n-init : goal.loop-n-init
-loop-n-init c = first_left c.in-Some.ensures.cases.0 (rw c.from.ensures at c.put_number.ensures)
+pub loop-byte-init : goal.loop-byte-init
+loop-byte-init c = first_left c.in-Some.ensures.cases.0 (rw c.from.ensures at c.put_number.ensures)
 
-pub loop-n-preserved : goal.loop-n-preserved
-loop-n-preserved c = next_left _ c.loop-n.n-index c.loop-n.invariant c.loop-n-test.true c.put_byte-in-loop-n.ensures (rw c.from-in-loop-n.ensures at c.put_number-in-loop-n.ensures)
+pub loop-byte-preserved : goal.loop-byte-preserved
+loop-byte-preserved c = next_left _ c.loop-byte.byte-index c.loop-byte.invariant c.loop-byte-test.true c.put_byte-in-loop-byte.ensures (rw c.from-in-loop-byte.ensures at c.put_number-in-loop-byte.ensures)
 
 pub returns : goal.returns
 returns c = record {
-  put = last_left _ c.loop-n.n-index c.loop-n.invariant c.loop-n-test.false c.put_byte-2.ensures;
+  put = last_left _ c.loop-byte.byte-index c.loop-byte.invariant c.loop-byte-test.false c.put_byte-2.ensures;
   short = numbers_short 2 c.args.values.now (λ i. omega (arith, c.type_inv.values i));
 }

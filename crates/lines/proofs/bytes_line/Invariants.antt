@@ -5,5 +5,5 @@ use Rattle.putting.proofs.Laws.Buffers.{RestOf}
 use Rattle.lines.proofs.Laws.Numbers.{following}
 use Rattle.lines.proofs.bytes_line.Given as goal
 
-abbrev pub invariant-loop-n : goal.invariant-loop-n
-invariant-loop-n l = RestOf l.fn.buffer (numbers_line l.values) l.buffer (following (drop l.n-index l.others))
+abbrev pub invariant-loop-byte : goal.invariant-loop-byte
+invariant-loop-byte l = RestOf l.fn.buffer (numbers_line l.values) l.buffer (following (drop l.byte-index l.others))
