@@ -14,7 +14,9 @@ use machine::Exponents;
 use refusal::Refusal;
 use tables::Table;
 
-// Start value j's exponents after the steps that some words have in their digits; 12 where one leaves the range at any position.
+// Start value j's exponents after the steps that some words have in their digits; 12 where one leaves the range at any position. Its loop
+// stands once, so that a table's four passes have the same branches, and the last three find them learned.
+#[inline(never)]
 pub fn column(words: &[u32], j: u32) -> Result<Exponents, Refusal>
     ensures { exponents_outcome_of result ≡ column_outcome (raw_steps words.now) j }
 {
