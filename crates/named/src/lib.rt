@@ -13,6 +13,9 @@ pub enum Figure {
     Six,
 }
 
+// The last variant's number.
+pub const LAST_VARIANT: u32 = 3;
+
 // The variants of the named programs.
 #[derive(Clone, Copy)]
 pub enum Variant {
@@ -31,7 +34,7 @@ impl TryFrom<u32> for Variant {
         match number {
             1 => Ok(Variant::Basic),
             2 => Ok(Variant::Dual),
-            3 => Ok(Variant::Hybrid),
+            LAST_VARIANT => Ok(Variant::Hybrid),
             _ => Err(Refusal::Variant),
         }
     }

@@ -1,14 +1,16 @@
--- An opcode is made of a number as the definition says: the table has 0, 1 and, at its end, all that is above.
-use Rattle.std.proofs.Common.{◌≡◌, ℕ, zero, suc, min, [], ◌∷◌, slice_index_or, arith}
-use Rattle.tape.specs.declared.Opcode.TheVariants.{Mul, Div, Swp}
+-- An opcode is made of a number as the definition says, case by case.
+use Rattle.std.proofs.Common.{◌≡◌, sym, arith}
 use Rattle.tape.specs.Inner.Operations.{opcode_of}
+use Rattle.tape.proofs.Laws.Shapes.{exchanges}
 use Rattle.tape.proofs.OpcodeFromU32.from.Goals as goal
 
-looked_up : (number place : ℕ) → place ≡ min number 2 → slice_index_or (Mul ∷ Div ∷ Swp ∷ []) place Mul ≡ opcode_of number
+pub returns-then-number-gt1 : goal.returns-then-number-gt1
+returns-then-number-gt1 c = sym (exchanges c.args.number c.if-number-gt1.true)
+
+pub returns-then-number-eq1 : goal.returns-then-number-eq1
 unfolding opcode_of
-looked_up zero place e = let first : place ≡ 0 = omega (arith, e) in rw first
-looked_up (suc zero) place e = let second : place ≡ 1 = omega (arith, e) in rw second
-looked_up (suc (suc n)) place e = let third : place ≡ 2 = omega (arith, e) in rw third
+returns-then-number-eq1 c = rw c.if-number-eq1.true
 
 pub returns : goal.returns
-returns c = looked_up c.args.number c.min.result c.min.ensures
+unfolding opcode_of
+returns c = let zero : c.args.number ≡ 0 = omega (arith, c.if-number-gt1.false, c.if-number-eq1.false) in rw zero
