@@ -7,25 +7,28 @@ ghost use Rattle.std.specs.Prelude.{◌≡◌, length};
 ghost use Rattle.fibonacci.specs.Forms.{zeckendorf};
 ghost use Rattle.fibonacci.specs.Services.{places_of, bit_row};
 
-use fibonacci::{BitString, Form};
+use fibonacci::{BitString, Form, MAX_PLACES};
 use weights::{high_enough, lower};
 
 // The Zeckendorf form of n: from the highest place down, each place taken whose weight is left.
 pub fn zeckendorf(n: u64) -> Form
     ensures { result ≡ places_of n }
 {
-    let mut form = Form::new();
+    // A row and a count of its own: what is pushed to a form goes by the count that the form holds in memory, each time.
+    let mut row = [0u8; MAX_PLACES];
+    let mut count: usize = 0;
     let mut rest = n;
     let mut at = high_enough(n);
     // By the place that is at hand, which goes down with its two weights: there is no row to go through.
     while at.place > 0 {
         if at.weight <= rest {
-            form.push(at.place as u8);
+            row[count] = at.place as u8;
+            count += 1;
             rest -= at.weight;
         }
         at = lower(at);
     }
-    form
+    Form::of(&row[..count])
 }
 
 // The bit string of the Zeckendorf form of n, for the programs' loops over places.
