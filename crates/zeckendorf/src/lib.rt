@@ -3,18 +3,55 @@
 
 mod weights;
 
-ghost use Rattle.std.specs.Prelude.{◌≡◌, length};
+ghost use Rattle.std.specs.Prelude.{◌≡◌, ◌≤◌, length, take};
 ghost use Rattle.fibonacci.specs.Forms.{zeckendorf};
 ghost use Rattle.fibonacci.specs.Services.{places_of, bit_row};
 
 use fibonacci::{BitString, Form, MAX_PLACES};
 use weights::{high_enough, lower};
 
-// The Zeckendorf form of n: from the highest place down, each place taken whose weight is left.
+// The places of a form, in the front of a row.
+#[derive(Clone, Copy)]
+struct Front {
+    row: [u8; MAX_PLACES],
+    count: usize,
+}
+
+// The Zeckendorf form of n.
 pub fn zeckendorf(n: u64) -> Form
     ensures { result ≡ places_of n }
 {
-    // A row and a count of its own: what is pushed to a form goes by the count that the form holds in memory, each time.
+    let front = taken(n);
+    Form::of(&front.row[..front.count])
+}
+
+// The bit string of the Zeckendorf form of n, for the programs' loops over places.
+pub fn bit_string(n: u64) -> BitString
+    ensures length_value { result.length ≡ length (zeckendorf n) }
+    ensures bits_value { result.bits ≡ bit_row n }
+    ensures count_value { result.count ≡ length (places_of n) }
+{
+    let front = taken(n);
+    let places = &front.row[..front.count];
+    let mut bits = [0u8; 92];
+    let mut length: usize = 0;
+    for place in places.iter().rev() {
+        length = *place as usize;
+        bits[length - 1] = 1;
+    }
+    BitString {
+        bits,
+        length,
+        count: front.count,
+    }
+}
+
+// From the highest place down, each place whose weight is left. The row and the count are its own: what is pushed to a form goes by the count
+// that the form holds in memory, each time.
+fn taken(n: u64) -> Front
+    ensures within { result.count ≤ 46 }
+    ensures list { take result.count result.row ≡ places_of n }
+{
     let mut row = [0u8; MAX_PLACES];
     let mut count: usize = 0;
     let mut rest = n;
@@ -28,25 +65,5 @@ pub fn zeckendorf(n: u64) -> Form
         }
         at = lower(at);
     }
-    Form::of(&row[..count])
-}
-
-// The bit string of the Zeckendorf form of n, for the programs' loops over places.
-pub fn bit_string(n: u64) -> BitString
-    ensures length_value { result.length ≡ length (zeckendorf n) }
-    ensures bits_value { result.bits ≡ bit_row n }
-    ensures count_value { result.count ≡ length (places_of n) }
-{
-    let form = zeckendorf(n);
-    let mut bits = [0u8; 92];
-    let mut length: usize = 0;
-    for place in form.places().iter().rev() {
-        length = *place as usize;
-        bits[length - 1] = 1;
-    }
-    BitString {
-        bits,
-        length,
-        count: form.places().len(),
-    }
+    Front { row, count }
 }

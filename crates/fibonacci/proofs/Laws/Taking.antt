@@ -101,7 +101,3 @@ writing_takes {row = row} {count} {i = i} w p e h =
 
 pub writing_skips : {n : ℕ} {row : List ℕ} {count rest i weight : ℕ} → Writing n row count rest i → 0 < i → weight ≡ fib (suc i) → rest < weight → Writing n row count rest (i - 1)
 writing_skips w p e h = record { taking = taking_skips w.taking p e h; within = w.within; size = w.size }
-
--- at the end the front of the row is the list, all of which a form has room for
-pub writing_ends : {n : ℕ} {row : List ℕ} {count rest i : ℕ} → Writing n row count rest i → i ≤ 0 → take 46 (take count row) ≡ places_of n
-writing_ends {row = row} {count} w h = take_all 46 (take count row) (omega (arith, written w, w.within)) ∙ taking_ends w.taking h
