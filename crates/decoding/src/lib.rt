@@ -24,7 +24,7 @@ pub fn decode(word: u32) -> Decoded
         2 => Decoded::P(payload),
         3 => Decoded::R(payload),
         4 => Decoded::K(payload),
-        5..=7 => match step_in(word) {
+        5 | 6 | 7 => match step_in(word) {
             Some(step) => Decoded::Action(step),
             None => Decoded::Bad,
         },

@@ -1,5 +1,5 @@
 // REQUIREMENTS 5: what a word means, and the layout of a tape. The definitions and laws of this layer, and the types and
-// limits that they name.
+// limits that they name, with what makes an opcode of a number.
 #![tactic(auto)]
 
 ghost use Rattle.std.specs.Prelude.{◌≡◌};
