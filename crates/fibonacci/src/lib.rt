@@ -47,16 +47,6 @@ impl Form {
         }
     }
 
-    // The list of some places, as many as there is room for.
-    pub fn of(places: &[u8]) -> Form
-        ensures { result ≡ take 46 places.now }
-    {
-        let count = MAX_PLACES.min(places.len());
-        let mut row = [0; MAX_PLACES];
-        row[..count].copy_from_slice(&places[..count]);
-        Form { row, count }
-    }
-
     // One more place behind the others; a full list stays as it is.
     pub fn push(&mut self, place: u8)
         ensures { self.new ≡ take 46 (self.old ++ (place ∷ [])) }
